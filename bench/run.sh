@@ -1,0 +1,19 @@
+#!/bin/sh
+# Times the built program on the script of `event_script.sh N`, and prints the best of five runs in nanoseconds a line.
+# Run it in the crate's folder. `rt run` proves and builds the program as out/schedule if it is not up to date.
+set -eu
+here=$(cd "$(dirname "$0")" && pwd)
+cd "$here/.."
+rt run < stdin > /dev/null 2>&1
+script=$(mktemp)
+trap 'rm -f "$script"' EXIT
+"$here/event_script.sh" "${1:-100000}" > "$script"
+lines=$(wc -l < "$script")
+best=
+for _ in 1 2 3 4 5; do
+    start=$(date +%s%N)
+    out/schedule < "$script" > /dev/null
+    taken=$(($(date +%s%N) - start))
+    if [ -z "$best" ] || [ "$taken" -lt "$best" ]; then best=$taken; fi
+done
+echo "$lines lines: $((best / lines)) ns a line, $((best / 1000000)) ms in all"

@@ -1,0 +1,89 @@
+-- What keeps a store of futures sound: its queue and out in order, and only the phases that its primitive knows.
+use Rattle.std.proofs.Common.{◌≡◌, ℕ, Bool, true, false, List, [], ◌++◌, Option, Some, None, drop, refl, sym, ap, ◌∙◌, inl, inr}
+use Rattle.std.proofs.lemmas.Bool.{both_ways, cases_eq}
+use Rattle.std.specs.Ordering.{nat_cmp}
+use Rattle.std.specs.FinMap as map
+use Rattle.fi_parts.specs.declared.phase.Phase.{Phase}
+use Rattle.fi_parts.specs.declared.phase.Phase.TheVariants.{Fresh, Registered, Told, Complete, Ended}
+use Rattle.fi_parts.specs.Order.{holds}
+use Rattle.fi_parts.specs.Pairs.{without_pair}
+use Rattle.fi_parts.specs.Waiting.{Side, phase_in, phase_of, is_registered, may_be_named, no_futures, made, registered, stays, ended, forgotten, emptied, named_all, AreSound}
+use Rattle.fi_parts.proofs.Queues.{has-without_same}
+use Rattle.fi_parts.proofs.Waiting.{Becomes, becomes-made, becomes-with_phase, becomes-forgotten, phase-emptied, noticed_phase, lives_as, ordered-empty, ordered-made, ordered-ended, ordered-registered, ordered-stays, ordered-forgotten, ordered-without_pair, ordered-drop, ordered-all_noticed}
+
+module _ {D W : Type 0} (allowed : Option (Phase W) → Bool) where
+  only-becomes : (old new : Side D W) (name : ℕ) (phase : Option (Phase W)) → ((q : ℕ) → allowed (phase_of old q) ≡ true) → Becomes old new name phase → allowed phase ≡ true → (q : ℕ) → allowed (phase_of new q) ≡ true
+  only-becomes old new name phase only b is q = elim (cases_eq q name) [
+    | inl same ↦ rw same (ap allowed b.here ∙ is)
+    | inr ne ↦ ap allowed (b.others q ne) ∙ only q
+  ]
+
+  pub sound-empty : allowed None ≡ true → AreSound allowed (no_futures {D = D}) []
+  sound-empty is = record { ordered = ordered-empty; only = λ q. ap (λ o. allowed (phase_in o)) (map.get-empty nat_cmp q) ∙ is }
+
+  pub sound-made : (side : Side D W) (out : List (ℕ × W)) (name : ℕ) (asks : D) → allowed (Some Fresh) ≡ true → AreSound allowed side out → phase_of side name ≡ None → AreSound allowed (made side name asks) out
+  sound-made side out name asks is was free = record {
+    ordered = ordered-made side out name asks was.ordered free;
+    only = only-becomes side (made side name asks) name (Some Fresh) was.only (becomes-made side name asks) is;
+  }
+
+  pub sound-without_pair : (side : Side D W) (out : List (ℕ × W)) (name : ℕ) → AreSound allowed side out → AreSound allowed side (without_pair name out)
+  sound-without_pair side out name was = record { ordered = ordered-without_pair side out name was.ordered; only = was.only }
+
+  pub sound-drop : (side : Side D W) (out : List (ℕ × W)) → AreSound allowed side out → AreSound allowed side (drop 1 out)
+  sound-drop side out was = record { ordered = ordered-drop side out was.ordered; only = was.only }
+
+  pub sound-forgotten : (side : Side D W) (out : List (ℕ × W)) (name : ℕ) → allowed None ≡ true → AreSound allowed side out → AreSound allowed (forgotten side name) (without_pair name out)
+  sound-forgotten side out name is was = record {
+    ordered = ordered-forgotten side out name was.ordered;
+    only = only-becomes side (forgotten side name) name None was.only (becomes-forgotten side name) is;
+  }
+
+  -- a poll that ended one that was not registered
+  pub sound-ended : (side : Side D W) (out : List (ℕ × W)) (name : ℕ) (before : Phase W) → allowed (Some Ended) ≡ true → AreSound allowed side out → phase_of side name ≡ Some before → is_registered (Some before) ≡ false →
+      AreSound allowed (ended side name) (without_pair name out)
+  sound-ended side out name before is was stood apart = record {
+    ordered = ordered-ended side _ name (ordered-without_pair side out name was.ordered) (lives_as side name before stood) (ap is_registered stood ∙ apart);
+    only = only-becomes side (ended side name) name (Some Ended) was.only (becomes-with_phase side name Ended side.queue (lives_as side name before stood)) is;
+  }
+
+  -- a poll that registered one
+  pub sound-registered : (side : Side D W) (out : List (ℕ × W)) (name : ℕ) (waker : W) (before : Phase W) → allowed (Some (Registered waker)) ≡ true → AreSound allowed side out → phase_of side name ≡ Some before → is_registered (Some before) ≡ false →
+      AreSound allowed (registered side name waker) (without_pair name out)
+  sound-registered side out name waker before is was stood apart = record {
+    ordered = ordered-registered side _ name waker (ordered-without_pair side out name was.ordered) (lives_as side name before stood) (ap is_registered stood ∙ apart) (has-without_same name out);
+    only = only-becomes side (registered side name waker) name (Some (Registered waker)) was.only (becomes-with_phase side name (Registered waker) _ (lives_as side name before stood)) is;
+  }
+
+  -- a poll that left one registered
+  pub sound-stays : (side : Side D W) (out : List (ℕ × W)) (name : ℕ) (waker before : W) → allowed (Some (Registered waker)) ≡ true → AreSound allowed side out → phase_of side name ≡ Some (Registered before) →
+      AreSound allowed (stays side name waker) (without_pair name out)
+  sound-stays side out name waker before is was stood = record {
+    ordered = ordered-stays side _ name waker (ordered-without_pair side out name was.ordered) (ap is_registered stood);
+    only = only-becomes side (stays side name waker) name (Some (Registered waker)) was.only (becomes-with_phase side name (Registered waker) side.queue (lives_as side name (Registered before) stood)) is;
+  }
+
+  -- the whole queue was named
+  pub sound-emptied : (phase : Phase W) (side : Side D W) (out : List (ℕ × W)) → allowed (Some phase) ≡ true → may_be_named (Some phase) ≡ true → AreSound allowed side out →
+      AreSound allowed (emptied phase side) (out ++ named_all side)
+  sound-emptied phase side out is may was = record {
+    ordered = ordered-all_noticed phase side.queue (record { side = side; out = out }) may refl was.ordered;
+    only = λ q. ap allowed (phase-emptied phase side out q was.ordered) ∙ each (phase_of side q) (was.only q);
+  }
+    where
+      each : (before : Option (Phase W)) → allowed before ≡ true → allowed (noticed_phase phase before) ≡ true
+      each None h = h
+      each (Some Fresh) h = h
+      each (Some (Registered w)) h = is
+      each (Some Told) h = h
+      each (Some Complete) h = h
+      each (Some Ended) h = h
+
+  -- who is registered now was registered before, where nobody joined the queue
+  pub was_registered : (old new : Side D W) (out after : List (ℕ × W)) → AreSound allowed old out → AreSound allowed new after → ((q : ℕ) → holds q new.queue ≡ true → holds q old.queue ≡ true) →
+      (q : ℕ) → is_registered (phase_of new q) ≡ true → is_registered (phase_of old q) ≡ true
+  was_registered old new out after was is queues q now = sym (was.ordered.queued q) ∙ queues q (is.ordered.queued q ∙ now)
+
+  -- in an empty queue nobody is registered
+  pub none_registered : (side : Side D W) (out : List (ℕ × W)) → AreSound allowed side out → side.queue ≡ [] → (q : ℕ) → is_registered (phase_of side q) ≡ true → ⊥
+  none_registered side out was empty q now = both_ways (holds q side.queue) (ap (holds q) empty) (was.ordered.queued q ∙ now)

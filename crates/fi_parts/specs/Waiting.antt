@@ -1,0 +1,153 @@
+-- What the states' machines have in common: futures that wait in a queue, and wakers that are named to be woken.
+use Rattle.std.specs.Prelude.{◌≡◌, ℕ, Bool, true, false, Option, Some, None, List, [], ◌∷◌, ◌++◌, IsSome}
+use Rattle.std.specs.Ordering.{nat_cmp}
+use Rattle.std.specs.FinMap as map
+use Rattle.fi_parts.specs.Order.{holds, Apart}
+use Rattle.fi_parts.specs.Order.{without}
+use Rattle.fi_parts.specs.Pairs.{has, waker_of, PairsApart}
+use Rattle.fi_parts.specs.declared.phase.Phase.{Phase}
+use Rattle.fi_parts.specs.declared.phase.Phase.TheVariants.{Fresh, Registered, Told, Ended}
+use Rattle.fi_parts.specs.declared.phase.Future.{Future}
+
+-- The live futures of one store by name, and the names of those that wait, oldest first.
+pub record Side (D W : Type 0) : Type 0 where
+  pub live : map.FinMap nat_cmp (Future D W)
+  pub queue : List ℕ
+
+-- Futures, and the names to be woken with their wakers, oldest first.
+pub record Waiting (D W : Type 0) : Type 0 where
+  pub side : Side D W
+  pub out : List (ℕ × W)
+
+module _ {W : Type 0} where
+  abbrev pub is_registered : Option (Phase W) → Bool
+  is_registered (Some (Registered waker)) = true
+  is_registered phase = false
+
+  abbrev pub waker_in : Phase W → Option W
+  waker_in (Registered waker) = Some waker
+  waker_in phase = None
+
+  -- the waker of one that stands so, or else this
+  abbrev pub waker_or : Phase W → Option W → Option W
+  waker_or (Registered waker) pending = Some waker
+  waker_or phase pending = pending
+
+  abbrev pub displaced_from : Option (Phase W) → Option W → Option W
+  displaced_from None pending = pending
+  displaced_from (Some phase) pending = waker_or phase pending
+
+  abbrev pub pair_of : ℕ → Option (Phase W) → List (ℕ × W)
+  pair_of name (Some (Registered waker)) = (name, waker) ∷ []
+  pair_of name phase = []
+
+  -- it lives, and is not registered
+  abbrev pub may_be_named : Option (Phase W) → Bool
+  may_be_named None = false
+  may_be_named (Some (Registered waker)) = false
+  may_be_named (Some phase) = true
+
+module _ {D W : Type 0} where
+  abbrev pub phase_in : Option (Future D W) → Option (Phase W)
+  phase_in None = None
+  phase_in (Some future) = Some future.phase
+
+  -- how this name stands; None: it is not live
+  abbrev pub phase_of : Side D W → ℕ → Option (Phase W)
+  phase_of side name = phase_in (map.get side.live name)
+
+  abbrev pub asks_in : Option (Future D W) → Option D
+  asks_in None = None
+  asks_in (Some future) = Some future.asks
+
+  -- what this name asks for
+  abbrev pub asks_of : Side D W → ℕ → Option D
+  asks_of side name = asks_in (map.get side.live name)
+
+  abbrev pub IsLive : Side D W → ℕ → Type 0
+  IsLive side name = IsSome (map.get side.live name)
+
+  abbrev pub rephased : map.FinMap nat_cmp (Future D W) → ℕ → Phase W → Option (Future D W) → map.FinMap nat_cmp (Future D W)
+  rephased live name phase None = live
+  rephased live name phase (Some future) = map.insert live name (record future { phase = phase })
+
+  -- the live futures, this one with that phase
+  unfoldable pub with_phase : map.FinMap nat_cmp (Future D W) → ℕ → Phase W → map.FinMap nat_cmp (Future D W)
+  with_phase live name phase = rephased live name phase (map.get live name)
+
+  -- nothing lives here
+  abbrev pub no_futures : Side D W
+  no_futures = record { live = map.empty; queue = [] }
+
+  -- a new future under this name, which asks for that
+  abbrev pub made : Side D W → ℕ → D → Side D W
+  made side name asks = record side { live = map.insert side.live name (record { asks = asks; phase = Fresh }) }
+
+  -- it has this waker, and goes to the end of the queue
+  abbrev pub registered : Side D W → ℕ → W → Side D W
+  registered side name waker = record { live = with_phase side.live name (Registered waker); queue = side.queue ++ name ∷ [] }
+
+  -- it has this waker, and keeps its place
+  abbrev pub stays : Side D W → ℕ → W → Side D W
+  stays side name waker = record side { live = with_phase side.live name (Registered waker) }
+
+  abbrev pub ended : Side D W → ℕ → Side D W
+  ended side name = record side { live = with_phase side.live name Ended }
+
+  -- it lives no longer
+  abbrev pub forgotten : Side D W → ℕ → Side D W
+  forgotten side name = record { live = map.remove side.live name; queue = without name side.queue }
+
+  -- it stands so, and the others stay in the queue
+  abbrev pub noticed : Phase W → Side D W → ℕ → List ℕ → Side D W
+  noticed phase side name others = record { live = with_phase side.live name phase; queue = others }
+
+  -- the live futures, each of these with that phase
+  unfoldable pub with_phases : map.FinMap nat_cmp (Future D W) → List ℕ → Phase W → map.FinMap nat_cmp (Future D W)
+  with_phases live [] phase = live
+  with_phases live (name ∷ names) phase = with_phases (with_phase live name phase) names phase
+
+  -- each of the queue stands so, and nothing is left of it
+  abbrev pub emptied : Phase W → Side D W → Side D W
+  emptied phase side = record { live = with_phases side.live side.queue phase; queue = [] }
+
+  -- the whole queue is told, and nothing is left of it
+  abbrev pub told_all : Side D W → Side D W
+  told_all side = emptied Told side
+
+  -- the whole queue is made fresh, and nothing is left of it
+  abbrev pub renewed_all : Side D W → Side D W
+  renewed_all side = emptied Fresh side
+
+  -- the pair of this name and its waker
+  abbrev pub pair : Side D W → ℕ → List (ℕ × W)
+  pair side name = pair_of name (phase_of side name)
+
+  -- the pairs of these names, in order
+  unfoldable pub named : map.FinMap nat_cmp (Future D W) → List ℕ → List (ℕ × W)
+  named live [] = []
+  named live (name ∷ names) = pair_of name (phase_in (map.get live name)) ++ named live names
+
+  -- the pairs of the whole queue, in order
+  abbrev pub named_all : Side D W → List (ℕ × W)
+  named_all side = named side.live side.queue
+
+  -- the whole queue is named, in order, and each then stands so
+  abbrev pub all_noticed : Phase W → Waiting D W → Waiting D W
+  all_noticed phase waiting = record { side = emptied phase waiting.side; out = waiting.out ++ named_all waiting.side }
+
+  -- The waker that this name has: the registered one, or that of its pair. A poll or a cancel displaces it.
+  abbrev pub displaced : Side D W → List (ℕ × W) → ℕ → Option W
+  displaced side out name = displaced_from (phase_of side name) (waker_of name out)
+
+  -- The queue holds exactly the registered ones, none twice; a pair is of a live one that is not registered, and none has two.
+  pub record IsOrdered (side : Side D W) (out : List (ℕ × W)) : Type 0 where
+    pub queued : (name : ℕ) → holds name side.queue ≡ is_registered (phase_of side name)
+    pub once : Apart side.queue
+    pub named : (name : ℕ) → has name out ≡ true → may_be_named (phase_of side name) ≡ true
+    pub named_once : PairsApart out
+
+  -- Only these phases occur, and the queue and out are in order.
+  pub record AreSound (allowed : Option (Phase W) → Bool) (side : Side D W) (out : List (ℕ × W)) : Type 0 where
+    pub ordered : IsOrdered side out
+    pub only : (name : ℕ) → allowed (phase_of side name) ≡ true

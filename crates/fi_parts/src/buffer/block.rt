@@ -1,0 +1,122 @@
+//! The memory of a heap buffer: none, or a ring.
+ghost use Rattle.std.specs.Prelude.{◌≡◌, ◌<◌, ◌≤◌, ◌^◌, ◌∷◌, ◌++◌, [], length, IfErr, IfOk, OnOk, OnErr};
+ghost use Rattle.circular_buffer.specs.Buffer.{buffer};
+ghost use Rattle.fi_parts.specs.declared.errors.Fault.TheVariants.{NoMemory};
+
+use crate::errors::Fault;
+use circular_buffer::HeapCircularBuffer;
+use std::alloc::Global;
+use std::marker::Model;
+
+/// A ring of items, or nothing yet: a ring can be made only where there is memory.
+#[derive(Drop)]
+pub(crate) struct Block<T> {
+    ring: Option<HeapCircularBuffer<T>>,
+}
+
+impl<T> Model for Block<T> {
+    ghost use Rattle.std.specs.Prelude.{◌≤◌, length};
+    ghost use Rattle.circular_buffer.specs.Buffer.{Buffer, buffer_code};
+
+    ghost Value = { Buffer T };
+
+    ghost coded = { buffer_code T.code };
+
+    ghost use Rattle.fi_parts.specs.Buffer.{block_of};
+
+    ghost view = { λ b. block_of b.ring };
+
+    ghost invariant = { λ b. length (block_of b.ring).items ≤ (block_of b.ring).capacity };
+}
+
+impl<T: Drop> Block<T> {
+    /// Returns a block that holds nothing, and has no memory.
+    pub(crate) fn new() -> Block<T>
+        ensures { result ≡ buffer [] 0 }
+    {
+        Block { ring: None }
+    }
+
+    /// Returns an empty block for `capacity` items.
+    pub(crate) fn with_capacity(alloc: Global, capacity: usize) -> Result<Block<T>, Fault>
+        ensures ok { IfOk result (λ block. block ≡ buffer [] capacity) }
+        ensures err { IfErr result (λ fault. fault ≡ NoMemory) }
+    {
+        match HeapCircularBuffer::with_capacity(alloc, capacity) {
+            Ok(ring) => Ok(Block { ring: Some(ring) }),
+            Err(_error) => Err(Fault::NoMemory),
+        }
+    }
+
+    pub(crate) fn len(&self) -> usize
+        ensures len { result ≡ length self.now.items }
+        ensures within { (length self.now.items ≤ self.now.capacity) × (self.now.capacity < 2 ^ 63) }
+    {
+        match &self.ring {
+            Some(ring) => ring.len(),
+            None => 0,
+        }
+    }
+
+    pub(crate) fn capacity(&self) -> usize
+        ensures capacity { result ≡ self.now.capacity }
+        ensures within { (length self.now.items ≤ self.now.capacity) × (self.now.capacity < 2 ^ 63) }
+    {
+        match &self.ring {
+            Some(ring) => ring.capacity(),
+            None => 0,
+        }
+    }
+
+    /// Puts the item behind the others.
+    pub(crate) fn push(&mut self, item: T)
+        requires { length self.old.items < self.old.capacity }
+        ensures pushed { self.new ≡ buffer (self.old.items ++ item ∷ []) self.old.capacity }
+        ensures within { length self.new.items ≤ self.new.capacity }
+    {
+        match &mut self.ring {
+            Some(ring) => match ring.try_push_back(item) {
+                Ok(()) => {}
+                Err(_item) => unreachable!(),
+            },
+            None => unreachable!(),
+        }
+    }
+
+    /// Takes out the oldest item.
+    pub(crate) fn pop(&mut self) -> T
+        requires { 0 < length self.old.items }
+        ensures item { self.old.items ≡ result ∷ self.new.items }
+        ensures capacity { self.new.capacity ≡ self.old.capacity }
+        ensures within { length self.new.items ≤ self.new.capacity }
+    {
+        match &mut self.ring {
+            Some(ring) => match ring.pop_front() {
+                Some(item) => item,
+                None => unreachable!(),
+            },
+            None => unreachable!(),
+        }
+    }
+
+    /// Moves the items to a ring for `capacity` items, which has to hold them.
+    pub(crate) fn grow(&mut self, alloc: Global, capacity: usize) -> Result<(), Fault>
+        requires { length self.old.items ≤ capacity }
+        ensures ok { OnOk result (self.new ≡ buffer self.old.items capacity) }
+        ensures err { IfErr result (λ fault. (fault ≡ NoMemory) × (self.new ≡ self.old)) }
+    {
+        match &mut self.ring {
+            Some(ring) => match ring.resize(capacity) {
+                Ok(()) => Ok(()),
+                Err(_error) => Err(Fault::NoMemory),
+            },
+            None => match HeapCircularBuffer::with_capacity(alloc, capacity) {
+                Ok(ring) => {
+                    self.ring = Some(ring);
+                    Ok(())
+                }
+                Err(_error) => Err(Fault::NoMemory),
+            },
+        }
+    }
+}

@@ -1,0 +1,127 @@
+//! A heap buffer that grows.
+ghost use Rattle.std.specs.Prelude.{◌≡◌, ◌<◌, ◌≤◌, ◌==◌, ◌∷◌, length, nat_lt, IfErr, IfOk, IsOk, OnOk};
+ghost use Rattle.fi_parts.specs.Buffer.{Fits, empty, pushed, popped, doubled, reserved_after};
+
+use super::RingBuf;
+use super::block::Block;
+use crate::errors::{Fault, NoRoom};
+use std::alloc::Global;
+use std::fmt;
+use std::marker::Model;
+
+/// The fewest items for which a buffer takes memory, unless its capacity is less.
+const LEAST: usize = 4;
+
+/// A buffer on the heap that takes memory as its items need it: at first none, and then twice as much at each growth, up to its capacity.
+///
+/// Keeps `GrowingHeapBuf` of futures-intrusive. The capacity is 0 by `new`, and `capacity` by `with_capacity(alloc, capacity)`, which takes no memory.
+#[derive(Drop)]
+pub struct GrowingHeapBuf<T> {
+    block: Block<T>,
+    limit: usize,
+    alloc: Global,
+}
+
+impl<T> Model for GrowingHeapBuf<T> {
+    ghost use Rattle.std.specs.Prelude.{◌≤◌};
+    ghost use Rattle.fi_parts.specs.Buffer.{Bounded, Fits, bounded_code};
+
+    ghost Value = { Bounded T };
+
+    ghost coded = { bounded_code T.code };
+
+    ghost view = { λ b. record { items = b.block.items; capacity = b.limit; reserved = b.block.capacity } };
+
+    ghost invariant = { λ b. b.block.capacity ≤ b.limit };
+}
+
+impl<T: Drop> GrowingHeapBuf<T> {
+    /// Takes memory for more items, if what there is is full.
+    fn make_room(&mut self) -> Result<(), Fault>
+        requires { length self.old.items < self.old.capacity }
+        ensures ok { OnOk result (self.new ≡ record self.old { reserved = reserved_after self.old (doubled self.old) }) }
+        ensures room { OnOk result (length self.new.items < self.new.reserved) }
+        ensures err { IfErr result (λ fault. (self.new ≡ self.old) × (length self.old.items ≡ self.old.reserved)) }
+    {
+        let reserved = self.block.capacity();
+        if self.block.len() < reserved {
+            return Ok(());
+        }
+        let grown = self.limit.min(LEAST.max(2 * reserved));
+        self.block.grow(self.alloc, grown)
+    }
+}
+
+impl<T: Drop> RingBuf for GrowingHeapBuf<T> {
+    type Item = T;
+
+    ghost bounded = { λ b. b };
+
+    ghost capacity_for = { λ capacity. capacity };
+
+    fn new(alloc: Global) -> GrowingHeapBuf<T> {
+        GrowingHeapBuf {
+            block: Block::new(),
+            limit: 0,
+            alloc,
+        }
+    }
+
+    fn with_capacity(alloc: Global, capacity: usize) -> Result<GrowingHeapBuf<T>, Fault>
+        ensures ok { IsOk result }
+        ensures made { IfOk result (λ made. made ≡ empty capacity 0) }
+    {
+        Ok(GrowingHeapBuf {
+            block: Block::new(),
+            limit: capacity,
+            alloc,
+        })
+    }
+
+    fn capacity(&self) -> usize {
+        let _len = self.block.len();
+        self.limit
+    }
+
+    fn reserved(&self) -> usize {
+        self.block.capacity()
+    }
+
+    fn len(&self) -> usize {
+        self.block.len()
+    }
+
+    fn is_empty(&self) -> bool {
+        self.block.len() == 0
+    }
+
+    fn can_push(&self) -> bool {
+        self.block.len() != self.limit
+    }
+
+    fn push(&mut self, item: T) -> Result<(), NoRoom<T>>
+        requires { length self.old.items < self.old.capacity }
+        ensures ok { OnOk result (self.new ≡ pushed self.old item (reserved_after self.old (doubled self.old))) }
+        ensures err { IfErr result (λ back. (back.0 ≡ item) × (self.new ≡ self.old) × (length self.old.items ≡ self.old.reserved)) }
+        ensures fits { Fits self.new }
+    {
+        if self.make_room().is_err() {
+            return Err(NoRoom(item));
+        }
+        self.block.push(item);
+        Ok(())
+    }
+
+    fn pop(&mut self) -> T {
+        self.block.pop()
+    }
+}
+
+impl<T: Drop> fmt::Debug for GrowingHeapBuf<T> {
+    fn fmt<W: fmt::Write>(&self, f: &mut fmt::Formatter<W>) -> fmt::Result {
+        f.debug_struct("GrowingHeapBuf")
+            .field("size", &self.block.len())
+            .field("limit", &self.limit)
+            .finish()
+    }
+}

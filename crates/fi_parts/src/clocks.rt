@@ -1,0 +1,137 @@
+//! Clocks that count milliseconds.
+ghost use Rattle.std.specs.Prelude.{◌≡◌};
+ghost use Rattle.std.specs.Duration.{as_nanos};
+ghost use Rattle.fi_parts.specs.Clocks.{whole_millis_in};
+
+use std::sync::Arc;
+use std::sync::atomic::{AtomicU64, Ordering};
+use std::time::{Duration, Instant};
+use std::{io, time};
+
+/// A source of the time for a timer.
+///
+/// Keeps `Clock` of futures-intrusive.
+pub trait Clock {
+    /// The time in milliseconds since a moment of the clock's own.
+    ///
+    /// A timer that reads a clock which goes back keeps the latest time that it has read.
+    fn now(&self) -> u64;
+}
+
+/// A clock that stands until its time is set, for tests.
+///
+/// Keeps `MockClock` of futures-intrusive. Threads that share it by a reference or an `Arc` may set
+/// and read it at once.
+#[derive(Drop)]
+pub struct MockClock {
+    now: AtomicU64,
+}
+
+impl MockClock {
+    /// A clock at 0 milliseconds.
+    pub fn new() -> Self {
+        MockClock {
+            now: AtomicU64::new(0),
+        }
+    }
+
+    /// Sets the time in milliseconds, to any value: it may go back.
+    pub fn set_time(&self, now: u64) {
+        self.now.store(now, Ordering::SeqCst);
+    }
+}
+
+impl Clock for MockClock {
+    fn now(&self) -> u64 {
+        self.now.load(Ordering::SeqCst)
+    }
+}
+
+impl Clock for Arc<MockClock> {
+    fn now(&self) -> u64 {
+        self.now.load(Ordering::SeqCst)
+    }
+}
+
+/// A clock that counts from its making, by the runtime's monotonic clock.
+///
+/// Keeps `StdClock` of futures-intrusive.
+#[derive(Drop)]
+pub struct StdClock<H> {
+    rt: H,
+    start: Instant,
+}
+
+impl<H: time::Clock + Drop> StdClock<H> {
+    /// A clock that is at 0 milliseconds now, and keeps the runtime for its readings.
+    ///
+    /// # Errors
+    ///
+    /// The error of the first reading, where the system's clock cannot be read.
+    pub fn new(rt: H) -> io::Result<Self> {
+        let start = Instant::now(&rt)?;
+        Ok(StdClock { rt, start })
+    }
+}
+
+impl<H: time::Clock> Clock for StdClock<H> {
+    /// Whole milliseconds since the clock was made, or 0 where the system's clock cannot be read.
+    fn now(&self) -> u64 {
+        match self.start.elapsed(&self.rt) {
+            Ok(elapsed) => whole_millis(elapsed),
+            Err(_) => 0,
+        }
+    }
+}
+
+/// The whole milliseconds of a duration: rounded down, and `u64::MAX` where there are more.
+pub fn whole_millis(duration: Duration) -> u64
+    ensures { result ≡ whole_millis_in (as_nanos duration) }
+{
+    u64::try_from(duration.as_millis()).unwrap_or(u64::MAX)
+}
+
+#[cfg(test)]
+mod tests {
+    use super::*;
+    use std::test::Fail;
+
+    fn read<C: Clock>(clock: &C) -> u64 {
+        clock.now()
+    }
+
+    #[test]
+    fn mock_clock(rt: HostRuntime) -> Result<(), Fail> {
+        let clock = MockClock::new();
+        assert_eq!(rt; clock.now(), 0);
+        clock.set_time(u64::MAX);
+        assert_eq!(rt; read(&clock), u64::MAX);
+        clock.set_time(7);
+        assert_eq!(rt; clock.now(), 7);
+        Ok(())
+    }
+
+    #[test]
+    fn shared_mock_clock(rt: HostRuntime) -> Result<(), Fail> {
+        let clock = Arc::new(rt.alloc(), MockClock::new())?;
+        let other = Arc::try_clone(&clock)?;
+        assert_eq!(rt; read(&other), 0);
+        clock.set_time(3);
+        assert_eq!(rt; read(&other), 3);
+        Ok(())
+    }
+
+    #[test]
+    fn std_clock(rt: HostRuntime) -> Result<(), Fail> {
+        let clock = StdClock::new(rt)?;
+        assert!(rt; read(&clock) < 60_000, "a clock counts from its making");
+        Ok(())
+    }
+
+    #[test]
+    fn millis_are_whole(rt: HostRuntime) {
+        assert_eq!(rt; whole_millis(Duration::from_micros(1999)), 1);
+        assert_eq!(rt; whole_millis(Duration::from_millis(u64::MAX)), u64::MAX);
+        assert_eq!(rt; whole_millis(Duration::from_secs(u64::MAX)), u64::MAX);
+    }
+}

@@ -1,0 +1,30 @@
+//! The parts that the primitives stand on: a list over live slots, an outbox of named wakers, and one store of waiting
+//! futures over both.
+#![tactic(auto)]
+
+pub mod buffer;
+mod clocks;
+mod drain;
+mod errors;
+mod heap;
+mod heap_nodes;
+#[cfg(test)]
+mod heap_tests;
+mod heap_trees;
+mod list;
+mod nodes;
+mod outbox;
+mod phase;
+#[cfg(test)]
+mod tests;
+mod visits;
+mod waits;
+
+pub use clocks::{Clock, MockClock, StdClock, whole_millis};
+pub use drain::{Drain, ReverseDrain};
+pub use errors::{ChannelSendError, CloseStatus, Fault, NoRoom, Slot, StateId};
+pub use heap::PairingHeap;
+pub use list::LinkedList;
+pub use outbox::{Outbox, Ticket};
+pub use phase::{Future, Leftover, Notice, Phase};
+pub use waits::{Entry, Waits};

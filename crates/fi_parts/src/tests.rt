@@ -1,0 +1,204 @@
+//! Each public call once, at a concrete type, and the worked cases of lists.
+ghost use Rattle.std.specs.Prelude.{◌≡◌, ◌∷◌, IfOk};
+
+use crate::{ChannelSendError, CloseStatus, Fault, LinkedList, NoRoom, Outbox, Slot, StateId};
+use std::alloc::Global;
+use std::test::Fail;
+
+// Claims a slot for the value, and puts it in front.
+fn put<T: Drop>(list: &mut LinkedList<T>, value: T) -> Result<Slot, NoRoom<T>>
+    ensures { IfOk result (λ slot. list.new.order ≡ slot.0 ∷ list.old.order) }
+{
+    let slot = list.claim(value)?;
+    list.add_front(slot);
+    Ok(slot)
+}
+
+// The list of 31, 7, 5, which were put in front in this order; and the slots of 31 and 7.
+fn three(alloc: Global) -> Result<(LinkedList<u32>, Slot, Slot), NoRoom<u32>> {
+    let mut list = LinkedList::new(alloc);
+    let oldest = put(&mut list, 31)?;
+    let middle = put(&mut list, 7)?;
+    put(&mut list, 5)?;
+    Ok((list, oldest, middle))
+}
+
+fn value(list: &LinkedList<u32>, slot: Slot) -> u32 {
+    list.get(slot).copied().unwrap_or(0)
+}
+
+// The values under these slots.
+fn values(alloc: Global, list: &LinkedList<u32>, slots: &[Slot]) -> Result<Vec<u32>, Fail> {
+    let mut values = Vec::new(alloc);
+    for slot in slots {
+        values.push(value(list, *slot))?;
+    }
+    Ok(values)
+}
+
+#[test]
+fn list_order(rt: HostRuntime) -> Result<(), Fail> {
+    let (mut list, _, _) = three(rt.alloc()).ok().ok_or("room")?;
+    let slots: Vec<Slot> = list.drain().collect(rt.alloc())?;
+    let youngest_first = values(rt.alloc(), &list, &slots)?;
+    assert_eq!(rt; youngest_first.as_slice(), [5, 7, 31].as_slice());
+    Ok(())
+}
+
+#[test]
+fn list_order_reversed(rt: HostRuntime) -> Result<(), Fail> {
+    let (mut list, _, _) = three(rt.alloc()).ok().ok_or("room")?;
+    let slots: Vec<Slot> = list.reverse_drain().collect(rt.alloc())?;
+    let oldest_first = values(rt.alloc(), &list, &slots)?;
+    assert_eq!(rt; oldest_first.as_slice(), [31, 7, 5].as_slice());
+    assert!(rt; list.is_empty());
+    Ok(())
+}
+
+#[test]
+fn list_remove(rt: HostRuntime) -> Result<(), Fail> {
+    let (mut list, oldest, middle) = three(rt.alloc()).ok().ok_or("room")?;
+    assert!(rt; list.remove(middle));
+    assert!(rt; !list.remove(middle));
+    let slots: Vec<Slot> = list.drain().collect(rt.alloc())?;
+    assert_eq!(rt; slots.len(), 2);
+    assert_eq!(rt; value(&list, slots[0]), 5);
+    assert_eq!(rt; slots[1], oldest);
+    assert_eq!(rt; value(&list, middle), 7, "what was taken out stays live");
+    Ok(())
+}
+
+#[test]
+fn list_ends(rt: HostRuntime) -> Result<(), Fail> {
+    let (mut list, oldest, _) = three(rt.alloc()).ok().ok_or("room")?;
+    assert!(rt; !list.is_empty());
+    assert_eq!(rt; list.last_slot(), Some(oldest));
+    assert_eq!(rt; list.peek_first().copied(), Some(5));
+    assert_eq!(rt; list.peek_last().copied(), Some(31));
+    assert!(rt; list.remove_first() != Some(oldest));
+    assert_eq!(rt; list.remove_last(), Some(oldest));
+    assert_eq!(rt; list.peek_first().copied(), Some(7));
+    assert!(rt; list.first_slot() == list.last_slot());
+    Ok(())
+}
+
+#[test]
+fn list_writes(rt: HostRuntime) -> Result<(), Fail> {
+    let (mut list, _, _) = three(rt.alloc()).ok().ok_or("room")?;
+    if let Some(first) = list.peek_first_mut() {
+        *first = 6;
+    }
+    if let Some(last) = list.peek_last_mut() {
+        *last = 32;
+    }
+    assert_eq!(rt; list.peek_first().copied(), Some(6));
+    assert_eq!(rt; list.peek_last().copied(), Some(32));
+    Ok(())
+}
+
+#[test]
+fn a_drain_dropped_early_leaves_the_rest(rt: HostRuntime) -> Result<(), Fail> {
+    let (mut list, _, middle) = three(rt.alloc()).ok().ok_or("room")?;
+    {
+        let mut youngest_first = list.drain();
+        assert!(rt; youngest_first.next().is_some());
+    }
+    assert_eq!(rt; list.first_slot(), Some(middle));
+    {
+        let mut oldest_first = list.reverse_drain();
+        assert!(rt; oldest_first.next().is_some());
+    }
+    assert_eq!(rt; list.last_slot(), Some(middle));
+    Ok(())
+}
+
+#[test]
+fn list_values(rt: HostRuntime) -> Result<(), Fail> {
+    let mut list = LinkedList::new(rt.alloc());
+    let slot = list.claim(3).ok().ok_or("room")?;
+    assert_eq!(rt; list.free(slot), 3);
+    assert_eq!(rt; list.get(slot).copied(), None);
+    assert!(rt; list.get_mut(slot).is_none());
+    assert!(rt; !list.remove(slot));
+    Ok(())
+}
+
+#[test]
+fn outbox_names(rt: HostRuntime) -> Result<(), Fail> {
+    let mut outbox = Outbox::<u64>::new(rt.alloc());
+    let first = outbox.claim().ok().ok_or("room")?;
+    outbox.name(first, 11);
+    let second = outbox.claim().ok().ok_or("room")?;
+    assert_eq!(rt; outbox.len(), 1);
+    assert_eq!(rt; outbox.take_out(second), None);
+    assert_eq!(rt; outbox.take_out(first), Some(11));
+    assert_eq!(rt; outbox.pop(), None);
+    Ok(())
+}
+
+#[test]
+fn outbox_frees(rt: HostRuntime) -> Result<(), Fail> {
+    let mut outbox = Outbox::<u64>::new(rt.alloc());
+    let ticket = outbox.claim().ok().ok_or("room")?;
+    outbox.free(ticket);
+    assert_eq!(rt; outbox.len(), 0);
+    Ok(())
+}
+
+#[test]
+fn faults_and_closes(rt: HostRuntime) -> Result<(), Fail> {
+    let faults = [
+        Fault::NoMemory,
+        Fault::NoSlot,
+        Fault::Closed,
+        Fault::Full,
+        Fault::Empty,
+        Fault::Overflow,
+        Fault::NotHeld,
+        Fault::TooManyEnds,
+    ];
+    for (before, fault) in faults.iter().enumerate() {
+        assert_eq!(rt; before as u64 + 1, fault.code() as u64);
+    }
+    assert!(rt; CloseStatus::NewlyClosed.is_newly_closed());
+    assert!(rt; !CloseStatus::NewlyClosed.is_already_closed());
+    assert!(rt; CloseStatus::AlreadyClosed.is_already_closed());
+    assert!(rt; !CloseStatus::AlreadyClosed.is_newly_closed());
+    assert_eq!(rt; ChannelSendError(5), ChannelSendError(5));
+    Ok(())
+}
+
+#[test]
+fn state_ids(rt: HostRuntime) -> Result<(), Fail> {
+    assert_eq!(rt; StateId::new(), StateId::default());
+    assert_eq!(rt; StateId::new().value(), 0);
+    assert_eq!(rt; StateId::from_value(7).value(), 7);
+    assert!(rt; StateId::new() < StateId::from_value(1));
+    assert_eq!(rt;
+        format!(in rt.alloc(); "{:?}", StateId::from_value(7))?.as_str(),
+        "StateId(7)"
+    );
+    assert_eq!(rt;
+        format!(in rt.alloc(); "{:?}", Slot(3))?.as_str(),
+        "Slot(3)"
+    );
+    assert_eq!(rt;
+        format!(in rt.alloc(); "{:?}", NoRoom(3))?.as_str(),
+        "NoRoom(3)"
+    );
+    assert_eq!(rt;
+        format!(in rt.alloc(); "{:?}", Fault::Closed)?.as_str(),
+        "Closed"
+    );
+    Ok(())
+}
+
+fn is_shared<T: Send + Sync>(_value: &T) {}
+
+#[test]
+fn parts_cross_threads(rt: HostRuntime) {
+    let list = LinkedList::<u32>::new(rt.alloc());
+    is_shared(&list);
+    let outbox = Outbox::<u32>::new(rt.alloc());
+    is_shared(&outbox);
+}

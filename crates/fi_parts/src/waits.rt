@@ -1,0 +1,239 @@
+//! Futures that wait in a queue, and the wakers that are named to be woken.
+ghost use Rattle.std.specs.Prelude.{◌≡◌, ℕ, ◌++◌, ◌∷◌, List, [], Some, None, true, false, Option, IfOk, OnErr, IfErr, IsSome, MatchOption, length, drop, option_copied};
+ghost use Rattle.std.specs.FinMap as map;
+ghost use Rattle.fi_parts.specs.Order.{holds};
+ghost use Rattle.fi_parts.specs.Listed.{item, with_live};
+ghost use Rattle.fi_parts.specs.Pairs.{has, waker_of, without_pair, oldest};
+ghost use Rattle.fi_parts.specs.Noticed.{phase_after};
+ghost use Rattle.fi_parts.specs.PairWaker.{waker_in_pair};
+ghost use Rattle.fi_parts.specs.Waiting.{with_phase, phase_of, IsLive, IsOrdered, is_registered, no_futures, made, registered, forgotten, pair, asks_of, waker_in, all_noticed, displaced, waker_or};
+ghost use Rattle.fi_parts.specs.declared.waits.Entry.{Entry};
+
+use crate::errors::{NoRoom, Slot};
+use crate::list::LinkedList;
+use crate::outbox::{Outbox, Ticket};
+use crate::phase::{Future, Notice, Phase};
+use std::alloc::Global;
+use std::marker::Model;
+use std::mem;
+
+/// A future, and its ticket in the outbox.
+#[derive(Drop)]
+pub struct Entry<D, W> {
+    pub ticket: Ticket,
+    pub future: Future<D, W>,
+}
+
+/// Futures by name, a queue of those that wait, and the wakers to be woken.
+#[derive(Drop)]
+pub struct Waits<D, W> {
+    list: LinkedList<Entry<D, W>>,
+    outbox: Outbox<(usize, W)>,
+}
+
+impl<D, W> Model for Waits<D, W> {
+    ghost use Rattle.fi_parts.specs.Waiting.{Waiting};
+    ghost use Rattle.fi_parts.specs.Codes.{waiting_code};
+    ghost use Rattle.fi_parts.specs.Tied.{waiting_of, AreTied};
+
+    ghost Value = { Waiting D W };
+
+    ghost coded = { waiting_code D.code W.code };
+
+    ghost view = { λ s. waiting_of s.list s.outbox };
+
+    ghost invariant = { λ s. AreTied s.list s.outbox };
+}
+
+// The waker of what was taken out.
+fn waker_from<W>(pair: Option<(usize, W)>) -> Option<W>
+    ensures { result ≡ waker_in_pair pair }
+{
+    match pair {
+        Some((_, waker)) => Some(waker),
+        None => None,
+    }
+}
+
+fn into_waker<W: Drop>(phase: Phase<W>) -> Option<W>
+    ensures { result ≡ waker_in phase }
+{
+    match phase {
+        Phase::Registered(waker) => Some(waker),
+        Phase::Fresh | Phase::Told | Phase::Complete | Phase::Ended => None,
+    }
+}
+
+// The waker of a future that stood so, or else that of its pair.
+fn last_waker<W: Drop>(phase: Phase<W>, named: Option<W>) -> Option<W>
+    ensures { result ≡ waker_or phase named }
+{
+    match phase {
+        Phase::Registered(waker) => Some(waker),
+        Phase::Fresh | Phase::Told | Phase::Complete | Phase::Ended => named,
+    }
+}
+
+// Lets a live future stand so, and takes the waker that it had.
+fn swap_phase<D: Drop, W: Drop>(
+    list: &mut LinkedList<Entry<D, W>>,
+    slot: Slot,
+    phase: Phase<W>,
+) -> (Ticket, Option<W>)
+    requires { IsSome (item list.old slot.0) }
+    ensures { (entry : Entry D W) × (item list.old slot.0 ≡ Some entry) × (result ≡ (entry.ticket, waker_in entry.future.phase))
+        × (list.new ≡ with_live list.old (map.insert list.old.live slot.0 (record entry { future = record entry.future { phase = phase } }))) }
+{
+    let entry = list.get_mut(slot).unwrap();
+    let ticket = entry.ticket;
+    (
+        ticket,
+        into_waker(mem::replace(&mut entry.future.phase, phase)),
+    )
+}
+
+impl<D: Drop, W: Drop> Waits<D, W> {
+    pub fn new(alloc: Global) -> Self
+        ensures { result ≡ record { side = no_futures; out = [] } }
+    {
+        Waits {
+            list: LinkedList::new(alloc),
+            outbox: Outbox::new(alloc),
+        }
+    }
+
+    /// How a name stands.
+    pub fn phase(&self, slot: Slot) -> Option<&Phase<W>>
+        ensures { option_copied result ≡ phase_of self.now.side slot.0 }
+    {
+        match self.list.get(slot) {
+            Some(entry) => Some(&entry.future.phase),
+            None => None,
+        }
+    }
+
+    /// What a name asks for.
+    pub fn asks(&self, slot: Slot) -> Option<&D>
+        ensures { option_copied result ≡ asks_of self.now.side slot.0 }
+    {
+        match self.list.get(slot) {
+            Some(entry) => Some(&entry.future.asks),
+            None => None,
+        }
+    }
+
+    /// Makes a future.
+    pub fn make(&mut self, asks: D) -> Result<Slot, NoRoom<D>>
+        ensures was_free { IfOk result (λ slot. phase_of self.old.side slot.0 ≡ None) }
+        ensures made { IfOk result (λ slot. self.new ≡ record self.old { side = made self.old.side slot.0 asks }) }
+        ensures refused { OnErr result (self.new ≡ self.old) }
+        ensures handed_back { IfErr result (λ failed. failed.0 ≡ asks) }
+    {
+        let ticket = match self.outbox.claim() {
+            Ok(ticket) => ticket,
+            Err(_) => return Err(NoRoom(asks)),
+        };
+        let entry = Entry {
+            ticket,
+            future: Future {
+                asks,
+                phase: Phase::Fresh,
+            },
+        };
+        match self.list.claim(entry) {
+            Ok(slot) => Ok(slot),
+            Err(NoRoom(entry)) => {
+                self.outbox.free(ticket);
+                Err(NoRoom(entry.future.asks))
+            }
+        }
+    }
+
+    /// Takes out a future's own pair, and gives its waker.
+    pub fn take_out(&mut self, slot: Slot) -> Option<W>
+        requires { IsLive self.old.side slot.0 }
+        ensures waker { result ≡ waker_of slot.0 self.old.out }
+        ensures rest { self.new ≡ record self.old { out = without_pair slot.0 self.old.out } }
+    {
+        let ticket = self.list.get(slot).unwrap().ticket;
+        waker_from(self.outbox.take_out(ticket))
+    }
+
+    /// Registers a future that is not in the queue: it goes to the queue's end.
+    pub fn register(&mut self, slot: Slot, waker: W)
+        requires live { IsLive self.old.side slot.0 }
+        requires apart { holds slot.0 self.old.side.queue ≡ false }
+        ensures { self.new ≡ record self.old { side = registered self.old.side slot.0 waker } }
+    {
+        swap_phase(&mut self.list, slot, Phase::Registered(waker));
+        self.list.add_front(slot);
+    }
+
+    /// Lets a future stand so, and keep its place. Gives the waker that it was registered with.
+    pub fn stand(&mut self, slot: Slot, phase: Phase<W>) -> Option<W>
+        requires { IsLive self.old.side slot.0 }
+        ensures waker { MatchOption (phase_of self.old.side slot.0) ⊥ (λ before. result ≡ waker_in before) }
+        ensures rest { self.new ≡ record self.old { side = record self.old.side { live = with_phase self.old.side.live slot.0 phase } } }
+    {
+        let (_, waker) = swap_phase(&mut self.list, slot, phase);
+        waker
+    }
+
+    /// Takes a future out of everything, and gives back what it asked for and the waker that it had.
+    pub fn forget(&mut self, slot: Slot) -> (D, Option<W>)
+        requires { IsLive self.old.side slot.0 }
+        ensures asked { asks_of self.old.side slot.0 ≡ Some result.0 }
+        ensures waker { result.1 ≡ displaced self.old.side self.old.out slot.0 }
+        ensures forgotten { self.new ≡ record { side = forgotten self.old.side slot.0; out = without_pair slot.0 self.old.out } }
+    {
+        let named = self.take_out(slot);
+        self.list.remove(slot);
+        let entry = self.list.free(slot);
+        self.outbox.free(entry.ticket);
+        let Future { asks, phase } = entry.future;
+        (asks, last_waker(phase, named))
+    }
+
+    /// Takes the oldest out of the queue.
+    pub fn leave_oldest(&mut self) -> Option<Slot>
+        ensures { MatchOption result ((self.old.side.queue ≡ []) × (self.new ≡ self.old))
+            (λ slot. (others : List ℕ) × (self.old.side.queue ≡ slot.0 ∷ others) × (self.new ≡ record self.old { side = record self.old.side { queue = others } })) }
+    {
+        let slot = self.list.remove_last()?;
+        Some(slot)
+    }
+
+    /// Names a registered future, which then stands so.
+    pub fn notice(&mut self, slot: Slot, phase: Phase<W>)
+        requires registered { is_registered (phase_of self.old.side slot.0) ≡ true }
+        requires no_pair { has slot.0 self.old.out ≡ false }
+        ensures { self.new ≡ record { side = record self.old.side { live = with_phase self.old.side.live slot.0 phase }; out = self.old.out ++ pair self.old.side slot.0 } }
+    {
+        let (ticket, waker) = swap_phase(&mut self.list, slot, phase);
+        self.outbox.name(ticket, (slot.0, waker.unwrap()));
+    }
+
+    /// Names the whole queue, the oldest first, with this notice for each.
+    pub fn notice_all(&mut self, notice: Notice)
+        requires { IsOrdered self.old.side self.old.out }
+        ensures { self.new ≡ all_noticed (phase_after notice) self.old }
+    {
+        while let Some(slot) = self.leave_oldest() {
+            self.notice(slot, notice.phase());
+        }
+    }
+
+    /// Takes out the oldest waker to be woken.
+    pub fn next_wake(&mut self) -> Option<W>
+        ensures value { result ≡ oldest self.old.out }
+        ensures rest { self.new ≡ record self.old { out = drop 1 self.old.out } }
+    {
+        waker_from(self.outbox.pop())
+    }
+
+    pub fn wake_count(&self) -> usize
+        ensures { result ≡ length self.now.out }
+    {
+        self.outbox.len()
+    }
+}

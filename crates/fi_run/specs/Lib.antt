@@ -1,0 +1,15 @@
+pub mod Run
+pub mod Wakers
+pub mod WakersLaws
+pub mod Event
+pub mod EventPast
+pub mod EventLaws
+pub mod Oneshot
+pub mod OneshotPast
+pub mod OneshotLaws
+pub mod OneshotRuns
+pub mod BroadcastRuns
+pub mod State
+pub mod StateAnswer
+pub mod StatePast
+pub mod StateRuns

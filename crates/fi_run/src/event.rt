@@ -1,0 +1,184 @@
+//! The event as a primitive.
+ghost use Rattle.std.specs.Prelude.{◌≡◌, Bool, ℕ, List, [], IsOk, IfOk, IfErr};
+ghost use Rattle.fi_channels.specs.Event.{EventMachine, OwesNoWake};
+ghost use Rattle.fi_run.specs.Event.{Opens, Step};
+ghost use Rattle.fi_run.specs.EventPast.{PollsAreRight, WakersAreKept};
+ghost use Rattle.fi_run.specs.Run.{IsRun, past_after};
+ghost use Rattle.fi_run.specs.declared.answer.Answer.{Answer};
+ghost use Rattle.fi_run.specs.declared.event.EventCall.{EventCall};
+
+use crate::answer::Answer;
+use crate::runs::{Primitive, every_run};
+use fi_channels::EventState;
+use fi_parts::{Fault, Slot};
+use futures::task::Poll;
+use std::alloc::Global;
+
+/// A call on an event.
+#[derive(Clone, Copy, Debug, PartialEq, Eq, Drop)]
+pub enum EventCall<W> {
+    Wait,
+    Poll(Slot, W),
+    Cancel(Slot),
+    Set,
+    Reset,
+    IsSet,
+    NextWake,
+}
+
+impl<W: Drop> Primitive for EventState<W> {
+    ghost use Rattle.fi_channels.specs.Event.{IsSound, OwesNoWake};
+    ghost use Rattle.fi_run.specs.Event.{Opens, Step};
+    ghost use Rattle.fi_run.specs.EventPast.{Recalls};
+    ghost use Rattle.fi_run.specs.EventLaws.{event_starts, event_keeps, event_recalls};
+
+    type Opening = bool;
+
+    type Call = EventCall<W>;
+
+    type Answer = Answer<u64, W>;
+
+    ghost step = { Step };
+
+    ghost opens = { Opens };
+
+    ghost is_sound = { IsSound };
+
+    ghost owes_no_wake = { OwesNoWake };
+
+    ghost recalls = { Recalls };
+
+    ghost starts = { event_starts };
+
+    ghost keeps = { event_keeps };
+
+    ghost recalls_after = { event_recalls };
+
+    fn open(alloc: Global, opening: bool) -> Result<Self, Fault>
+        ensures opened { IfOk result (λ state. Opens opening state) }
+        ensures fault { IfErr result (λ fault. fault ≡ Fault.NoMemory) }
+        // It takes no memory.
+        ensures succeeds { IsOk result }
+    {
+        Ok(EventState::new(alloc, opening))
+    }
+
+    fn apply(&mut self, call: EventCall<W>) -> Answer<u64, W> {
+        match call {
+            EventCall::Wait => match self.claim_waiter() {
+                Ok(slot) => Answer::Made(slot),
+                Err(fault) => Answer::Refused(fault),
+            },
+            EventCall::Poll(slot, waker) => {
+                if !self.can_poll(slot) {
+                    return Answer::Refused(Fault::NoSlot);
+                }
+                let (answer, _leftover) = self.try_wait(slot, waker);
+                match answer {
+                    Poll::Ready(_) => Answer::Ready,
+                    Poll::Pending => Answer::Pending,
+                }
+            }
+            EventCall::Cancel(slot) => {
+                if !self.is_live(slot) {
+                    return Answer::Refused(Fault::NoSlot);
+                }
+                self.remove_waiter(slot);
+                Answer::Done
+            }
+            EventCall::Set => {
+                self.set();
+                Answer::Done
+            }
+            EventCall::Reset => {
+                self.reset();
+                Answer::Done
+            }
+            EventCall::IsSet => Answer::Flag(self.is_set()),
+            EventCall::NextWake => Answer::Woken(self.next_wake()),
+        }
+    }
+
+    fn show(&self) {
+        EventState::show(self);
+    }
+}
+
+/// In each run from an opening, a poll that is not refused is ready exactly if the event was set at some moment
+/// from the wait's first poll to then; and a pending wait's last waker is registered, stands in the outbox, or was given since.
+pub fn every_run_of_an_event<W: Drop>()
+    ensures polls { (opening : Bool) (first now : EventMachine W) (entries : List (EventCall W × Answer ℕ W)) →
+        Opens opening first → IsRun Step first entries now → PollsAreRight opening (past_after entries []) }
+    ensures wakers { (opening : Bool) (first now : EventMachine W) (entries : List (EventCall W × Answer ℕ W)) →
+        Opens opening first → IsRun Step first entries now → WakersAreKept (past_after entries []) now }
+    ensures no_wake { (opening : Bool) (first now : EventMachine W) (entries : List (EventCall W × Answer ℕ W)) →
+        Opens opening first → IsRun Step first entries now → OwesNoWake now }
+{
+    every_run::<EventState<W>>();
+}
+
+#[cfg(test)]
+mod tests {
+    use super::*;
+    use crate::runs::run;
+    use std::test::Fail;
+
+    #[test]
+    fn a_told_wait_is_ready_after_reset(rt: HostRuntime) -> Result<(), Fail> {
+        let mut event: EventState<u64> = EventState::open(rt.alloc(), false)?;
+        let mut out = Vec::new(rt.alloc());
+        let w = Slot(0);
+        let calls = vec![in rt.alloc();
+            EventCall::Wait,
+            EventCall::Poll(w, 1),
+            EventCall::Poll(w, 2),
+            EventCall::Set,
+            EventCall::NextWake,
+            EventCall::NextWake,
+            EventCall::Reset,
+            EventCall::Poll(w, 3),
+            EventCall::Poll(w, 3),
+            EventCall::Cancel(w),
+            EventCall::Cancel(w),
+        ]?;
+        run(&mut event, calls, &mut out)?;
+        let wanted = [
+            Answer::Made(w),
+            Answer::Pending,
+            Answer::Pending,
+            Answer::Done,
+            Answer::Woken(Some(2)),
+            Answer::Woken(None),
+            Answer::Done,
+            Answer::Ready,
+            Answer::Refused(Fault::NoSlot),
+            Answer::Done,
+            Answer::Refused(Fault::NoSlot),
+        ];
+        assert_eq!(rt; out.as_slice(), wanted.as_slice());
+        Ok(())
+    }
+
+    #[test]
+    fn the_others_are_woken_in_order(rt: HostRuntime) -> Result<(), Fail> {
+        let mut event: EventState<u64> = EventState::open(rt.alloc(), false)?;
+        let mut out = Vec::new(rt.alloc());
+        let calls = vec![in rt.alloc();
+            EventCall::Wait,
+            EventCall::Wait,
+            EventCall::Wait,
+            EventCall::Poll(Slot(0), 1),
+            EventCall::Poll(Slot(1), 2),
+            EventCall::Poll(Slot(2), 3),
+            EventCall::Cancel(Slot(1)),
+            EventCall::Set,
+            EventCall::Cancel(Slot(0)),
+            EventCall::NextWake,
+            EventCall::NextWake,
+        ]?;
+        run(&mut event, calls, &mut out)?;
+        let wanted = [Answer::Woken(Some(3)), Answer::Woken(None)];
+        assert_eq!(rt; &out.as_slice()[9..], wanted.as_slice());
+        Ok(())
+    }
+}

@@ -1,0 +1,16 @@
+//! Primitives as machines that answer calls, and lists of calls as runs.
+#![tactic(auto)]
+
+mod answer;
+mod broadcast;
+mod event;
+mod oneshot;
+mod runs;
+mod state;
+
+pub use answer::Answer;
+pub use broadcast::every_run_of_a_oneshot_broadcast;
+pub use event::{EventCall, every_run_of_an_event};
+pub use oneshot::{OneshotCall, every_run_of_a_oneshot};
+pub use runs::{Primitive, every_run, run};
+pub use state::{StateCall, every_run_of_a_state_broadcast};

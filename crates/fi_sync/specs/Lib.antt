@@ -1,0 +1,3 @@
+pub mod Wakes
+pub mod Waiting
+pub mod EventWait

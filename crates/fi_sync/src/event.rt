@@ -1,0 +1,83 @@
+//! A manual reset event that threads share.
+ghost use Rattle.std.specs.Prelude.{◌≡◌, false, IfOk, IfErr};
+ghost use Rattle.fi_parts.specs.declared.errors.Fault.{Fault};
+
+use crate::claim::Claim;
+use crate::event_future::WaitForEventFuture;
+use crate::monitor::Monitor;
+use crate::wakes::HasOutbox;
+use fi_channels::EventState;
+use fi_parts::Fault;
+use futures::task::Waker;
+use std::alloc::Global;
+use std::marker::Model;
+use std::sync::Wait;
+
+/// An event that stays set until it is reset. Waits for it end once it is set. Threads share it by reference.
+///
+/// Each call but `new` takes the lock. Keeps `ManualResetEvent` of futures-intrusive's `sync`.
+#[derive(Drop)]
+pub struct ManualResetEvent<R> {
+    pub(crate) monitor: Monitor<EventState<Waker>, R>,
+}
+
+impl<R> Model for ManualResetEvent<R> {
+    ghost use Rattle.std.specs.Prelude.{ℕ};
+
+    ghost Value = { ℕ };
+
+    ghost view = { λ event. event.monitor };
+}
+
+impl<R> ManualResetEvent<R> {
+    /// An event that nobody waits for, set or not. It takes no memory yet. Keeps `ManualResetEvent::new`.
+    pub fn new(alloc: Global, rt: R, is_set: bool) -> Self {
+        ManualResetEvent {
+            monitor: Monitor::new(rt, EventState::new(alloc, is_set)),
+        }
+    }
+}
+
+impl<R: Wait> ManualResetEvent<R> {
+    /// Sets the event and wakes each wait that was registered, the oldest first. A set event stays as it is.
+    ///
+    /// Keeps `ManualResetEvent::set`.
+    pub fn set(&self) {
+        self.monitor.call(|event| event.set());
+    }
+
+    /// Clears the flag; waits that were told stay told. Keeps `ManualResetEvent::reset`.
+    pub fn reset(&self) {
+        self.monitor.call(|event| event.reset());
+    }
+
+    /// The event was set when it was looked at. Keeps `ManualResetEvent::is_set`.
+    pub fn is_set(&self) -> bool {
+        self.monitor.call(|event| event.is_set())
+    }
+
+    /// A future that waits for the event. Refused only with `NoMemory`; then nothing has changed.
+    ///
+    /// Keeps `ManualResetEvent::wait`.
+    pub fn wait(&self) -> Result<WaitForEventFuture<'_, R>, Fault>
+        ensures made { IfOk result (λ future. future ≡ record { source = self.now; has_ended = false }) }
+        ensures fault { IfErr result (λ fault. fault ≡ Fault.NoMemory) }
+    {
+        let slot = self.monitor.call(|event| event.claim_waiter())?;
+        Ok(WaitForEventFuture::new(self, Claim::of(slot)))
+    }
+}
+
+impl HasOutbox for EventState<Waker> {
+    ghost use Rattle.fi_sync.specs.Wakes.{wakers_of};
+
+    ghost wakers = { λ event. wakers_of event.out };
+
+    fn next_wake(&mut self) -> Option<Waker> {
+        EventState::next_wake(self)
+    }
+
+    fn wake_count(&self) -> usize {
+        EventState::wake_count(self)
+    }
+}

@@ -1,0 +1,77 @@
+//! The duty to wake those that a call on a state named.
+ghost use Rattle.std.specs.Prelude.{◌≡◌, List, length};
+ghost use Rattle.std.specs.Borrow.{MutBor};
+ghost use Rattle.std.specs.Fn.{FnOnceReturnsAtMut};
+ghost use Rattle.futures.specs.declared.task.waker.Waker.{Waker};
+ghost use Rattle.fi_sync.specs.Wakes.{TakesOldest};
+
+use futures::task::Waker;
+use std::sync::{Mutex, Wait};
+
+/// A state that wakes nobody itself: its calls name whom to wake.
+pub trait HasOutbox {
+    /// The wakers that are named to be woken, the oldest first.
+    ghost wakers: { Self → List Waker };
+
+    /// Takes out the oldest waker that was named to be woken; None where none is left.
+    fn next_wake(&mut self) -> Option<Waker>
+        ensures { TakesOldest (wakers self.old) result (wakers self.new) };
+
+    /// How many wakers are named to be woken.
+    fn wake_count(&self) -> usize
+        ensures { result ≡ length (wakers self.now) };
+}
+
+/// So many wakes are owed. It has no `Drop`: only `pay` takes it, so a call that forgets to wake does not compile.
+pub struct Owed {
+    count: usize,
+}
+
+impl Owed {
+    /// Makes a call on a state. What is owed after it is a wake for each waker that is named then.
+    pub fn after<S: HasOutbox, A, F: FnOnce(&mut S) -> A>(state: &mut S, call: F) -> (A, Self)
+        requires { F.IsAlwaysCallable call }
+        ensures answered { FnOnceReturnsAtMut F.FnOnce call state.old result.0 state.new }
+        ensures owed { result.1.count ≡ length (S.wakers state.new) }
+    {
+        let answer = call(state);
+        let owed = Owed::by(state);
+        (answer, owed)
+    }
+
+    /// The same for a call with an input.
+    pub fn after_with<S: HasOutbox, I, A, F>(state: &mut S, input: I, call: F) -> (A, Self)
+    where
+        F: FnOnce(&mut S, I) -> A,
+        requires { F.IsAlwaysCallable call }
+        ensures answered { (shown : MutBor S) × (left : MutBor S) × (shown.now ≡ state.old) × (left.now ≡ state.new) × F.post call shown input result.0 left }
+        ensures owed { result.1.count ≡ length (S.wakers state.new) }
+    {
+        let answer = call(state, input);
+        (answer, Owed::by(state))
+    }
+
+    // A wake for each waker that is named now.
+    fn by<S: HasOutbox>(state: &S) -> Self
+        ensures { result.count ≡ length (S.wakers state.now) }
+    {
+        Owed {
+            count: state.wake_count(),
+        }
+    }
+
+    /// Takes out and wakes so many, the oldest first, with one hold of the lock for each, and none held meanwhile.
+    ///
+    /// Another thread may have taken some of them out; then it wakes them.
+    pub fn pay<S: HasOutbox, R: Wait>(self, rt: &R, state: &Mutex<S>) {
+        let Owed { count } = self;
+        for _ in 0..count {
+            // Bound first: a `match` on the call would hold the lock over its arms.
+            let woken = state.lock(rt).next_wake();
+            match woken {
+                Some(waker) => waker.wake(),
+                None => return,
+            }
+        }
+    }
+}

@@ -1,0 +1,5 @@
+pub mod Numerals
+pub mod Labels
+pub mod Bytes
+pub mod Cuts
+pub mod Numbered

@@ -1,0 +1,10 @@
+use Rattle.std.proofs.Common.{◌+◌, ◌≤◌, ◌^◌}
+use Rattle.std.specs.Prelude.{option_copied}
+use Rattle.schedule.proofs.Cuts.{bytes_left}
+use Rattle.schedule.proofs.engine.answer_lines.Given as goal
+
+abbrev pub invariant-loop-line : goal.invariant-loop-line
+invariant-loop-line g l = l.number + bytes_left (option_copied l.lines.rest) ≤ 2 ^ 63 + 1
+
+abbrev pub decreases-loop-line : goal.decreases-loop-line
+decreases-loop-line g l = bytes_left (option_copied l.lines.rest)

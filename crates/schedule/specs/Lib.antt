@@ -1,0 +1,6 @@
+pub mod Cuts
+pub mod Labels
+pub mod Outputs
+pub mod Owed
+pub mod Statuses
+pub mod Texts

@@ -1,0 +1,13 @@
+-- What is on its way to a writer.
+use Rattle.std.specs.Prelude.{ℕ, List, Option, Some, None}
+use Rattle.std.specs.Io.KnownBytes.{Appends, append_known}
+use Rattle.schedule.specs.declared.output.Output.{Output}
+
+-- what the writer holds, and then what was collected
+abbrev pub on_its_way : {W : Type 0} → (W → Option (List ℕ)) → Output W → Option (List ℕ)
+on_its_way contents output = append_known (contents output.writer.now) output.collected.items
+
+-- The output goes on with a text; without a text it can't.
+abbrev pub GoesOn : {W : Type 0} → (W → Option (List ℕ)) → Output W → Output W → Option (List ℕ) → Type 0
+GoesOn contents old new None = ⊥
+GoesOn contents old new (Some text) = Appends (on_its_way contents old) (on_its_way contents new) text

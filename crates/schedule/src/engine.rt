@@ -1,0 +1,221 @@
+//! Answering scripts.
+
+use crate::fault::ScriptFault;
+use crate::input::read_whole;
+use crate::label::Label;
+use crate::labelled::Labelled;
+use crate::output::Output;
+use crate::scripted::{Request, Scripted};
+use crate::texts::write_answer;
+use crate::words::{Lines, Words, split_at_first};
+use fi_channels::{EventState, OneshotBroadcastState, OneshotState, StateBroadcastState};
+use fi_parts::Slot;
+use fi_run::Answer;
+use std::alloc::Global;
+use std::collections::btree_map::Entry;
+use std::io::{Read, Write};
+
+/// Labels get a shelf for so many bytes of a script, which is about ten of its labels.
+const BYTES_PER_SHELF: usize = 256;
+
+/// Reads a script to its end, and then answers it line by line.
+///
+/// # Errors
+///
+/// - `Read` where a read failed; nothing was written.
+/// - `Write` where a write failed, or took no byte.
+/// - `BadLine` with the number of the first bad line, from 1; the answers of the lines before it were written.
+/// - `NoMemory` where memory was refused; what was written is a beginning of the output.
+pub fn run_script<R: Read, W: Write>(
+    alloc: Global,
+    reader: &mut R,
+    writer: &mut W,
+) -> Result<(), ScriptFault> {
+    let script = read_whole(alloc, reader)?;
+    let mut output = Output::new(alloc, writer)?;
+    let answered = answer_script(alloc, script.as_slice(), &mut output);
+    if answered != Err(ScriptFault::Write) {
+        output.flush()?;
+    }
+    answered
+}
+
+/// Answers a script of the primitive that its first line names.
+fn answer_script<W: Write>(
+    alloc: Global,
+    script: &[u8],
+    output: &mut Output<'_, W>,
+) -> Result<(), ScriptFault> {
+    let (first, rest) = split_at_first(script, b'\n');
+    let lines = Lines::after(rest);
+    let mut words = Words::of(first);
+    match words.word() {
+        Some(b"event") => answer_calls::<EventState<u64>, W>(alloc, words, lines, output),
+        Some(b"oneshot") => {
+            answer_calls::<OneshotState<u64, u64>, W>(alloc, words, lines, output)
+        }
+        Some(b"oneshot-broadcast") => {
+            answer_calls::<OneshotBroadcastState<u64, u64>, W>(alloc, words, lines, output)
+        }
+        Some(b"state-broadcast") => {
+            answer_calls::<StateBroadcastState<u64, u64>, W>(alloc, words, lines, output)
+        }
+        _ => Err(ScriptFault::BadLine(1)),
+    }
+}
+
+/// Answers the lines after one whose words left are a primitive's opening.
+fn answer_calls<P: Scripted, W: Write>(
+    alloc: Global,
+    mut words: Words<'_>,
+    lines: Lines<'_>,
+    output: &mut Output<'_, W>,
+) -> Result<(), ScriptFault> {
+    let Some(opening) = P::opening(&mut words) else {
+        return Err(ScriptFault::BadLine(1));
+    };
+    if !words.is_at_end() {
+        return Err(ScriptFault::BadLine(1));
+    }
+    answer_lines::<P, W>(alloc, opening, lines, output)
+}
+
+/// Opens a primitive, and answers its lines.
+fn answer_lines<P: Scripted, W: Write>(
+    alloc: Global,
+    opening: P::Opening,
+    mut lines: Lines<'_>,
+    output: &mut Output<'_, W>,
+) -> Result<(), ScriptFault> {
+    let Ok(primitive) = P::open(alloc, opening) else {
+        return Err(ScriptFault::NoMemory);
+    };
+    let Ok(futures) = Labelled::new(alloc, lines.len() / BYTES_PER_SHELF) else {
+        return Err(ScriptFault::NoMemory);
+    };
+    let mut session = Session { primitive, futures };
+    let mut number = 1;
+    while let Some(line) = lines.line() {
+        number += 1;
+        session.answer_line(number, line, output)?;
+    }
+    Ok(())
+}
+
+/// What a line does.
+#[derive(Drop)]
+enum Action<C, K> {
+    Wakes,
+    Call(C),
+    Make(Label, K, C),
+    Cancel(Label),
+}
+
+/// A primitive, and its futures whose labels are in use.
+#[derive(Drop)]
+struct Session<P: Scripted> {
+    primitive: P,
+    futures: Labelled<(P::Kind, Slot)>,
+}
+
+impl<P: Scripted> Session<P> {
+    fn answer_line<W: Write>(
+        &mut self,
+        number: usize,
+        line: &[u8],
+        output: &mut Output<'_, W>,
+    ) -> Result<(), ScriptFault> {
+        let mut words = Words::of(line);
+        let Some((holds, action)) = self.parse(&mut words) else {
+            return Err(ScriptFault::BadLine(number));
+        };
+        if !words.is_at_end() {
+            return Err(ScriptFault::BadLine(number));
+        }
+        let answer = self.perform(number, action)?;
+        write_answer(&answer, output)?;
+        if !holds {
+            self.write_wakes(output)?;
+        }
+        output.put(b"\n")
+    }
+
+    /// What a line asks for, and whether it leaves the outbox as it is.
+    fn parse(&self, words: &mut Words<'_>) -> Option<(bool, Action<P::Call, P::Kind>)> {
+        let verb = words.word()?;
+        match verb {
+            b"wakes" => Some((false, Action::Wakes)),
+            b"hold" => {
+                let verb = words.word()?;
+                Some((true, self.parse_call(verb, words)?))
+            }
+            _ => Some((false, self.parse_call(verb, words)?)),
+        }
+    }
+
+    fn parse_call(&self, verb: &[u8], words: &mut Words<'_>) -> Option<Action<P::Call, P::Kind>> {
+        match verb {
+            b"poll" => {
+                let label = words.label()?;
+                let (kind, slot) = self.futures.shelf(label).get(&label)?;
+                Some(Action::Call(P::poll(*kind, *slot, words)?))
+            }
+            b"cancel" => Some(Action::Cancel(words.label()?)),
+            _ => match P::parse(verb, words)? {
+                Request::Make(label, kind, call) => Some(Action::Make(label, kind, call)),
+                Request::Call(call) => Some(Action::Call(call)),
+            },
+        }
+    }
+
+    fn perform(
+        &mut self,
+        number: usize,
+        action: Action<P::Call, P::Kind>,
+    ) -> Result<Answer<u64, u64>, ScriptFault> {
+        match action {
+            Action::Wakes => Ok(Answer::Done),
+            Action::Call(call) => Ok(self.primitive.apply(call)),
+            Action::Make(label, kind, call) => self.make(number, label, kind, call),
+            Action::Cancel(label) => match self.futures.shelf_mut(label).remove(&label) {
+                Some((kind, slot)) => Ok(self.primitive.apply(P::cancel(kind, slot))),
+                None => Err(ScriptFault::BadLine(number)),
+            },
+        }
+    }
+
+    /// Makes a future, whose label is in use from then on.
+    fn make(
+        &mut self,
+        number: usize,
+        label: Label,
+        kind: P::Kind,
+        call: P::Call,
+    ) -> Result<Answer<u64, u64>, ScriptFault> {
+        match self.futures.shelf_mut(label).entry(label) {
+            Ok(Entry::Vacant(place)) => {
+                let answer = self.primitive.apply(call);
+                if let Answer::Made(slot) = answer {
+                    place.insert((kind, slot));
+                }
+                Ok(answer)
+            }
+            Ok(Entry::Occupied(_)) => Err(ScriptFault::BadLine(number)),
+            Err(_) => Err(ScriptFault::NoMemory),
+        }
+    }
+
+    /// Empties the outbox.
+    fn write_wakes<W: Write>(&mut self, output: &mut Output<'_, W>) -> Result<(), ScriptFault> {
+        let mut is_first = true;
+        while let Answer::Woken(Some(waker)) = self.primitive.apply(P::next_wake()) {
+            if is_first {
+                output.put(b" wakes")?;
+            }
+            is_first = false;
+            output.put(b" ")?;
+            output.put_number(waker)?;
+        }
+        Ok(())
+    }
+}

@@ -1,0 +1,42 @@
+//! Reading the script.
+
+ghost use Rattle.std.specs.Prelude.{◌≡◌, ◌+◌, ◌≤◌, ◌<◌, OnOk, IfOk, IfSome, take, vec_len};
+
+use crate::fault::ScriptFault;
+use std::alloc::Global;
+use std::io::Read;
+
+/// The least room that a read is given.
+const LEAST_ROOM: usize = 65536;
+
+/// All that the reader gives.
+pub fn read_whole<R: Read>(alloc: Global, reader: &mut R) -> Result<Vec<u8>, ScriptFault>
+    ensures { IfOk result (λ bytes. IfSome (R.remaining reader.old) (λ left. bytes.items ≡ left)) }
+{
+    let mut bytes: Vec<u8> = Vec::new(alloc);
+    let mut filled = 0;
+    loop {
+        if bytes.len() - filled < LEAST_ROOM {
+            make_room(&mut bytes)?;
+        }
+        match reader.read(&mut bytes[filled..]) {
+            Ok(0) => break,
+            Ok(count) => filled += count,
+            Err(_) => return Err(ScriptFault::Read),
+        }
+    }
+    bytes.truncate(filled);
+    Ok(bytes)
+}
+
+/// Doubles the bytes, or adds the least room where that is more.
+fn make_room(bytes: &mut Vec<u8>) -> Result<(), ScriptFault>
+    ensures longer { OnOk result (vec_len bytes.old + LEAST_ROOM ≤ vec_len bytes.new) }
+    ensures kept { OnOk result (take (vec_len bytes.old) bytes.new.items ≡ bytes.old.items) }
+{
+    let more = bytes.len().max(LEAST_ROOM);
+    match bytes.resize(bytes.len() + more, 0) {
+        Ok(()) => Ok(()),
+        Err(_) => Err(ScriptFault::NoMemory),
+    }
+}

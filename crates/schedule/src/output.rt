@@ -1,0 +1,76 @@
+//! Writing the answers.
+
+ghost use Rattle.std.specs.Prelude.{◌≡◌, ◌++◌, [], Some, OnOk, IfErr};
+ghost use Rattle.std.specs.Io.KnownBytes.{Appends};
+ghost use Rattle.schedule.specs.Outputs.{GoesOn};
+ghost use Rattle.std.specs.Fmt.{decimal};
+
+use crate::fault::ScriptFault;
+use itoa::Buffer;
+use std::alloc::Global;
+use std::io::Write;
+
+/// How many bytes are collected before they are written.
+const COLLECTED: usize = 65536;
+
+/// Writes all of the bytes. An error and a write that takes no byte are failures, and are not tried again.
+pub fn write_whole<W: Write>(writer: &mut W, bytes: &[u8]) -> Result<(), ScriptFault>
+    ensures written { OnOk result (Appends (W.contents writer.old) (W.contents writer.new) bytes.now) }
+    ensures fault { IfErr result (λ fault. fault ≡ ScriptFault.Write) }
+{
+    let mut written = 0;
+    while written < bytes.len() {
+        match writer.write(&bytes[written..]) {
+            Ok(0) | Err(_) => return Err(ScriptFault::Write),
+            Ok(count) => written += count,
+        }
+    }
+    Ok(())
+}
+
+/// Answers that are on their way to a writer.
+#[derive(Drop)]
+pub struct Output<'a, W> {
+    writer: &'a mut W,
+    collected: Vec<u8>,
+}
+
+impl<'a, W: Write> Output<'a, W> {
+    pub fn new(alloc: Global, writer: &'a mut W) -> Result<Self, ScriptFault> {
+        match Vec::with_capacity(alloc, COLLECTED) {
+            Ok(collected) => Ok(Output { writer, collected }),
+            Err(_) => Err(ScriptFault::NoMemory),
+        }
+    }
+
+    /// Adds text to the output.
+    pub fn put(&mut self, text: &[u8]) -> Result<(), ScriptFault>
+        ensures { OnOk result (GoesOn W.contents self.old self.new (Some text.now)) }
+    {
+        if self.collected.len() >= COLLECTED {
+            self.flush()?;
+        }
+        match self.collected.extend_from_slice(text) {
+            Ok(()) => Ok(()),
+            Err(_) => Err(ScriptFault::NoMemory),
+        }
+    }
+
+    /// Adds a number in plain decimal to the output.
+    pub fn put_number(&mut self, number: u64) -> Result<(), ScriptFault>
+        ensures { OnOk result (GoesOn W.contents self.old self.new (Some (decimal number))) }
+    {
+        let mut digits = Buffer::new();
+        self.put(digits.format(number).as_bytes())
+    }
+
+    /// Writes what was collected.
+    pub fn flush(&mut self) -> Result<(), ScriptFault>
+        ensures written { OnOk result (Appends (W.contents self.old.writer.now) (W.contents self.new.writer.now) self.old.collected.items) }
+        ensures emptied { OnOk result (self.new.collected.items ≡ []) }
+    {
+        write_whole(self.writer, self.collected.as_slice())?;
+        self.collected.clear();
+        Ok(())
+    }
+}

@@ -1,0 +1,50 @@
+//! What a primitive has to say to be called from scripts.
+
+ghost use Rattle.std.specs.Prelude.{◌≡◌, ℕ, ◌<◌, Some};
+ghost use Rattle.fi_run.specs.declared.answer.Answer.TheVariants.{Woken};
+
+use crate::label::Label;
+use crate::words::Words;
+use fi_parts::Slot;
+use fi_run::{Answer, Primitive};
+
+/// What a line asks for, where it is neither a poll nor a cancel.
+#[derive(Drop)]
+pub enum Request<C, K> {
+    /// To make a future of that kind, under a label that isn't in use.
+    Make(Label, K, C),
+    /// To make a call that makes no future.
+    Call(C),
+}
+
+/// A primitive whose calls can be written as script lines.
+///
+/// Each method reads its own words of the line, and the caller sees that none is left.
+pub trait Scripted: Primitive<Answer = Answer<u64, u64>> + Drop {
+    /// What tells its futures apart, where their polls or cancels are different calls.
+    type Kind: Copy;
+
+    /// The call that takes out the oldest waker.
+    ghost take_waker: { Self.Call };
+
+    /// How many wakers are still to be taken out.
+    ghost owed: { Self → ℕ };
+
+    /// The opening that the words after the primitive's name ask for.
+    fn opening(words: &mut Words<'_>) -> Option<Self::Opening>;
+
+    /// The call that a verb and the words after it ask for; `None` for a line of no call.
+    fn parse(verb: &[u8], words: &mut Words<'_>) -> Option<Request<Self::Call, Self::Kind>>;
+
+    /// The poll that the words after its label ask for.
+    fn poll(kind: Self::Kind, slot: Slot, words: &mut Words<'_>) -> Option<Self::Call>;
+
+    fn cancel(kind: Self::Kind, slot: Slot) -> Self::Call;
+
+    /// The call that takes out the oldest waker.
+    fn next_wake() -> Self::Call
+        ensures { result ≡ take_waker };
+
+    /// A waker that is taken out leaves fewer.
+    ghost leaves_fewer: { (old : Self) (waker : ℕ) (new : Self) → Self.step old take_waker (Woken (Some waker)) new → owed new < owed old };
+}

@@ -1,0 +1,233 @@
+//! Scripts at the edges of the grammar, and past them.
+
+use super::{answer, check_script};
+use crate::fault::ScriptFault;
+use std::alloc::Global;
+use std::process::Abort;
+use std::test::Fail;
+
+#[test]
+fn script_edges(rt: HostRuntime) {
+    let alloc = rt.alloc();
+    check_script(&rt, alloc, "", "", Err(ScriptFault::BadLine(1)));
+    check_script(&rt, alloc, "event reset\nset", "ok\n", Ok(()));
+    check_script(
+        &rt,
+        alloc,
+        "event reset\npoll w 1\n",
+        "",
+        Err(ScriptFault::BadLine(2)),
+    );
+    check_script(&rt, alloc, "event reset", "", Ok(()));
+    check_script(&rt, alloc, "event reset\n", "", Ok(()));
+    check_script(
+        &rt,
+        alloc,
+        "event reset\n\n",
+        "",
+        Err(ScriptFault::BadLine(2)),
+    );
+}
+
+#[test]
+fn answers_before_a_bad_line(rt: HostRuntime) {
+    let script = "event reset\nset\nis-set\nnothing\nset\nnothing\n";
+    check_script(
+        &rt,
+        rt.alloc(),
+        script,
+        "ok\ntrue\n",
+        Err(ScriptFault::BadLine(4)),
+    );
+}
+
+/// Each of the lines is bad where it follows those before it.
+fn check_bad_lines(
+    rt: &impl Abort,
+    alloc: Global,
+    before: &str,
+    bad_lines: &str,
+    number: usize,
+) -> Result<(), Fail> {
+    for line in bad_lines.split('\n') {
+        let mut script = String::from_str(alloc, before)?;
+        script.push_str(line)?;
+        script.push_str("\nset\n")?;
+        let (_, ended) = answer(alloc, script.as_bytes());
+        assert_eq!(rt; ended, Err(ScriptFault::BadLine(number)), "{script}");
+    }
+    Ok(())
+}
+
+const BAD_FIRST_LINES: &str = "
+event
+event 
+ event reset
+event  reset
+event reset 
+event reset\r
+event\treset
+Event reset
+event RESET
+event set set
+event 0
+events set
+hold event set
+latch
+set
+wakes";
+
+#[test]
+fn bad_first_lines(rt: HostRuntime) -> Result<(), Fail> {
+    check_bad_lines(&rt, rt.alloc(), "", BAD_FIRST_LINES, 1)
+}
+
+const BAD_CALLS: &str = "
+ set
+set 
+set\r
+set\t
+set now
+SET
+sett
+reset 1
+is-set is-set
+is_set
+hold
+hold 
+hold  set
+hold hold set
+hold wakes
+hold nothing
+wakes 
+wakes wakes
+event reset
+receive a
+send 5
+close
+lock a
+release 1
+check 1";
+
+#[test]
+fn bad_calls(rt: HostRuntime) -> Result<(), Fail> {
+    check_bad_lines(&rt, rt.alloc(), "event reset\n", BAD_CALLS, 2)
+}
+
+const BAD_LABELS: &str = "wait
+wait 
+wait  a
+wait a 
+wait a b
+wait A
+wait aB
+wait 1
+wait 1a
+wait a-b
+wait a_b
+wait a`
+wait a{
+wait a/
+wait a:
+wait @
+wait a\u{7f}
+wait a\u{0}
+wait \u{e9}
+wait a\u{e9}
+wait abcdefghijklmnopq
+wait w
+hold wait w
+poll v 1
+cancel v
+cancel
+cancel 
+cancel w 
+cancel w w
+cancel W";
+
+#[test]
+fn bad_labels(rt: HostRuntime) -> Result<(), Fail> {
+    check_bad_lines(&rt, rt.alloc(), "event reset\nwait w\n", BAD_LABELS, 3)
+}
+
+const BAD_NUMBERS: &str = "poll w
+poll w 
+poll  w 1
+poll w  1
+poll w 1 
+poll w 1 1
+poll w 00
+poll w 01
+poll w -1
+poll w +1
+poll w 1x
+poll w x1
+poll w 0x1
+poll w 1_000
+poll w 1.0
+poll w /
+poll w :
+poll w \u{661}
+poll w 18446744073709551616
+poll w 18446744073709551620
+poll w 28446744073709551615
+poll w 99999999999999999999999999";
+
+#[test]
+fn bad_numbers(rt: HostRuntime) -> Result<(), Fail> {
+    check_bad_lines(&rt, rt.alloc(), "event reset\nwait w\n", BAD_NUMBERS, 3)
+}
+
+/// A label is in use until it is cancelled, also while its wait has ended.
+#[test]
+fn labels_in_use(rt: HostRuntime) -> Result<(), Fail> {
+    check_bad_lines(
+        &rt,
+        rt.alloc(),
+        "event set\nwait w\npoll w 1\n",
+        "wait w",
+        4,
+    )?;
+    check_bad_lines(
+        &rt,
+        rt.alloc(),
+        "event set\nwait w\ncancel w\n",
+        "poll w 1\ncancel w",
+        4,
+    )
+}
+
+/// A byte that is not text.
+#[test]
+fn bytes_that_are_not_text(rt: HostRuntime) {
+    let (output, ended) = answer(rt.alloc(), b"event set\nis-set\nset\xff\n");
+    assert_eq!(rt; ended, Err(ScriptFault::BadLine(3)));
+    assert!(rt; output.as_slice() == b"true\n".as_slice());
+}
+
+/// Many labels, whose shelves have several each.
+#[test]
+fn many_labels(rt: HostRuntime) -> Result<(), Fail> {
+    let mut script = String::from_str(rt.alloc(), "event reset\n")?;
+    let mut wanted = String::new(rt.alloc());
+    for label in 0..2000u64 {
+        write!(script, "wait l{label}\npoll l{label} {label}\n")?;
+        wanted.push_str("made\npending\n")?;
+    }
+    for label in 0..2000u64 {
+        write!(
+            script,
+            "hold set\nhold poll l{label} 1\ncancel l{label}\nwait l{label}\nreset\n"
+        )?;
+        wanted.push_str("ok\nready\nok")?;
+        if label == 0 {
+            wanted.push_str(" wakes")?;
+            for other in 1..2000u64 {
+                write!(wanted, " {other}")?;
+            }
+        }
+        wanted.push_str("\nmade\nok\n")?;
+    }
+    check_script(&rt, rt.alloc(), script.as_str(), wanted.as_str(), Ok(()));
+    Ok(())
+}
