@@ -1,9 +1,9 @@
 #!/bin/sh
-# Times the built program on the script of `event_script.sh N`, and prints the best of five runs in nanoseconds a line.
-# Run it in the crate's folder. `rt run` proves and builds the program as out/schedule if it is not up to date.
+# Times the built program on a script of N waits (100000 if not given), each made, polled and, after one `set`, polled again,
+# and prints the best of five runs in nanoseconds a line. `rt run` proves and builds the program first, if it is not up to date.
 set -eu
 here=$(cd "$(dirname "$0")" && pwd)
-cd "$here/.."
+cd "$here/../crates/schedule"
 rt run < stdin > /dev/null 2>&1
 script=$(mktemp)
 trap 'rm -f "$script"' EXIT
