@@ -94,3 +94,60 @@ fn local_channels_answer_by_slot(rt: HostRuntime) {
         let _ = channel.remove_receive_waiter(Slot(0));
     }
 }
+
+// The answer of a poll for bytes, polled once more if the clone was refused memory.
+fn polled_bytes(
+    channel: &mut LocalOneshotBroadcastChannel<Vec<u8>, u64>,
+    slot: Slot,
+) -> Option<Vec<u8>> {
+    if !channel.can_receive(slot) {
+        return None;
+    }
+    if let Poll::Ready(Ok(value)) = channel.receive_or_register(slot, 1).0 {
+        return value;
+    }
+    if !channel.can_receive(slot) {
+        return None;
+    }
+    match channel.receive_or_register(slot, 1).0 {
+        Poll::Ready(Ok(value)) => value,
+        _ => None,
+    }
+}
+
+// The Nth allocation may be refused here: a receive whose clone was refused is fresh, and the next poll ends it.
+#[test]
+fn broadcast_bytes_survive_a_refused_clone(rt: HostRuntime) -> Result<(), Fail> {
+    let mut channel: LocalOneshotBroadcastChannel<Vec<u8>, u64> = LocalOneshotBroadcastChannel::new(
+        rt.alloc(),
+    );
+    let bytes = vec![in rt.alloc(); 1u8, 2, 3]?;
+    let slot = match channel.claim_receive() {
+        Ok(slot) => slot,
+        Err(_) => channel.claim_receive().ok().ok_or("room")?,
+    };
+    let is_sent = channel.send(bytes).is_ok();
+    let copy = polled_bytes(&mut channel, slot).ok_or("bytes")?;
+    assert!(rt; is_sent);
+    assert_eq!(rt; copy.as_slice(), [1u8, 2, 3].as_slice());
+    assert!(rt; !channel.can_receive(slot));
+    Ok(())
+}
+
+// The same from the state broadcast, whose call without a wait is asked again as well.
+#[test]
+fn state_bytes_survive_a_refused_clone(rt: HostRuntime) -> Result<(), Fail> {
+    let mut channel: LocalStateBroadcastChannel<Vec<u8>, u64> = LocalStateBroadcastChannel::new(
+        rt.alloc(),
+    );
+    let is_sent = channel.send(vec![in rt.alloc(); 4u8, 5]?).is_ok();
+    let state = match channel.try_receive(StateId::new()) {
+        Ok(state) => state,
+        Err(_) => channel.try_receive(StateId::new()).ok().ok_or("room")?,
+    };
+    let (number, copy) = state.ok_or("state")?;
+    assert!(rt; is_sent);
+    assert_eq!(rt; number.value(), 1);
+    assert_eq!(rt; copy.as_slice(), [4u8, 5].as_slice());
+    Ok(())
+}

@@ -181,4 +181,15 @@ mod tests {
         assert_eq!(rt; &out.as_slice()[9..], wanted.as_slice());
         Ok(())
     }
+
+    #[test]
+    fn a_set_event_is_set(rt: HostRuntime) -> Result<(), Fail> {
+        let mut event: EventState<u64> = EventState::open(rt.alloc(), false)?;
+        let mut out = Vec::new(rt.alloc());
+        let calls = vec![in rt.alloc(); EventCall::Set, EventCall::IsSet]?;
+        assert!(rt; run(&mut event, calls, &mut out).is_ok());
+        let wanted = [Answer::Done, Answer::Flag(true)];
+        assert_eq!(rt; out.as_slice(), wanted.as_slice());
+        Ok(())
+    }
 }

@@ -1,5 +1,5 @@
 -- What a contract sees of a future of a primitive that threads share.
-use Rattle.std.specs.Prelude.{◌≡◌, ℕ, Bool, true, false, Result, Ok, Err, ◌||◌, ◌⊎◌, ⊤}
+use Rattle.std.specs.Prelude.{◌≡◌, ℕ, Bool, Result, Ok, Err, ◌||◌, ◌⊎◌, ⊤}
 use Rattle.futures.specs.declared.task.Poll.{Poll}
 use Rattle.fi_parts.specs.declared.errors.Fault.{Fault}
 use Rattle.fi_channels.specs.Polled.{has_answer}

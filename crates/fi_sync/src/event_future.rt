@@ -27,7 +27,8 @@ pub struct WaitForEventFuture<'a, R: Wait> {
     event: &'a ManualResetEvent<R>,
     claim: Claim<EventWait>,
     is_ended: bool,
-    // A waker of the task that polled last, which the event has no use for. Its drop would wake that task.
+    // A waker that the event has no use for. Its drop would wake its task, so the next poll uses it again. Where that poll is
+    // another task's and can make no waker, this one is registered, and `Context::register` has the task polled again.
     spare: Option<Waker>,
 }
 
