@@ -7,6 +7,8 @@ mod event;
 mod oneshot;
 mod runs;
 mod state;
+#[cfg(test)]
+mod tests;
 
 pub use answer::Answer;
 pub use broadcast::every_run_of_a_oneshot_broadcast;
