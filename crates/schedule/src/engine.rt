@@ -137,7 +137,7 @@ impl<P: Scripted> Session<P> {
         if !holds {
             self.write_wakes(output)?;
         }
-        output.put(b"\n")
+        output.put_byte(b'\n')
     }
 
     /// What a line asks for, and whether it leaves the outbox as it is.
@@ -213,7 +213,7 @@ impl<P: Scripted> Session<P> {
                 output.put(b" wakes")?;
             }
             is_first = false;
-            output.put(b" ")?;
+            output.put_byte(b' ')?;
             output.put_number(waker)?;
         }
         Ok(())

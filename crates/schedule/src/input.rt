@@ -29,12 +29,13 @@ pub fn read_whole<R: Read>(alloc: Global, reader: &mut R) -> Result<Vec<u8>, Scr
     Ok(bytes)
 }
 
-/// Doubles the bytes, or adds the least room where that is more.
+/// Adds a quarter to the bytes, or the least room where that is more: the room is written before it is read into, so that
+/// doubling would touch twice the memory that a script needs.
 fn make_room(bytes: &mut Vec<u8>) -> Result<(), ScriptFault>
     ensures longer { OnOk result (vec_len bytes.old + LEAST_ROOM ≤ vec_len bytes.new) }
     ensures kept { OnOk result (take (vec_len bytes.old) bytes.new.items ≡ bytes.old.items) }
 {
-    let more = bytes.len().max(LEAST_ROOM);
+    let more = (bytes.len() / 4).max(LEAST_ROOM);
     match bytes.resize(bytes.len() + more, 0) {
         Ok(()) => Ok(()),
         Err(_) => Err(ScriptFault::NoMemory),

@@ -1,6 +1,6 @@
 //! Writing the answers.
 
-ghost use Rattle.std.specs.Prelude.{◌≡◌, ◌++◌, [], Some, OnOk, IfErr};
+ghost use Rattle.std.specs.Prelude.{◌≡◌, ◌++◌, ◌∷◌, [], Some, OnOk, IfErr};
 ghost use Rattle.std.specs.Io.KnownBytes.{Appends};
 ghost use Rattle.schedule.specs.Outputs.{GoesOn};
 ghost use Rattle.std.specs.Fmt.{decimal};
@@ -51,6 +51,19 @@ impl<'a, W: Write> Output<'a, W> {
             self.flush()?;
         }
         match self.collected.extend_from_slice(text) {
+            Ok(()) => Ok(()),
+            Err(_) => Err(ScriptFault::NoMemory),
+        }
+    }
+
+    /// Adds one byte to the output.
+    pub fn put_byte(&mut self, byte: u8) -> Result<(), ScriptFault>
+        ensures { OnOk result (GoesOn W.contents self.old self.new (Some (byte ∷ []))) }
+    {
+        if self.collected.len() >= COLLECTED {
+            self.flush()?;
+        }
+        match self.collected.push(byte) {
             Ok(()) => Ok(()),
             Err(_) => Err(ScriptFault::NoMemory),
         }

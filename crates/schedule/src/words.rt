@@ -4,12 +4,13 @@ ghost use Rattle.schedule.specs.Cuts.{IsCut, NextLine, NextWord};
 
 use crate::label::Label;
 use crate::number::parse_number;
+use memchr::memchr;
 
 /// What stands before the first separator, and what stands after it, if there is one.
 pub fn split_at_first(bytes: &[u8], separator: u8) -> (&[u8], Option<&[u8]>)
     ensures { IsCut separator bytes.now result.0.now (option_copied result.1) }
 {
-    match bytes.iter().position(|byte| *byte == separator) {
+    match memchr(separator, bytes) {
         Some(at) => (&bytes[..at], Some(&bytes[at + 1..])),
         None => (bytes, None),
     }
