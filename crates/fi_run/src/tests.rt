@@ -81,11 +81,11 @@ fn a_state_broadcast_gives_the_newest(rt: HostRuntime) -> Result<(), Fail> {
         StateCall::NextWake,
     ]?;
     run(&mut channel, calls, &mut out)?;
-    let newest = Answer::State(StateId::from_value(2), 6);
+    let newest = StateId::from_value(2);
     let wanted = [
-        newest,
+        Answer::State(newest, 6),
         Answer::Made(Slot(0)),
-        newest,
+        Answer::State(newest, 6),
         Answer::Done,
         Answer::Newly,
         Answer::Woken(None),
