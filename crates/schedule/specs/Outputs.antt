@@ -1,6 +1,8 @@
 -- What is on its way to a writer.
-use Rattle.std.specs.Prelude.{ℕ, List, Option, Some, None}
+use Rattle.std.specs.Prelude.{⊤, ℕ, List, Option, Some, None}
 use Rattle.std.specs.Io.KnownBytes.{Appends, append_known}
+use Rattle.schedule.specs.declared.fault.ScriptFault.{ScriptFault}
+use Rattle.schedule.specs.declared.fault.ScriptFault.TheVariants.{Read, Write, BadLine, NoMemory}
 use Rattle.schedule.specs.declared.output.Output.{Output}
 
 -- what the writer holds, and then what was collected
@@ -11,3 +13,10 @@ on_its_way contents output = append_known (contents output.writer.now) output.co
 abbrev pub GoesOn : {W : Type 0} → (W → Option (List ℕ)) → Output W → Output W → Option (List ℕ) → Type 0
 GoesOn contents old new None = ⊥
 GoesOn contents old new (Some text) = Appends (on_its_way contents old) (on_its_way contents new) text
+
+-- what may keep an output from going on
+abbrev pub IsOfOutput : ScriptFault → Type 0
+IsOfOutput Read = ⊥
+IsOfOutput Write = ⊤
+IsOfOutput (BadLine line) = ⊥
+IsOfOutput NoMemory = ⊤

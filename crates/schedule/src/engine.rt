@@ -1,4 +1,6 @@
 //! Answering scripts.
+ghost use Rattle.std.specs.Prelude.{IfErr};
+ghost use Rattle.schedule.specs.Outputs.{IsOfOutput};
 
 use crate::fault::ScriptFault;
 use crate::input::read_whole;
@@ -206,7 +208,9 @@ impl<P: Scripted> Session<P> {
     }
 
     /// Empties the outbox.
-    fn write_wakes<W: Write>(&mut self, output: &mut Output<'_, W>) -> Result<(), ScriptFault> {
+    fn write_wakes<W: Write>(&mut self, output: &mut Output<'_, W>) -> Result<(), ScriptFault>
+        ensures fault { IfErr result IsOfOutput }
+    {
         let mut is_first = true;
         while let Answer::Woken(Some(waker)) = self.primitive.apply(P::next_wake()) {
             if is_first {

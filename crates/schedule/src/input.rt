@@ -1,6 +1,6 @@
 //! Reading the script.
 
-ghost use Rattle.std.specs.Prelude.{◌≡◌, ◌+◌, ◌≤◌, ◌<◌, OnOk, IfOk, IfSome, take, vec_len};
+ghost use Rattle.std.specs.Prelude.{◌≡◌, ◌⊎◌, ◌+◌, ◌≤◌, ◌<◌, OnOk, IfOk, IfErr, IfSome, take, vec_len};
 
 use crate::fault::ScriptFault;
 use std::alloc::Global;
@@ -11,7 +11,8 @@ const LEAST_ROOM: usize = 65536;
 
 /// All that the reader gives.
 pub fn read_whole<R: Read>(alloc: Global, reader: &mut R) -> Result<Vec<u8>, ScriptFault>
-    ensures { IfOk result (λ bytes. IfSome (R.remaining reader.old) (λ left. bytes.items ≡ left)) }
+    ensures bytes { IfOk result (λ bytes. IfSome (R.remaining reader.old) (λ left. bytes.items ≡ left)) }
+    ensures fault { IfErr result (λ fault. fault ≡ ScriptFault.Read ⊎ fault ≡ ScriptFault.NoMemory) }
 {
     let mut bytes: Vec<u8> = Vec::new(alloc);
     let mut filled = 0;
@@ -34,6 +35,7 @@ pub fn read_whole<R: Read>(alloc: Global, reader: &mut R) -> Result<Vec<u8>, Scr
 fn make_room(bytes: &mut Vec<u8>) -> Result<(), ScriptFault>
     ensures longer { OnOk result (vec_len bytes.old + LEAST_ROOM ≤ vec_len bytes.new) }
     ensures kept { OnOk result (take (vec_len bytes.old) bytes.new.items ≡ bytes.old.items) }
+    ensures fault { IfErr result (λ fault. fault ≡ ScriptFault.NoMemory) }
 {
     let more = (bytes.len() / 4).max(LEAST_ROOM);
     match bytes.resize(bytes.len() + more, 0) {

@@ -2,7 +2,7 @@
 
 ghost use Rattle.std.specs.Prelude.{◌≡◌, ◌++◌, ◌∷◌, [], Some, OnOk, IfErr};
 ghost use Rattle.std.specs.Io.KnownBytes.{Appends};
-ghost use Rattle.schedule.specs.Outputs.{GoesOn};
+ghost use Rattle.schedule.specs.Outputs.{GoesOn, IsOfOutput};
 ghost use Rattle.std.specs.Fmt.{decimal};
 
 use crate::fault::ScriptFault;
@@ -45,7 +45,8 @@ impl<'a, W: Write> Output<'a, W> {
 
     /// Adds text to the output.
     pub fn put(&mut self, text: &[u8]) -> Result<(), ScriptFault>
-        ensures { OnOk result (GoesOn W.contents self.old self.new (Some text.now)) }
+        ensures text { OnOk result (GoesOn W.contents self.old self.new (Some text.now)) }
+        ensures fault { IfErr result IsOfOutput }
     {
         if self.collected.len() >= COLLECTED {
             self.flush()?;
@@ -58,7 +59,8 @@ impl<'a, W: Write> Output<'a, W> {
 
     /// Adds one byte to the output.
     pub fn put_byte(&mut self, byte: u8) -> Result<(), ScriptFault>
-        ensures { OnOk result (GoesOn W.contents self.old self.new (Some (byte ∷ []))) }
+        ensures byte { OnOk result (GoesOn W.contents self.old self.new (Some (byte ∷ []))) }
+        ensures fault { IfErr result IsOfOutput }
     {
         if self.collected.len() >= COLLECTED {
             self.flush()?;
@@ -71,7 +73,8 @@ impl<'a, W: Write> Output<'a, W> {
 
     /// Adds a number in plain decimal to the output.
     pub fn put_number(&mut self, number: u64) -> Result<(), ScriptFault>
-        ensures { OnOk result (GoesOn W.contents self.old self.new (Some (decimal number))) }
+        ensures numeral { OnOk result (GoesOn W.contents self.old self.new (Some (decimal number))) }
+        ensures fault { IfErr result IsOfOutput }
     {
         let mut digits = Buffer::new();
         self.put(digits.format(number).as_bytes())
@@ -81,6 +84,7 @@ impl<'a, W: Write> Output<'a, W> {
     pub fn flush(&mut self) -> Result<(), ScriptFault>
         ensures written { OnOk result (Appends (W.contents self.old.writer.now) (W.contents self.new.writer.now) self.old.collected.items) }
         ensures emptied { OnOk result (self.new.collected.items ≡ []) }
+        ensures fault { IfErr result (λ fault. fault ≡ ScriptFault.Write) }
     {
         write_whole(self.writer, self.collected.as_slice())?;
         self.collected.clear();

@@ -1,7 +1,7 @@
 //! The texts of answers.
-ghost use Rattle.std.specs.Prelude.{◌≡◌, Some, None, Err, OnOk, codes};
+ghost use Rattle.std.specs.Prelude.{◌≡◌, Some, None, Err, OnOk, IfErr, codes};
 ghost use Rattle.std.specs.Fmt.{decimal};
-ghost use Rattle.schedule.specs.Outputs.{GoesOn};
+ghost use Rattle.schedule.specs.Outputs.{GoesOn, IsOfOutput};
 ghost use Rattle.schedule.specs.Texts.{answer_text, fault_text, with_number};
 
 use crate::fault::ScriptFault;
@@ -17,6 +17,7 @@ pub fn write_answer<W: Write>(
 ) -> Result<(), ScriptFault>
     ensures text { OnOk result (GoesOn W.contents output.old output.new (answer_text answer.now)) }
     ensures memory { answer_text answer.now ≡ None → result ≡ Err ScriptFault.NoMemory }
+    ensures fault { IfErr result IsOfOutput }
 {
     match answer {
         Answer::Made(_) => output.put(b"made"),
@@ -44,7 +45,8 @@ pub fn write_answer<W: Write>(
 }
 
 fn put_some<W: Write>(number: u64, output: &mut Output<'_, W>) -> Result<(), ScriptFault>
-    ensures { OnOk result (GoesOn W.contents output.old output.new (with_number (Some (codes "some")) number)) }
+    ensures text { OnOk result (GoesOn W.contents output.old output.new (with_number (Some (codes "some")) number)) }
+    ensures fault { IfErr result IsOfOutput }
 {
     output.put(b"some ")?;
     output.put_number(number)
@@ -54,6 +56,7 @@ fn put_some<W: Write>(number: u64, output: &mut Output<'_, W>) -> Result<(), Scr
 fn put_fault<W: Write>(fault: Fault, output: &mut Output<'_, W>) -> Result<(), ScriptFault>
     ensures text { OnOk result (GoesOn W.contents output.old output.new (fault_text fault)) }
     ensures memory { fault_text fault ≡ None → result ≡ Err ScriptFault.NoMemory }
+    ensures fault { IfErr result IsOfOutput }
 {
     match fault {
         Fault::NoMemory => Err(ScriptFault::NoMemory),
@@ -75,6 +78,7 @@ fn put_back<W: Write>(
 ) -> Result<(), ScriptFault>
     ensures text { OnOk result (GoesOn W.contents output.old output.new (with_number (fault_text fault) value)) }
     ensures memory { fault_text fault ≡ None → result ≡ Err ScriptFault.NoMemory }
+    ensures fault { IfErr result IsOfOutput }
 {
     put_fault(fault, output)?;
     output.put(b" ")?;
