@@ -1,5 +1,5 @@
 use Rattle.std.proofs.Common.{ℕ, Option, Some, None, sym, subst, ◌∙◌}
-use Rattle.fi_parts.specs.HeapNodes.{InParts, IsHeap, KeepsValues}
+use Rattle.fi_parts.specs.HeapNodes.{InParts}
 use Rattle.fi_parts.proofs.HeapPieces.{meldable-root}
 use Rattle.fi_parts.proofs.HeapSteps.{Holding, holding-melded, holding-alone, rooted-heap}
 use Rattle.fi_parts.proofs.heap_nodes.HeapNodes.add_tree.Given.{Over}
@@ -19,12 +19,8 @@ held g c =
           holding-alone g.T.Ord.cmp c.args.self.now c.match-root.self c.args.tree c.match-root.root (sym c.root.ensures ∙ w.in-None.is) w.self-is w.root-is c.requires
     ]
 
-whole : (g : Over) (c : goal.After-set_root g) → IsHeap g.T.Ord.cmp c.set_root.new.self × KeepsValues c.args.self.now c.set_root.new.self
-whole g c =
-    rooted-heap g.T.Ord.cmp c.args.self.now c.match-root.self c.set_place.new.self c.set_root.new.self c.match-root.root (held g c) c.set_place.ensures c.set_root.ensures
-
 pub returns-clause-heap : goal.returns-clause-heap
-returns-clause-heap g c = (whole g c).0
+returns-clause-heap g c = (rooted-heap g.T.Ord.cmp _ _ _ _ _ (held g c) c.set_place.ensures c.set_root.ensures).0
 
 pub returns-clause-kept : goal.returns-clause-kept
-returns-clause-kept g c = (whole g c).1
+returns-clause-kept g c = (rooted-heap g.T.Ord.cmp _ _ _ _ _ (held g c) c.set_place.ensures c.set_root.ensures).1
