@@ -1,5 +1,5 @@
 -- The texts of answers.
-use Rattle.std.specs.Prelude.{ℕ, List, ◌++◌, codes, Option, Some, None, true, false}
+use Rattle.std.specs.Prelude.{ℕ, Bool, List, [], ◌∷◌, ◌++◌, codes, Option, Some, None, true, false}
 use Rattle.std.specs.Fmt.{decimal}
 use Rattle.fi_parts.specs.declared.errors.Fault.{Fault}
 use Rattle.fi_parts.specs.declared.errors.Fault.TheVariants.{NoMemory, NoSlot, Closed, Full, Empty, Overflow, NotHeld, TooManyEnds}
@@ -41,3 +41,13 @@ answer_text Already = Some (codes "already-closed")
 answer_text (Woken waker) = Some (codes "ok")
 answer_text (Back value fault) = with_number (fault_text fault) value
 answer_text (Refused fault) = fault_text fault
+
+-- a waker's number after a space, the first with the word before it
+abbrev pub waker_text : Bool → ℕ → List ℕ
+waker_text true waker = codes " wakes " ++ decimal waker
+waker_text false waker = codes " " ++ decimal waker
+
+-- all that are named, and nothing where none is
+abbrev pub wakes_text : Bool → List ℕ → List ℕ
+wakes_text is_first [] = []
+wakes_text is_first (waker ∷ wakers) = waker_text is_first waker ++ wakes_text false wakers

@@ -9,7 +9,7 @@ use fi_run::OneshotCall;
 
 impl Scripted for OneshotBroadcastState<u64, u64> {
     ghost use Rattle.fi_run.specs.declared.oneshot.OneshotCall.TheVariants.{NextWake};
-    ghost use Rattle.schedule.specs.Owed.{is_same, oneshot_owed, broadcast_fewer};
+    ghost use Rattle.schedule.specs.Owed.{is_same, oneshot_owed, oneshot_without, broadcast_takes};
 
     type Kind = ();
 
@@ -17,7 +17,9 @@ impl Scripted for OneshotBroadcastState<u64, u64> {
 
     ghost owed = { oneshot_owed };
 
-    ghost leaves_fewer = { broadcast_fewer is_same };
+    ghost without_wakers = { oneshot_without };
+
+    ghost takes_oldest = { broadcast_takes is_same };
 
     fn opening(_words: &mut Words<'_>) -> Option<()> {
         Some(())

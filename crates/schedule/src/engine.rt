@@ -1,6 +1,8 @@
 //! Answering scripts.
-ghost use Rattle.std.specs.Prelude.{IfErr};
-ghost use Rattle.schedule.specs.Outputs.{IsOfOutput};
+ghost use Rattle.std.specs.Prelude.{◌≡◌, [], Some, true, OnOk, IfErr, drop};
+ghost use Rattle.schedule.specs.Owed.{first_of};
+ghost use Rattle.schedule.specs.Outputs.{GoesOn, IsOfOutput};
+ghost use Rattle.schedule.specs.Texts.{wakes_text};
 
 use crate::fault::ScriptFault;
 use crate::input::read_whole;
@@ -8,7 +10,7 @@ use crate::label::Label;
 use crate::labelled::Labelled;
 use crate::output::Output;
 use crate::scripted::{Request, Scripted};
-use crate::texts::write_answer;
+use crate::texts::{put_waker, write_answer};
 use crate::words::{Lines, Words, split_at_first};
 use fi_channels::{EventState, OneshotBroadcastState, OneshotState, StateBroadcastState};
 use fi_parts::Slot;
@@ -155,6 +157,7 @@ impl<P: Scripted> Session<P> {
         }
     }
 
+    #[inline(always)]
     fn parse_call(&self, verb: &[u8], words: &mut Words<'_>) -> Option<Action<P::Call, P::Kind>> {
         match verb {
             b"poll" => {
@@ -207,18 +210,31 @@ impl<P: Scripted> Session<P> {
         }
     }
 
-    /// Empties the outbox.
+    /// Takes out the oldest waker, if there is one.
+    fn take_waker(&mut self) -> Option<u64>
+        ensures waker { result ≡ first_of (P.Scripted.owed self.old.primitive) }
+        ensures taken { P.Scripted.owed self.new.primitive ≡ drop 1 (P.Scripted.owed self.old.primitive) }
+        ensures rest { P.Scripted.without_wakers self.new.primitive ≡ P.Scripted.without_wakers self.old.primitive }
+        ensures futures { self.new.futures ≡ self.old.futures }
+    {
+        match self.primitive.apply(P::next_wake()) {
+            Answer::Woken(waker) => waker,
+            _ => None,
+        }
+    }
+
+    /// Takes out all wakers and writes them, oldest first.
     fn write_wakes<W: Write>(&mut self, output: &mut Output<'_, W>) -> Result<(), ScriptFault>
+        ensures text { OnOk result (GoesOn W.contents output.old output.new (Some (wakes_text true (P.Scripted.owed self.old.primitive)))) }
+        ensures emptied { OnOk result (P.Scripted.owed self.new.primitive ≡ []) }
+        ensures rest { OnOk result (P.Scripted.without_wakers self.new.primitive ≡ P.Scripted.without_wakers self.old.primitive) }
+        ensures futures { self.new.futures ≡ self.old.futures }
         ensures fault { IfErr result IsOfOutput }
     {
         let mut is_first = true;
-        while let Answer::Woken(Some(waker)) = self.primitive.apply(P::next_wake()) {
-            if is_first {
-                output.put(b" wakes")?;
-            }
+        while let Some(waker) = self.take_waker() {
+            put_waker(waker, is_first, output)?;
             is_first = false;
-            output.put_byte(b' ')?;
-            output.put_number(waker)?;
         }
         Ok(())
     }

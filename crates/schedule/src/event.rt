@@ -8,7 +8,7 @@ use fi_run::EventCall;
 
 impl Scripted for EventState<u64> {
     ghost use Rattle.fi_run.specs.declared.event.EventCall.TheVariants.{NextWake};
-    ghost use Rattle.schedule.specs.Owed.{event_owed, event_fewer};
+    ghost use Rattle.schedule.specs.Owed.{event_owed, event_without, event_takes};
 
     type Kind = ();
 
@@ -16,7 +16,9 @@ impl Scripted for EventState<u64> {
 
     ghost owed = { event_owed };
 
-    ghost leaves_fewer = { event_fewer };
+    ghost without_wakers = { event_without };
+
+    ghost takes_oldest = { event_takes };
 
     fn opening(words: &mut Words<'_>) -> Option<bool> {
         match words.word()? {

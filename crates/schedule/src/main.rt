@@ -18,21 +18,25 @@ mod tests;
 mod texts;
 mod words;
 
-use fault::report;
+use fault::{ScriptFault, report};
+use output::write_whole;
 use std::env;
-use std::io::Write;
+use std::io::ErrorKind;
 use std::process::ExitCode;
 
 /// The status of a run that was given an argument.
 const BAD_ARGUMENTS: u8 = 2;
 
 fn main(rt: HostRuntime) -> ExitCode {
-    let takes_none = match env::args(&rt) {
+    let is_alone = match env::args(&rt) {
         Ok(arguments) => arguments.len() <= 1,
+        Err(error) if error.kind() == ErrorKind::OutOfMemory => {
+            return ExitCode::from(report(&ScriptFault::NoMemory, &mut rt.stderr()));
+        }
         Err(_) => false,
     };
-    if !takes_none {
-        let _ = rt.stderr().write(b"schedule: takes no arguments\n");
+    if !is_alone {
+        let _ = write_whole(&mut rt.stderr(), b"schedule: takes no arguments\n");
         return ExitCode::from(BAD_ARGUMENTS);
     }
     let answered = engine::run_script(rt.alloc(), &mut rt.stdin(), &mut rt.stdout());

@@ -8,7 +8,7 @@ use fi_run::OneshotCall;
 
 impl Scripted for OneshotState<u64, u64> {
     ghost use Rattle.fi_run.specs.declared.oneshot.OneshotCall.TheVariants.{NextWake};
-    ghost use Rattle.schedule.specs.Owed.{oneshot_owed, oneshot_fewer};
+    ghost use Rattle.schedule.specs.Owed.{oneshot_owed, oneshot_without, oneshot_takes};
 
     type Kind = ();
 
@@ -16,7 +16,9 @@ impl Scripted for OneshotState<u64, u64> {
 
     ghost owed = { oneshot_owed };
 
-    ghost leaves_fewer = { oneshot_fewer };
+    ghost without_wakers = { oneshot_without };
+
+    ghost takes_oldest = { oneshot_takes };
 
     fn opening(_words: &mut Words<'_>) -> Option<()> {
         Some(())

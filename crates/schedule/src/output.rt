@@ -44,6 +44,7 @@ impl<'a, W: Write> Output<'a, W> {
     }
 
     /// Adds text to the output.
+    #[inline(always)]
     pub fn put(&mut self, text: &[u8]) -> Result<(), ScriptFault>
         ensures text { OnOk result (GoesOn W.contents self.old self.new (Some text.now)) }
         ensures fault { IfErr result IsOfOutput }

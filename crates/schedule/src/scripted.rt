@@ -1,7 +1,8 @@
 //! What a primitive has to say to be called from scripts.
 
-ghost use Rattle.std.specs.Prelude.{◌≡◌, ℕ, ◌<◌, Some};
-ghost use Rattle.fi_run.specs.declared.answer.Answer.TheVariants.{Woken};
+ghost use Rattle.std.specs.Prelude.{◌≡◌, ℕ, List};
+ghost use Rattle.fi_run.specs.declared.answer.Answer.{Answer};
+ghost use Rattle.schedule.specs.Owed.{HandsOutOldest};
 
 use crate::label::Label;
 use crate::words::Words;
@@ -27,8 +28,11 @@ pub trait Scripted: Primitive<Answer = Answer<u64, u64>> + Drop {
     /// The call that takes out the oldest waker.
     ghost take_waker: { Self.Call };
 
-    /// How many wakers are still to be taken out.
-    ghost owed: { Self → ℕ };
+    /// The wakers that are still to be taken out, oldest first.
+    ghost owed: { Self → List ℕ };
+
+    /// What is left when all of them are taken out.
+    ghost without_wakers: { Self → Self };
 
     /// The opening that the words after the primitive's name ask for.
     fn opening(words: &mut Words<'_>) -> Option<Self::Opening>;
@@ -45,6 +49,6 @@ pub trait Scripted: Primitive<Answer = Answer<u64, u64>> + Drop {
     fn next_wake() -> Self::Call
         ensures { result ≡ take_waker };
 
-    /// A waker that is taken out leaves fewer.
-    ghost leaves_fewer: { (old : Self) (waker : ℕ) (new : Self) → Self.step old take_waker (Woken (Some waker)) new → owed new < owed old };
+    /// The call takes out the oldest waker, and changes nothing else.
+    ghost takes_oldest: { (old : Self) (answer : Answer ℕ ℕ) (new : Self) → Self.step old take_waker answer new → HandsOutOldest owed without_wakers old answer new };
 }

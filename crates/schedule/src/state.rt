@@ -8,7 +8,7 @@ use fi_run::StateCall;
 
 impl Scripted for StateBroadcastState<u64, u64> {
     ghost use Rattle.fi_run.specs.declared.state.StateCall.TheVariants.{NextWake};
-    ghost use Rattle.schedule.specs.Owed.{is_same, state_owed, state_fewer};
+    ghost use Rattle.schedule.specs.Owed.{is_same, state_owed, state_without, state_takes};
 
     type Kind = ();
 
@@ -16,7 +16,9 @@ impl Scripted for StateBroadcastState<u64, u64> {
 
     ghost owed = { state_owed };
 
-    ghost leaves_fewer = { state_fewer is_same };
+    ghost without_wakers = { state_without };
+
+    ghost takes_oldest = { state_takes is_same };
 
     fn opening(_words: &mut Words<'_>) -> Option<()> {
         Some(())

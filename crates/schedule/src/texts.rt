@@ -2,7 +2,7 @@
 ghost use Rattle.std.specs.Prelude.{◌≡◌, Some, None, Err, OnOk, IfErr, codes};
 ghost use Rattle.std.specs.Fmt.{decimal};
 ghost use Rattle.schedule.specs.Outputs.{GoesOn, IsOfOutput};
-ghost use Rattle.schedule.specs.Texts.{answer_text, fault_text, with_number};
+ghost use Rattle.schedule.specs.Texts.{answer_text, fault_text, waker_text, with_number};
 
 use crate::fault::ScriptFault;
 use crate::output::Output;
@@ -42,6 +42,19 @@ pub fn write_answer<W: Write>(
         Answer::Back(value, fault) => put_back(*value, *fault, output),
         Answer::Refused(fault) => put_fault(*fault, output),
     }
+}
+
+/// Writes a waker that is named, the first after the word for them.
+pub fn put_waker<W: Write>(
+    waker: u64,
+    is_first: bool,
+    output: &mut Output<'_, W>,
+) -> Result<(), ScriptFault>
+    ensures text { OnOk result (GoesOn W.contents output.old output.new (Some (waker_text is_first waker))) }
+    ensures fault { IfErr result IsOfOutput }
+{
+    output.put(if is_first { b" wakes " } else { b" " })?;
+    output.put_number(waker)
 }
 
 fn put_some<W: Write>(number: u64, output: &mut Output<'_, W>) -> Result<(), ScriptFault>

@@ -64,6 +64,7 @@ impl<'a> Words<'a> {
     }
 
     /// The next word, which is empty between two spaces.
+    #[inline(always)]
     pub fn word(&mut self) -> Option<&'a [u8]>
         ensures { NextWord (option_copied self.old.rest) (option_copied result) (option_copied self.new.rest) }
     {
@@ -73,6 +74,7 @@ impl<'a> Words<'a> {
     }
 
     /// The next word as a label.
+    #[inline(always)]
     pub fn label(&mut self) -> Option<Label> {
         Label::parse(self.word()?)
     }
