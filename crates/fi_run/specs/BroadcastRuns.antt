@@ -2,7 +2,7 @@
 use Rattle.std.specs.Prelude.{◌≡◌, ℕ, ◌+◌, Option, Some, None, List, [], ◌∷◌, refl}
 use Rattle.std.proofs.Common.{sym, ◌∙◌, ap, subst, inl, inr}
 use Rattle.futures.specs.declared.task.Poll.TheVariants as polled
-use Rattle.fi_parts.specs.declared.errors.Fault.TheVariants.{Closed}
+use Rattle.fi_parts.specs.declared.errors.Fault.TheVariants.{Closed, NoMemory, NoSlot}
 use Rattle.fi_parts.specs.Pairs.{without_pair}
 use Rattle.fi_channels.specs.declared.one_value.Content.{Content}
 use Rattle.fi_channels.specs.declared.one_value.Content.TheVariants.{Empty, Full, Spent}
@@ -94,7 +94,9 @@ module _ {T W : Type 0} (is_clone : T → T → Type 0) where
   delivers_after value earlier old (Poll slot waker) (Item copy) new no_wake full taken =
       let was = (given old new slot.0 waker (Some copy) taken).1 in
       subst (λ (v : T). is_clone v copy) (full_same was.0 value (sym was.1 ∙ full)) was.2
-  delivers_after value earlier old (Poll slot waker) (Refused fault) new no_wake full taken = tt
+  delivers_after value earlier old (Poll slot waker) (Refused NoMemory) new no_wake full taken = tt
+  delivers_after value earlier old (Poll slot waker) (Refused NoSlot) new no_wake full taken = tt
+  delivers_after value earlier old (Poll slot waker) (Refused fault) new no_wake full taken = absurd taken.0
   delivers_after value earlier old (Poll slot waker) Pending new no_wake full taken =
       elim (pends (Clones is_clone) (clones_ends is_clone) lacks_clone old new slot.0 waker taken).before [
         | inl registered ↦ absurd (full_empty value (sym full ∙ no_wake slot.0 registered))

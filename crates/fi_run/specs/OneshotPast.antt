@@ -4,6 +4,7 @@ use Rattle.fi_run.specs.declared.answer.Answer.{Answer}
 use Rattle.fi_run.specs.declared.answer.Answer.TheVariants.{Made, Pending, Item, Nothing, Done, Newly, Woken, Refused}
 use Rattle.fi_run.specs.declared.oneshot.OneshotCall.{OneshotCall}
 use Rattle.fi_run.specs.declared.oneshot.OneshotCall.TheVariants.{Receive, Poll, Cancel, Send, Close, NextWake}
+use Rattle.fi_parts.specs.declared.errors.Fault.TheVariants.{NoMemory, NoSlot}
 use Rattle.fi_channels.specs.declared.one_value.Content.{Content}
 use Rattle.fi_channels.specs.declared.one_value.Content.TheVariants.{Empty, Full, Spent}
 use Rattle.fi_channels.specs.Oneshot.{OneshotMachine}
@@ -85,11 +86,12 @@ module _ {T W : Type 0} where
   abbrev pub DeliversAfter : (T → T → Type 0) → List T → OneshotCall T W → Answer T W → Type 0
   DeliversAfter is_clone [] call answer = ⊤
   DeliversAfter is_clone (value ∷ earlier) (Poll slot waker) (Item copy) = is_clone value copy
-  DeliversAfter is_clone (value ∷ earlier) (Poll slot waker) (Refused fault) = ⊤
+  DeliversAfter is_clone (value ∷ earlier) (Poll slot waker) (Refused NoMemory) = ⊤
+  DeliversAfter is_clone (value ∷ earlier) (Poll slot waker) (Refused NoSlot) = ⊤
   DeliversAfter is_clone (value ∷ earlier) (Poll slot waker) answer = ⊥
   DeliversAfter is_clone (value ∷ earlier) call answer = ⊤
 
-  -- After an accepted send every poll that is not refused gives a clone of its value, whatever is closed later.
+  -- After an accepted send every poll gives a clone of its value, whatever is closed later, or is refused: for the clone's memory, or as no receive of this name can be polled.
   abbrev pub Delivers : (T → T → Type 0) → List (OneshotCall T W × Answer T W) → Type 0
   Delivers is_clone [] = ⊤
   Delivers is_clone (entry ∷ past) = DeliversAfter is_clone (accepted past) entry.0 entry.1 × Delivers is_clone past

@@ -52,6 +52,7 @@ impl<T: Clone, W: Drop> Primitive for OneshotBroadcastState<T, W> {
         Ok(OneshotBroadcastState::new(alloc))
     }
 
+    #[inline(always)]
     fn apply(&mut self, call: OneshotCall<T, W>) -> Answer<T, W> {
         match call {
             OneshotCall::Receive => match self.claim_receive() {

@@ -17,12 +17,19 @@ use std::alloc::Global;
 /// A call on an event.
 #[derive(Clone, Copy, Debug, PartialEq, Eq, Drop)]
 pub enum EventCall<W> {
+    /// Makes a wait. Answers `Made`.
     Wait,
+    /// Polls a wait. Answers `Pending`, `Ready`.
     Poll(Slot, W),
+    /// Cancels a wait. Answers `Done`.
     Cancel(Slot),
+    /// Sets the event. Answers `Done`.
     Set,
+    /// Resets the event. Answers `Done`.
     Reset,
+    /// Asks whether the event is set. Answers `Flag`.
     IsSet,
+    /// Takes out the oldest waker. Answers `Woken`.
     NextWake,
 }
 
@@ -63,6 +70,7 @@ impl<W: Drop> Primitive for EventState<W> {
         Ok(EventState::new(alloc, opening))
     }
 
+    #[inline(always)]
     fn apply(&mut self, call: EventCall<W>) -> Answer<u64, W> {
         match call {
             EventCall::Wait => match self.claim_waiter() {

@@ -68,6 +68,7 @@ impl<T: Drop, W: Drop> Primitive for OneshotState<T, W> {
         Ok(OneshotState::new(alloc))
     }
 
+    #[inline(always)]
     fn apply(&mut self, call: OneshotCall<T, W>) -> Answer<T, W> {
         match call {
             OneshotCall::Receive => match self.claim_receive() {

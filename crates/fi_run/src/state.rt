@@ -71,6 +71,7 @@ impl<T: Clone, W: Drop> Primitive for StateBroadcastState<T, W> {
         Ok(StateBroadcastState::new(alloc))
     }
 
+    #[inline(always)]
     fn apply(&mut self, call: StateCall<T, W>) -> Answer<T, W> {
         match call {
             StateCall::Receive(seen) => match self.claim_receive(seen) {
