@@ -2,7 +2,7 @@
 ghost use Rattle.std.specs.Prelude.{◌≡◌, ℕ};
 
 use fi_parts::Slot;
-use std::marker::PhantomData;
+use std::marker::{Model, PhantomData};
 
 /// A state in which futures of the kind `K` have slots.
 pub trait Cancel<K> {
@@ -24,10 +24,16 @@ pub struct Claim<K> {
     kind: PhantomData<K>,
 }
 
+impl<K> Model for Claim<K> {
+    ghost Value = { ℕ };
+
+    ghost view = { λ claim. claim.slot.0 };
+}
+
 impl<K> Claim<K> {
     /// The claim on a slot that its state has just given to a future.
     pub fn of(slot: Slot) -> Self
-        ensures { result.slot ≡ slot }
+        ensures { result ≡ slot.0 }
     {
         Claim {
             slot,
@@ -37,14 +43,14 @@ impl<K> Claim<K> {
 
     /// The slot, to be polled.
     pub fn slot(&self) -> Slot
-        ensures { result ≡ self.now.slot }
+        ensures { result.0 ≡ self.now }
     {
         self.slot
     }
 
     /// Cancels the future, which gives its slot back.
     pub fn cancel<S: Cancel<K>>(self, state: &mut S) -> S::Left
-        ensures { S.cancels state.old self.slot.0 result state.new }
+        ensures { S.cancels state.old self result state.new }
     {
         let Claim { slot, kind: _ } = self;
         state.cancel(slot)

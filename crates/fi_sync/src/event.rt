@@ -69,11 +69,14 @@ impl<R: Wait> ManualResetEvent<R> {
 }
 
 impl HasOutbox for EventState<Waker> {
+    ghost use Rattle.fi_channels.specs.Event.{Wakes};
     ghost use Rattle.fi_sync.specs.Wakes.{wakers_of};
 
     ghost wakers = { λ event. wakers_of event.out };
 
-    fn next_wake(&mut self) -> Option<Waker> {
+    fn next_wake(&mut self) -> Option<Waker>
+        ensures { Wakes self.old result self.new }
+    {
         EventState::next_wake(self)
     }
 

@@ -21,7 +21,8 @@ pub struct EventWait;
 /// Waits for an event. Its drop unregisters it, and tells nobody.
 ///
 /// Its output is Ok once the event was set since its first poll. `Err(NoMemory)` comes where the poll could make no waker:
-/// the wait and its event are then as they were, and it may be polled again. A wait that has ended stays pending.
+/// the wait and its event are then as they were, and it may be polled again. Where it could make none and still has another
+/// task's from a poll before, that one is registered instead, and this task is polled again. A wait that has ended stays pending.
 /// Keeps `WaitForEventFuture` of futures-intrusive's `sync`.
 pub struct WaitForEventFuture<'a, R: Wait> {
     event: &'a ManualResetEvent<R>,

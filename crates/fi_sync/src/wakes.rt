@@ -1,11 +1,12 @@
 //! The duty to wake those that a call on a state named.
-ghost use Rattle.std.specs.Prelude.{◌≡◌, List, length};
+ghost use Rattle.std.specs.Prelude.{◌≡◌, ℕ, List, length};
 ghost use Rattle.std.specs.Borrow.{MutBor};
 ghost use Rattle.std.specs.Fn.{FnOnceReturnsAtMut};
 ghost use Rattle.futures.specs.declared.task.waker.Waker.{Waker};
 ghost use Rattle.fi_sync.specs.Wakes.{TakesOldest};
 
 use futures::task::Waker;
+use std::marker::Model;
 use std::sync::{Mutex, Wait};
 
 /// A state that wakes nobody itself: its calls name whom to wake.
@@ -27,12 +28,18 @@ pub struct Owed {
     count: usize,
 }
 
+impl Model for Owed {
+    ghost Value = { ℕ };
+
+    ghost view = { λ owed. owed.count };
+}
+
 impl Owed {
     /// Makes a call on a state. What is owed after it is a wake for each waker that is named then.
     pub fn after<S: HasOutbox, A, F: FnOnce(&mut S) -> A>(state: &mut S, call: F) -> (A, Self)
         requires { F.IsAlwaysCallable call }
         ensures answered { FnOnceReturnsAtMut F.FnOnce call state.old result.0 state.new }
-        ensures owed { result.1.count ≡ length (S.wakers state.new) }
+        ensures owed { result.1 ≡ length (S.wakers state.new) }
     {
         let answer = call(state);
         let owed = Owed::by(state);
@@ -45,7 +52,7 @@ impl Owed {
         F: FnOnce(&mut S, I) -> A,
         requires { F.IsAlwaysCallable call }
         ensures answered { (shown : MutBor S) × (left : MutBor S) × (shown.now ≡ state.old) × (left.now ≡ state.new) × F.post call shown input result.0 left }
-        ensures owed { result.1.count ≡ length (S.wakers state.new) }
+        ensures owed { result.1 ≡ length (S.wakers state.new) }
     {
         let answer = call(state, input);
         (answer, Owed::by(state))
@@ -53,7 +60,7 @@ impl Owed {
 
     // A wake for each waker that is named now.
     fn by<S: HasOutbox>(state: &S) -> Self
-        ensures { result.count ≡ length (S.wakers state.now) }
+        ensures { result ≡ length (S.wakers state.now) }
     {
         Owed {
             count: state.wake_count(),
