@@ -13,8 +13,6 @@ use std::{io, time};
 /// Keeps `Clock` of futures-intrusive.
 pub trait Clock {
     /// The time in milliseconds since a moment of the clock's own.
-    ///
-    /// A timer that reads a clock which goes back keeps the latest time that it has read.
     fn now(&self) -> u64;
 }
 

@@ -134,7 +134,7 @@ impl<T> LinkedList<T> {
         self.nodes.unlink(slot.0)
     }
 
-    /// The youngest slot of the list.
+    /// The youngest slot of the list; None for an empty list.
     pub fn first_slot(&self) -> Option<Slot>
         ensures { MatchOption result (self.now.order ≡ []) (λ slot. ((rest : List ℕ) × (self.now.order ≡ slot.0 ∷ rest))) }
     {
@@ -144,7 +144,7 @@ impl<T> LinkedList<T> {
         }
     }
 
-    /// The oldest slot of the list.
+    /// The oldest slot of the list; None for an empty list.
     pub fn last_slot(&self) -> Option<Slot>
         ensures { MatchOption result (self.now.order ≡ []) (λ slot. ((rest : List ℕ) × (self.now.order ≡ rest ++ slot.0 ∷ []))) }
     {

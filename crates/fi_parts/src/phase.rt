@@ -57,6 +57,7 @@ pub struct Leftover<W> {
 }
 
 impl<W> Leftover<W> {
+    /// These two.
     pub fn of(displaced: Option<W>, unused: Option<W>) -> Self
         ensures { result ≡ record { displaced = displaced; unused = unused } }
     {

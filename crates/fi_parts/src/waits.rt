@@ -93,6 +93,7 @@ fn swap_phase<D: Drop, W: Drop>(
 }
 
 impl<D: Drop, W: Drop> Waits<D, W> {
+    /// No future, and nobody to wake. It takes no memory yet.
     pub fn new(alloc: Global) -> Self
         ensures { result ≡ record { side = no_futures; out = [] } }
     {
@@ -102,7 +103,7 @@ impl<D: Drop, W: Drop> Waits<D, W> {
         }
     }
 
-    /// How a name stands.
+    /// How a name stands; None where no future lives under it.
     pub fn phase(&self, slot: Slot) -> Option<&Phase<W>>
         ensures { option_copied result ≡ phase_of self.now.side slot.0 }
     {
@@ -112,7 +113,7 @@ impl<D: Drop, W: Drop> Waits<D, W> {
         }
     }
 
-    /// What a name asks for.
+    /// What a name asks for; None where no future lives under it.
     pub fn asks(&self, slot: Slot) -> Option<&D>
         ensures { option_copied result ≡ asks_of self.now.side slot.0 }
     {
@@ -122,7 +123,9 @@ impl<D: Drop, W: Drop> Waits<D, W> {
         }
     }
 
-    /// Makes a future.
+    /// Makes a fresh future under a name that was not live.
+    ///
+    /// Refused where memory for it or its ticket was; then what it asks for comes back, and nothing has changed.
     pub fn make(&mut self, asks: D) -> Result<Slot, NoRoom<D>>
         ensures was_free { IfOk result (λ slot. phase_of self.old.side slot.0 ≡ None) }
         ensures made { IfOk result (λ slot. self.new ≡ record self.old { side = made self.old.side slot.0 asks }) }
@@ -149,7 +152,7 @@ impl<D: Drop, W: Drop> Waits<D, W> {
         }
     }
 
-    /// Takes out a future's own pair, and gives its waker.
+    /// Takes out a future's own pair, and gives its waker; None where it was not named, or is not live.
     pub fn take_out(&mut self, slot: Slot) -> Option<W>
         requires { IsLive self.old.side slot.0 }
         ensures waker { result ≡ waker_of slot.0 self.old.out }
@@ -169,7 +172,7 @@ impl<D: Drop, W: Drop> Waits<D, W> {
         self.list.add_front(slot);
     }
 
-    /// Lets a future stand so, and keep its place. Gives the waker that it was registered with.
+    /// Lets a live future stand so, and keep its place. Gives the waker that it was registered with.
     pub fn stand(&mut self, slot: Slot, phase: Phase<W>) -> Option<W>
         requires { IsLive self.old.side slot.0 }
         ensures waker { MatchOption (phase_of self.old.side slot.0) ⊥ (λ before. result ≡ waker_in before) }
@@ -179,7 +182,7 @@ impl<D: Drop, W: Drop> Waits<D, W> {
         waker
     }
 
-    /// Takes a future out of everything, and gives back what it asked for and the waker that it had.
+    /// Takes a live future out of everything, and gives back what it asked for and the waker that it had.
     pub fn forget(&mut self, slot: Slot) -> (D, Option<W>)
         requires { IsLive self.old.side slot.0 }
         ensures asked { asks_of self.old.side slot.0 ≡ Some result.0 }
@@ -194,7 +197,7 @@ impl<D: Drop, W: Drop> Waits<D, W> {
         (asks, last_waker(phase, named))
     }
 
-    /// Takes the oldest out of the queue.
+    /// Takes the oldest out of the queue; None where nobody waits.
     pub fn leave_oldest(&mut self) -> Option<Slot>
         ensures { MatchOption result ((self.old.side.queue ≡ []) × (self.new ≡ self.old))
             (λ slot. (others : List ℕ) × (self.old.side.queue ≡ slot.0 ∷ others) × (self.new ≡ record self.old { side = record self.old.side { queue = others } })) }
@@ -203,7 +206,7 @@ impl<D: Drop, W: Drop> Waits<D, W> {
         Some(slot)
     }
 
-    /// Names a registered future, which then stands so.
+    /// Names a registered future that is not named yet; it then stands so.
     pub fn notice(&mut self, slot: Slot, phase: Phase<W>)
         requires registered { is_registered (phase_of self.old.side slot.0) ≡ true }
         requires no_pair { has slot.0 self.old.out ≡ false }
@@ -223,7 +226,7 @@ impl<D: Drop, W: Drop> Waits<D, W> {
         }
     }
 
-    /// Takes out the oldest waker to be woken.
+    /// Takes out the oldest waker to be woken; None where none is left.
     pub fn next_wake(&mut self) -> Option<W>
         ensures value { result ≡ oldest self.old.out }
         ensures rest { self.new ≡ record self.old { out = drop 1 self.old.out } }
@@ -231,6 +234,7 @@ impl<D: Drop, W: Drop> Waits<D, W> {
         waker_from(self.outbox.pop())
     }
 
+    /// How many wakers are to be woken.
     pub fn wake_count(&self) -> usize
         ensures { result ≡ length self.now.out }
     {
