@@ -26,15 +26,23 @@ answers_more step recalls old calls before after mid call answer new goes_on so_
   recalled = λ opening past was. rw (past_more so_far.entries (call, answer) past) (goes_on opening (past_after so_far.entries past) (so_far.recalled opening past was));
 }
 
+-- What each step says of the past and of the state, a run says.
+pub run_recalls : {S C A : Type 0} (step : S → C → A → S → Type 0) (recalls : List (C × A) → S → Type 0) →
+    ((past : List (C × A)) (old : S) (call : C) (answer : A) (new : S) → recalls past old → step old call answer new → recalls ((call, answer) ∷ past) new) →
+    (past : List (C × A)) (old : S) (entries : List (C × A)) (new : S) → recalls past old → IsRun step old entries new → recalls (past_after entries past) new
+run_recalls step recalls remembers past old [] new recalled run = subst (recalls past) (sym run) recalled
+run_recalls step recalls remembers past old (entry ∷ entries) new recalled run =
+    run_recalls step recalls remembers (entry ∷ past) run.0 entries new (remembers past old entry.0 entry.1 run.0 recalled run.1) run.2
+
 -- What each step keeps, a run keeps, and each entry goes into the past.
 pub run_keeps : {S C A : Type 0} (step : S → C → A → S → Type 0) (is_sound owes_no_wake : S → Type 0) (recalls : List (C × A) → S → Type 0) →
     ((old : S) (call : C) (answer : A) (new : S) → is_sound old → owes_no_wake old → step old call answer new → is_sound new × owes_no_wake new) →
     ((past : List (C × A)) (old : S) (call : C) (answer : A) (new : S) → is_sound old → owes_no_wake old → recalls past old → step old call answer new → recalls ((call, answer) ∷ past) new) →
     (past : List (C × A)) (old : S) (entries : List (C × A)) (new : S) → is_sound old → owes_no_wake old → recalls past old →
     IsRun step old entries new → is_sound new × owes_no_wake new × recalls (past_after entries past) new
-run_keeps {S} {C} {A} step is_sound owes_no_wake recalls keeps remembers past old [] new sound no_wake recalled run =
-    subst (λ (s : S). is_sound s × owes_no_wake s × recalls past s) (sym run) (sound, no_wake, recalled)
-run_keeps step is_sound owes_no_wake recalls keeps remembers past old (entry ∷ entries) new sound no_wake recalled run =
-    let kept : is_sound run.0 × owes_no_wake run.0 = keeps old entry.0 entry.1 run.0 sound no_wake run.1 in
-    run_keeps step is_sound owes_no_wake recalls keeps remembers (entry ∷ past) run.0 entries new kept.0 kept.1
-    (remembers past old entry.0 entry.1 run.0 sound no_wake recalled run.1) run.2
+run_keeps {S} {C} {A} step is_sound owes_no_wake recalls keeps remembers past old entries new sound no_wake recalled run =
+    run_recalls step (λ (now : List (C × A)) (s : S). is_sound s × owes_no_wake s × recalls now s)
+    (λ now before call answer after was taken.
+    let kept : is_sound after × owes_no_wake after = keeps before call answer after was.0 was.1 taken in
+    (kept.0, kept.1, remembers now before call answer after was.0 was.1 was.2 taken))
+    past old entries new (sound, no_wake, recalled) run

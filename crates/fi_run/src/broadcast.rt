@@ -1,6 +1,6 @@
 //! The oneshot broadcast channel as a primitive.
 ghost use Rattle.std.specs.Prelude.{◌≡◌, List, [], IsOk, IfOk, IfErr};
-ghost use Rattle.fi_channels.specs.Oneshot.{OneshotMachine, OwesNoWake};
+ghost use Rattle.fi_channels.specs.Oneshot.{OneshotMachine, IsSound, OwesNoWake};
 ghost use Rattle.fi_run.specs.Oneshot.{Opens, BroadcastStep};
 ghost use Rattle.fi_run.specs.OneshotPast.{accepted, new_closes, KeptFits, Delivers, WakersAreKept};
 ghost use Rattle.fi_run.specs.Run.{IsRun, past_after};
@@ -109,6 +109,8 @@ pub fn every_run_of_a_oneshot_broadcast<T: Clone, W: Drop>()
         Opens tt first → IsRun (BroadcastStep T.is_clone) first entries now → WakersAreKept (past_after entries []) now }
     ensures no_wake { (first now : OneshotMachine T W) (entries : List (OneshotCall T W × Answer T W)) →
         Opens tt first → IsRun (BroadcastStep T.is_clone) first entries now → OwesNoWake now }
+    ensures no_wake_onward { (first now : OneshotMachine T W) (entries : List (OneshotCall T W × Answer T W)) →
+        IsSound first → OwesNoWake first → IsRun (BroadcastStep T.is_clone) first entries now → IsSound now × OwesNoWake now }
 {
     every_run::<OneshotBroadcastState<T, W>>();
 }

@@ -1,6 +1,6 @@
 //! The event as a primitive.
 ghost use Rattle.std.specs.Prelude.{◌≡◌, Bool, ℕ, List, [], IsOk, IfOk, IfErr};
-ghost use Rattle.fi_channels.specs.Event.{EventMachine, OwesNoWake};
+ghost use Rattle.fi_channels.specs.Event.{EventMachine, IsSound, OwesNoWake};
 ghost use Rattle.fi_run.specs.Event.{Opens, Step};
 ghost use Rattle.fi_run.specs.EventPast.{PollsAreRight, WakersAreKept};
 ghost use Rattle.fi_run.specs.Run.{IsRun, past_after};
@@ -114,6 +114,7 @@ impl<W: Drop> Primitive for EventState<W> {
 
 /// In each run from an opening, a poll that is not refused is ready exactly if the event was set at some moment
 /// from the wait's first poll to then; and a pending wait's last waker is registered, stands in the outbox, or was given since.
+/// After a run from any sound state that owes no wake none is owed.
 pub fn every_run_of_an_event<W: Drop>()
     ensures polls { (opening : Bool) (first now : EventMachine W) (entries : List (EventCall W × Answer ℕ W)) →
         Opens opening first → IsRun Step first entries now → PollsAreRight opening (past_after entries []) }
@@ -121,6 +122,8 @@ pub fn every_run_of_an_event<W: Drop>()
         Opens opening first → IsRun Step first entries now → WakersAreKept (past_after entries []) now }
     ensures no_wake { (opening : Bool) (first now : EventMachine W) (entries : List (EventCall W × Answer ℕ W)) →
         Opens opening first → IsRun Step first entries now → OwesNoWake now }
+    ensures no_wake_onward { (first now : EventMachine W) (entries : List (EventCall W × Answer ℕ W)) →
+        IsSound first → OwesNoWake first → IsRun Step first entries now → IsSound now × OwesNoWake now }
 {
     every_run::<EventState<W>>();
 }

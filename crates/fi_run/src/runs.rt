@@ -87,9 +87,15 @@ pub fn run<P: Primitive>(
 }
 
 /// The theorem over all runs: in each state that any run from an opening reaches no wake is owed, and the past says what it
-/// says. Each primitive says its own promises in words of its own, as `every_run_of_an_event` does.
+/// says. So it is of a run from any sound state that owes no wake: none is owed after it, and what a past said of that state, it
+/// says with the run of the new one. Each primitive says its own promises in words of its own, as `every_run_of_an_event` does.
 pub fn every_run<P: Primitive>()
-    ensures { (opening : P.Opening) (first : P) (entries : List (P.Call × P.Answer)) (now : P) →
+    ensures opened { (opening : P.Opening) (first : P) (entries : List (P.Call × P.Answer)) (now : P) →
         P.opens opening first → IsRun P.step first entries now →
         P.is_sound now × P.owes_no_wake now × P.recalls opening (past_after entries []) now }
+    ensures onward { (opening : P.Opening) (past : List (P.Call × P.Answer)) (first : P) (entries : List (P.Call × P.Answer)) (now : P) →
+        P.is_sound first → P.owes_no_wake first → P.recalls opening past first → IsRun P.step first entries now →
+        P.is_sound now × P.owes_no_wake now × P.recalls opening (past_after entries past) now }
+    ensures no_wake_onward { (first : P) (entries : List (P.Call × P.Answer)) (now : P) →
+        P.is_sound first → P.owes_no_wake first → IsRun P.step first entries now → P.is_sound now × P.owes_no_wake now }
 {}

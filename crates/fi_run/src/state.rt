@@ -1,6 +1,6 @@
 //! The state broadcast as a primitive.
 ghost use Rattle.std.specs.Prelude.{◌≡◌, ◌<◌, ◌^◌, ℕ, List, [], IsOk, IfOk, IfErr};
-ghost use Rattle.fi_channels.specs.StateBroadcast.{StateMachine, OwesNoWake};
+ghost use Rattle.fi_channels.specs.StateBroadcast.{StateMachine, IsSound, OwesNoWake};
 ghost use Rattle.fi_run.specs.State.{Opens, Step};
 ghost use Rattle.fi_run.specs.StatePast.{new_closes, OpenFits, StatesAreNewest, WakersAreKept};
 ghost use Rattle.fi_run.specs.StateAnswer.{answer_of};
@@ -139,6 +139,8 @@ pub fn every_run_of_a_state_broadcast<T: Clone, W: Drop>()
         Opens tt first → IsRun (Step T.is_clone) first entries now → WakersAreKept (past_after entries []) now }
     ensures no_wake { (first now : StateMachine T W) (entries : List (StateCall T W × Answer T W)) →
         Opens tt first → IsRun (Step T.is_clone) first entries now → OwesNoWake now }
+    ensures no_wake_onward { (first now : StateMachine T W) (entries : List (StateCall T W × Answer T W)) →
+        IsSound first → OwesNoWake first → IsRun (Step T.is_clone) first entries now → IsSound now × OwesNoWake now }
 {
     every_run::<StateBroadcastState<T, W>>();
 }

@@ -1,16 +1,19 @@
 use Rattle.fi_run.proofs.state.every_run_of_a_state_broadcast.Goals as goal
 
 pub returns-clause-states : goal.returns-clause-states
-returns-clause-states g c first now entries opens run = (c.every_run.ensures tt first entries now opens run).2.states
+returns-clause-states g c first now entries opens run = (c.every_run.ensures.opened tt first entries now opens run).2.states
 
 pub returns-clause-closed : goal.returns-clause-closed
-returns-clause-closed g c first now entries opens run = (c.every_run.ensures tt first entries now opens run).2.is_open
+returns-clause-closed g c first now entries opens run = (c.every_run.ensures.opened tt first entries now opens run).2.is_open
 
 pub returns-clause-fits : goal.returns-clause-fits
-returns-clause-fits g c first now entries opens run = (c.every_run.ensures tt first entries now opens run).0.number
+returns-clause-fits g c first now entries opens run = (c.every_run.ensures.opened tt first entries now opens run).0.number
 
 pub returns-clause-wakers : goal.returns-clause-wakers
-returns-clause-wakers g c first now entries opens run = (c.every_run.ensures tt first entries now opens run).2.wakers
+returns-clause-wakers g c first now entries opens run = (c.every_run.ensures.opened tt first entries now opens run).2.wakers
 
 pub returns-clause-no_wake : goal.returns-clause-no_wake
-returns-clause-no_wake g c first now entries opens run = (c.every_run.ensures tt first entries now opens run).1
+returns-clause-no_wake g c first now entries opens run = (c.every_run.ensures.opened tt first entries now opens run).1
+
+pub returns-clause-no_wake_onward : goal.returns-clause-no_wake_onward
+returns-clause-no_wake_onward g c first now entries sound no_wake run = c.every_run.ensures.no_wake_onward first entries now sound no_wake run
