@@ -14,23 +14,11 @@ use Rattle.fi_run.specs.declared.oneshot.OneshotCall.{OneshotCall}
 use Rattle.fi_run.specs.declared.oneshot.OneshotCall.TheVariants.{Receive, Poll, Cancel, Send, Close, NextWake}
 use Rattle.fi_run.specs.Oneshot.{lacks_clone, BroadcastStep, Opens}
 use Rattle.fi_run.specs.OneshotPast.{accepted, new_closes, oneshot_deed, KeptFits, DeliversAfter, BroadcastRecalls}
-use Rattle.fi_run.specs.OneshotLaws.{ready_pending, ready_same, sent_content, refused_content, closed_content, still_content, step_keeps, ends, pends, carries}
+use Rattle.fi_run.specs.OneshotLaws.{full_same, full_empty, full_spent, nil_cons, ready_pending, ready_same, sent_content, refused_content, closed_content, still_content, step_keeps, ends, pends, carries}
 use Rattle.fi_run.specs.WakersLaws.{wakers_kept}
 
 none_some : {X : Type 0} (x : X) → ◌≡◌ {A = Option X} None (Some x) → ⊥
 none_some x e = cc
-
-full_same : {T : Type 0} (x y : T) → Full x ≡ Full y → x ≡ y
-full_same x y e = cc
-
-full_empty : {T : Type 0} (x : T) → Full x ≡ Empty → ⊥
-full_empty x e = cc
-
-full_spent : {T : Type 0} (x : T) → Full x ≡ Spent → ⊥
-full_spent x e = cc
-
-nil_cons : {X : Type 0} (x : X) (xs : List X) → ◌≡◌ {A = List X} [] (x ∷ xs) → ⊥
-nil_cons x xs e = cc
 
 head_same : {X : Type 0} (x y : X) (xs ys : List X) → x ∷ xs ≡ y ∷ ys → x ≡ y
 head_same x y xs ys e = cc
@@ -66,7 +54,7 @@ module _ {T W : Type 0} (is_clone : T → T → Type 0) where
   given old new name waker item taken = was_given old.content old new name waker item refl (ends (Clones is_clone) (clones_ends is_clone) lacks_clone old new name waker item taken).gave
 
   -- the content after each step
-  content_recalled : (past : List (OneshotCall T W × Answer T W)) (old : OneshotMachine T W) (call : OneshotCall T W) (answer : Answer T W) (new : OneshotMachine T W) →
+  pub content_recalled : (past : List (OneshotCall T W × Answer T W)) (old : OneshotMachine T W) (call : OneshotCall T W) (answer : Answer T W) (new : OneshotMachine T W) →
       KeptFits old.content (accepted past) (new_closes past) → BroadcastStep is_clone old call answer new →
       KeptFits new.content (accepted ((call, answer) ∷ past)) (new_closes ((call, answer) ∷ past))
   content_recalled past old call (Refused fault) new fits taken = kept_at old.content new.content _ _ (ap (λ (s : OneshotMachine T W). s.content) taken.1) fits
@@ -89,7 +77,7 @@ module _ {T W : Type 0} (is_clone : T → T → Type 0) where
   content_recalled past old call answer new fits taken = absurd taken
 
   -- what a call was answered while the channel held this value
-  delivers_after : (value : T) (earlier : List T) (old : OneshotMachine T W) (call : OneshotCall T W) (answer : Answer T W) (new : OneshotMachine T W) → OwesNoWake old → old.content ≡ Full value →
+  pub delivers_after : (value : T) (earlier : List T) (old : OneshotMachine T W) (call : OneshotCall T W) (answer : Answer T W) (new : OneshotMachine T W) → OwesNoWake old → old.content ≡ Full value →
       BroadcastStep is_clone old call answer new → DeliversAfter is_clone (value ∷ earlier) call answer
   delivers_after value earlier old (Poll slot waker) (Item copy) new no_wake full taken =
       let was = (given old new slot.0 waker (Some copy) taken).1 in

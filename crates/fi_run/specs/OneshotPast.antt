@@ -8,7 +8,7 @@ use Rattle.fi_parts.specs.declared.errors.Fault.TheVariants.{NoMemory, NoSlot}
 use Rattle.fi_channels.specs.declared.one_value.Content.{Content}
 use Rattle.fi_channels.specs.declared.one_value.Content.TheVariants.{Empty, Full, Spent}
 use Rattle.fi_channels.specs.Oneshot.{OneshotMachine}
-use Rattle.fi_run.specs.Wakers.{Deed, woken, KeepsWakers}
+use Rattle.fi_run.specs.Wakers.{Deed, IsIn, woken, KeepsWakers}
 use Rattle.fi_run.specs.Wakers.Deed.{Pends, Leaves, Rests}
 
 module _ {T : Type 0} where
@@ -27,6 +27,21 @@ module _ {T : Type 0} where
   KeptFits Empty sent closes = (sent ≡ []) × (closes ≡ 0)
   KeptFits (Full value) sent closes = (sent ≡ value ∷ []) × (closes ≡ 0)
   KeptFits Spent sent closes = (sent ≡ []) × (closes ≡ 1)
+
+  -- What a oneshot that held this at first holds now says which sends, values received and closes there were since.
+  abbrev pub TakenFitsFrom : Content T → Content T → List T → List T → ℕ → Type 0
+  TakenFitsFrom Empty now sent got closes = TakenFits now sent got closes
+  TakenFitsFrom (Full value) now sent got closes = (sent ≡ []) × (closes ≡ 0) × (((now ≡ Full value) × (got ≡ [])) ⊎ ((now ≡ Spent) × (got ≡ value ∷ [])))
+  TakenFitsFrom Spent now sent got closes = (sent ≡ []) × (closes ≡ 0) × (now ≡ Spent) × (got ≡ [])
+
+  -- What a broadcast that held this at first holds now says which sends and closes there were since: what it held it keeps.
+  abbrev pub KeptFitsFrom : Content T → Content T → List T → ℕ → Type 0
+  KeptFitsFrom Empty now sent closes = KeptFits now sent closes
+  KeptFitsFrom held now sent closes = (now ≡ held) × (sent ≡ []) × (closes ≡ 0)
+
+  -- what has left Empty is never Empty again
+  abbrev pub NeverEmptyAgain : Content T → Content T → Type 0
+  NeverEmptyAgain first now = now ≡ Empty → first ≡ Empty
 
 module _ {T W : Type 0} where
   abbrev pub accepted_step : OneshotCall T W → Answer T W → List T → List T
@@ -82,6 +97,17 @@ module _ {T W : Type 0} where
   abbrev pub IsSettledOnce : List (OneshotCall T W × Answer T W) → Type 0
   IsSettledOnce past = length (accepted past) + new_closes past ≤ 1
 
+  -- At most one receive got a value: that of the one accepted send if the channel was empty at first, the value that it held if it was full, and none got one if it was spent.
+  abbrev pub GivesOnceFrom : Content T → List (OneshotCall T W × Answer T W) → Type 0
+  GivesOnceFrom Empty past = GivesOnce past
+  GivesOnceFrom (Full value) past = (received past ≡ []) ⊎ (received past ≡ value ∷ [])
+  GivesOnceFrom Spent past = received past ≡ []
+
+  -- At most one send was accepted or close answered Newly, and never both; if the channel was not empty at first, there was neither.
+  abbrev pub IsSettledFrom : Content T → List (OneshotCall T W × Answer T W) → Type 0
+  IsSettledFrom Empty past = IsSettledOnce past
+  IsSettledFrom held past = (accepted past ≡ []) × (new_closes past ≡ 0)
+
   -- a call and its answer, after these sends were accepted
   abbrev pub DeliversAfter : (T → T → Type 0) → List T → OneshotCall T W → Answer T W → Type 0
   DeliversAfter is_clone [] call answer = ⊤
@@ -95,6 +121,16 @@ module _ {T W : Type 0} where
   abbrev pub Delivers : (T → T → Type 0) → List (OneshotCall T W × Answer T W) → Type 0
   Delivers is_clone [] = ⊤
   Delivers is_clone (entry ∷ past) = DeliversAfter is_clone (accepted past) entry.0 entry.1 × Delivers is_clone past
+
+  -- the channel held this value at first, or a send of it was accepted since
+  abbrev pub WasPutIn : Content T → List (OneshotCall T W × Answer T W) → T → Type 0
+  WasPutIn first past value = (first ≡ Full value) ⊎ IsIn value (accepted past)
+
+  -- a clone of this value, or a refusal for want of the clone's memory
+  abbrev pub GivesCopy : (T → T → Type 0) → T → Answer T W → Type 0
+  GivesCopy is_clone value (Item copy) = is_clone value copy
+  GivesCopy is_clone value (Refused NoMemory) = ⊤
+  GivesCopy is_clone value answer = ⊥
 
   -- What the opening and the past of a oneshot say of the state now.
   pub record Recalls (opening : Unit {0}) (past : List (OneshotCall T W × Answer T W)) (state : OneshotMachine T W) : Type 0 where

@@ -42,7 +42,7 @@ module _ {T W : Type 0} where
       subst (λ (o : Option T). WasGiven o old new) (sym (ready_same item None move.0)) (is, ap (λ (s : OneshotMachine T W). s.content) move.1 ∙ is)
 
   -- the content after each step
-  content_recalled : (past : List (OneshotCall T W × Answer T W)) (old : OneshotMachine T W) (call : OneshotCall T W) (answer : Answer T W) (new : OneshotMachine T W) →
+  pub content_recalled : (past : List (OneshotCall T W × Answer T W)) (old : OneshotMachine T W) (call : OneshotCall T W) (answer : Answer T W) (new : OneshotMachine T W) →
       TakenFits old.content (accepted past) (received past) (new_closes past) → Step old call answer new →
       TakenFits new.content (accepted ((call, answer) ∷ past)) (received ((call, answer) ∷ past)) (new_closes ((call, answer) ∷ past))
   content_recalled past old call (Refused fault) new fits taken = fits_at old.content new.content _ _ _ (ap (λ (s : OneshotMachine T W). s.content) taken.1) fits
@@ -83,7 +83,7 @@ module _ {T W : Type 0} where
   }
 
   -- what the content says in plain words
-  once_by : (content : Content T) (past : List (OneshotCall T W × Answer T W)) → TakenFits content (accepted past) (received past) (new_closes past) → GivesOnce past × IsSettledOnce past
+  pub once_by : (content : Content T) (past : List (OneshotCall T W × Answer T W)) → TakenFits content (accepted past) (received past) (new_closes past) → GivesOnce past × IsSettledOnce past
   once_by Empty past fits = (inl fits.1, rw (fits.0, fits.2) (omega arith))
   once_by (Full value) past fits = (inl fits.1, rw (fits.0, fits.2) (omega arith))
   once_by Spent past fits = elim fits [

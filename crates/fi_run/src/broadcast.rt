@@ -1,11 +1,14 @@
 //! The oneshot broadcast channel as a primitive.
-ghost use Rattle.std.specs.Prelude.{◌≡◌, List, [], IsOk, IfOk, IfErr};
-ghost use Rattle.fi_channels.specs.Oneshot.{OneshotMachine, IsSound, OwesNoWake};
+ghost use Rattle.std.specs.Prelude.{◌≡◌, true, List, [], IsOk, IfOk, IfErr};
+ghost use Rattle.fi_parts.specs.Waiting.{phase_of};
+ghost use Rattle.fi_parts.specs.declared.errors.Slot.{Slot};
+ghost use Rattle.fi_channels.specs.Oneshot.{OneshotMachine, can_receive, IsSound, OwesNoWake};
 ghost use Rattle.fi_run.specs.Oneshot.{Opens, BroadcastStep};
-ghost use Rattle.fi_run.specs.OneshotPast.{accepted, new_closes, KeptFits, Delivers, WakersAreKept};
+ghost use Rattle.fi_run.specs.OneshotPast.{accepted, new_closes, KeptFits, KeptFitsFrom, NeverEmptyAgain, IsSettledFrom, Delivers, WasPutIn, GivesCopy, WakersAreKept};
 ghost use Rattle.fi_run.specs.Run.{IsRun, past_after};
 ghost use Rattle.fi_run.specs.declared.answer.Answer.{Answer};
 ghost use Rattle.fi_run.specs.declared.oneshot.OneshotCall.{OneshotCall};
+ghost use Rattle.fi_run.specs.declared.oneshot.OneshotCall.TheVariants as calls;
 
 use crate::answer::Answer;
 use crate::oneshot::OneshotCall;
@@ -99,6 +102,10 @@ impl<T: Clone, W: Drop> Primitive for OneshotBroadcastState<T, W> {
 /// is not refused gives a clone of its value, whatever is closed later; at most one send is accepted or close answered
 /// `Newly`, and what left empty never returns; a pending receive's last waker is registered, stands in the outbox, or was
 /// given since; and no wake is owed.
+///
+/// And what every run from any state keeps: a channel that was not empty at first holds the same, accepts no send, and no close is
+/// new; and if the state was sound and owed no wake, none is owed, and once a value was sent, or if it was held at first, a poll of a
+/// receive that may be polled gives a clone of it or is refused for want of the clone's memory.
 pub fn every_run_of_a_oneshot_broadcast<T: Clone, W: Drop>()
     ensures deliveries { (first now : OneshotMachine T W) (entries : List (OneshotCall T W × Answer T W)) →
         Opens tt first → IsRun (BroadcastStep T.is_clone) first entries now → Delivers T.is_clone (past_after entries []) }
@@ -109,6 +116,16 @@ pub fn every_run_of_a_oneshot_broadcast<T: Clone, W: Drop>()
         Opens tt first → IsRun (BroadcastStep T.is_clone) first entries now → WakersAreKept (past_after entries []) now }
     ensures no_wake { (first now : OneshotMachine T W) (entries : List (OneshotCall T W × Answer T W)) →
         Opens tt first → IsRun (BroadcastStep T.is_clone) first entries now → OwesNoWake now }
+    ensures copies_onward { (first mid new : OneshotMachine T W) (entries : List (OneshotCall T W × Answer T W)) (value : T) (slot : Slot) (waker : W) (answer : Answer T W) →
+        IsSound first → OwesNoWake first → IsRun (BroadcastStep T.is_clone) first entries mid → WasPutIn first.content (past_after entries []) value →
+        can_receive (phase_of mid.receives slot.0) ≡ true → BroadcastStep T.is_clone mid (calls.Poll slot waker) answer new → GivesCopy T.is_clone value answer }
+    ensures settled_onward { (first now : OneshotMachine T W) (entries : List (OneshotCall T W × Answer T W)) →
+        IsRun (BroadcastStep T.is_clone) first entries now → IsSettledFrom first.content (past_after entries []) }
+    ensures left_onward { (first now : OneshotMachine T W) (entries : List (OneshotCall T W × Answer T W)) →
+        IsRun (BroadcastStep T.is_clone) first entries now → NeverEmptyAgain first.content now.content }
+    ensures content_onward { (first now : OneshotMachine T W) (entries : List (OneshotCall T W × Answer T W)) →
+        IsRun (BroadcastStep T.is_clone) first entries now →
+        KeptFitsFrom first.content now.content (accepted (past_after entries [])) (new_closes (past_after entries [])) }
     ensures no_wake_onward { (first now : OneshotMachine T W) (entries : List (OneshotCall T W × Answer T W)) →
         IsSound first → OwesNoWake first → IsRun (BroadcastStep T.is_clone) first entries now → IsSound now × OwesNoWake now }
 {

@@ -2,7 +2,7 @@
 ghost use Rattle.std.specs.Prelude.{◌≡◌, List, [], IsOk, IfOk, IfErr};
 ghost use Rattle.fi_channels.specs.Oneshot.{OneshotMachine, IsSound, OwesNoWake};
 ghost use Rattle.fi_run.specs.Oneshot.{Opens, Step};
-ghost use Rattle.fi_run.specs.OneshotPast.{accepted, received, new_closes, TakenFits, GivesOnce, IsSettledOnce, WakersAreKept};
+ghost use Rattle.fi_run.specs.OneshotPast.{accepted, received, new_closes, TakenFits, TakenFitsFrom, NeverEmptyAgain, GivesOnce, GivesOnceFrom, IsSettledOnce, IsSettledFrom, WakersAreKept};
 ghost use Rattle.fi_run.specs.Run.{IsRun, past_after};
 ghost use Rattle.fi_run.specs.declared.answer.Answer.{Answer};
 ghost use Rattle.fi_run.specs.declared.oneshot.OneshotCall.{OneshotCall};
@@ -114,6 +114,10 @@ impl<T: Drop, W: Drop> Primitive for OneshotState<T, W> {
 /// What every run of a oneshot channel from its opening keeps: at most one receive gets the value of the one accepted send,
 /// at most one send is accepted or close answered `Newly`, what left empty never returns, a pending receive's last waker is
 /// registered, stands in the outbox, or was given since, and no wake is owed.
+///
+/// And what every run from any state keeps: the same of its one value, where a value that the channel held at first is the only
+/// one that a receive can get, and a channel that was not empty at first accepts no send and no close is new; what left empty
+/// never returns; and no wake is owed, if the state was sound and owed none.
 pub fn every_run_of_a_oneshot<T: Drop, W: Drop>()
     ensures once { (first now : OneshotMachine T W) (entries : List (OneshotCall T W × Answer T W)) →
         Opens tt first → IsRun Step first entries now → GivesOnce (past_after entries []) }
@@ -126,6 +130,15 @@ pub fn every_run_of_a_oneshot<T: Drop, W: Drop>()
         Opens tt first → IsRun Step first entries now → WakersAreKept (past_after entries []) now }
     ensures no_wake { (first now : OneshotMachine T W) (entries : List (OneshotCall T W × Answer T W)) →
         Opens tt first → IsRun Step first entries now → OwesNoWake now }
+    ensures once_onward { (first now : OneshotMachine T W) (entries : List (OneshotCall T W × Answer T W)) →
+        IsRun Step first entries now → GivesOnceFrom first.content (past_after entries []) }
+    ensures settled_onward { (first now : OneshotMachine T W) (entries : List (OneshotCall T W × Answer T W)) →
+        IsRun Step first entries now → IsSettledFrom first.content (past_after entries []) }
+    ensures left_onward { (first now : OneshotMachine T W) (entries : List (OneshotCall T W × Answer T W)) →
+        IsRun Step first entries now → NeverEmptyAgain first.content now.content }
+    ensures content_onward { (first now : OneshotMachine T W) (entries : List (OneshotCall T W × Answer T W)) →
+        IsRun Step first entries now →
+        TakenFitsFrom first.content now.content (accepted (past_after entries [])) (received (past_after entries [])) (new_closes (past_after entries [])) }
     ensures no_wake_onward { (first now : OneshotMachine T W) (entries : List (OneshotCall T W × Answer T W)) →
         IsSound first → OwesNoWake first → IsRun Step first entries now → IsSound now × OwesNoWake now }
 {
