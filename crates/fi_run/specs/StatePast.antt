@@ -20,10 +20,25 @@ module _ {T : Type 0} where
   IsNewest is_clone (last ∷ earlier) (Some asked) number copy = (number ≡ length (last ∷ earlier)) × (asked < number) × is_clone last copy
   IsNewest is_clone sent asked number copy = ⊥
 
+  -- the newest state after these sends, where this was the newest before
+  abbrev pub newest_from : Option T → List T → Option T
+  newest_from before [] = before
+  newest_from before (value ∷ earlier) = Some value
+
+  -- there is a value, and this is its clone
+  abbrev pub IsCopyOf : (T → T → Type 0) → Option T → T → Type 0
+  IsCopyOf is_clone None copy = ⊥
+  IsCopyOf is_clone (Some value) copy = is_clone value copy
+
 -- whether a channel is open says how many closes were new
 abbrev pub OpenFits : Bool → ℕ → Type 0
 OpenFits true closes = closes ≡ 0
 OpenFits false closes = closes ≡ 1
+
+-- The same where the channel stood so at first: if it was closed it still is, and no close was new.
+abbrev pub OpenFitsFrom : Bool → Bool → ℕ → Type 0
+OpenFitsFrom true is_open closes = OpenFits is_open closes
+OpenFitsFrom false is_open closes = (is_open ≡ false) × (closes ≡ 0)
 
 module _ {T W : Type 0} where
   abbrev pub sends_step : StateCall T W → Answer T W → List T → List T
@@ -56,6 +71,28 @@ module _ {T W : Type 0} where
   abbrev pub StatesAreNewest : (T → T → Type 0) → List (StateCall T W × Answer T W) → Type 0
   StatesAreNewest is_clone [] = ⊤
   StatesAreNewest is_clone (entry ∷ past) = GivesNewest is_clone entry.0 entry.1 past × StatesAreNewest is_clone past
+
+  -- the number that the last receive of this name was made with; if none was made since, the one that it asked for at first
+  abbrev pub asked_from : StateMachine T W → ℕ → List (StateCall T W × Answer T W) → Option ℕ
+  asked_from first name [] = asks_of first.receives name
+  asked_from first name (entry ∷ past) = asked_step name entry.0 entry.1 (asked_from first name past)
+
+  -- After these sends since the first state, this is a clone of the newest state; its number is that of the first and one more for each send, and greater than the one asked.
+  abbrev pub IsNewestFrom : (T → T → Type 0) → StateMachine T W → List T → Option ℕ → ℕ → T → Type 0
+  IsNewestFrom is_clone first sent None number copy = ⊥
+  IsNewestFrom is_clone first sent (Some asked) number copy = (number ≡ first.number + length sent) × (asked < number) × IsCopyOf is_clone (newest_from first.value sent) copy
+
+  -- an entry that delivered a state delivered the newest after these sends since the first state, where the receives had asked so
+  abbrev pub GivesNewestFrom : (T → T → Type 0) → StateMachine T W → List T → (ℕ → Option ℕ) → StateCall T W → Answer T W → Type 0
+  GivesNewestFrom is_clone first sent asked (Poll slot waker) (State id copy) = IsNewestFrom is_clone first sent (asked slot.0) id copy
+  GivesNewestFrom is_clone first sent asked (TryReceive seen) (State id copy) = IsNewestFrom is_clone first sent (Some seen) id copy
+  GivesNewestFrom is_clone first sent asked call answer = ⊤
+
+  -- Each state that was delivered since the first state was the newest then, and newer than the one asked.
+  abbrev pub StatesAreNewestFrom : (T → T → Type 0) → StateMachine T W → List (StateCall T W × Answer T W) → Type 0
+  StatesAreNewestFrom is_clone first [] = ⊤
+  StatesAreNewestFrom is_clone first (entry ∷ past) =
+      GivesNewestFrom is_clone first (sends past) (λ name. asked_from first name past) entry.0 entry.1 × StatesAreNewestFrom is_clone first past
 
   abbrev pub closes_step : StateCall T W → Answer T W → ℕ → ℕ
   closes_step call (Refused fault) n = n

@@ -1,5 +1,5 @@
 -- What the runs of a state broadcast keep.
-use Rattle.std.specs.Prelude.{◌≡◌, ℕ, ◌==◌, ◌+◌, ◌<◌, nat_lt, if◌then◌else◌, Bool, true, false, MatchBool, Option, Some, None, Result, Ok, Err, List, [], ◌∷◌, ◌++◌, length, refl}
+use Rattle.std.specs.Prelude.{◌≡◌, ℕ, ◌==◌, ◌+◌, nat_lt, if◌then◌else◌, Bool, true, false, MatchBool, Option, Some, None, Result, Ok, Err, List, [], ◌∷◌, ◌++◌, length, refl}
 use Rattle.std.proofs.Common.{sym, ◌∙◌, ap, subst, inl, inr, arith}
 use Rattle.std.proofs.lemmas.Bool.{eq-eqb, ne_eqb, cases_eq, ltb-true}
 use Rattle.std.specs.Ordering.{nat_cmp}
@@ -15,14 +15,14 @@ use Rattle.fi_parts.specs.Pairs.{without_pair}
 use Rattle.fi_parts.specs.Waiting.{Side, phase_of, asks_in, asks_of, with_phase, made, forgotten, named_all}
 use Rattle.fi_parts.proofs.Live.{get-insert_same, get-insert_other, get-remove_same, get-remove_other}
 use Rattle.fi_parts.proofs.Waiting.{Becomes, becomes-made, becomes-with_phase, becomes-forgotten, lives_as, asks-with_phase, asks-with_phases}
-use Rattle.fi_channels.specs.StateBroadcast.{StateMachine, newer_than, newer_for, CopyOf, FreshWaits, FreshPolls, PollsAs, Polls, all_named, can_send, IsSound, OwesNoWake}
+use Rattle.fi_channels.specs.StateBroadcast.{StateMachine, opened, newer_than, newer_for, CopyOf, FreshWaits, FreshPolls, PollsAs, Polls, all_named, can_send, IsSound, OwesNoWake}
 use Rattle.fi_channels.specs.StateLaws.{well, opened_well, makes_well, polls_well, cancels_well, sends_well, closes_well, wakes_well}
 use Rattle.fi_run.specs.declared.answer.Answer.{Answer}
 use Rattle.fi_run.specs.declared.answer.Answer.TheVariants.{Made, Pending, State, Nothing, Done, Newly, Already, Woken, Back, Refused}
 use Rattle.fi_run.specs.declared.state.StateCall.{StateCall}
 use Rattle.fi_run.specs.declared.state.StateCall.TheVariants.{Receive, Poll, Cancel, TryReceive, Send, Close, NextWake}
 use Rattle.fi_run.specs.State.{Step, Opens}
-use Rattle.fi_run.specs.StatePast.{newest, IsNewest, OpenFits, sends, asked_by, GivesNewest, new_closes, state_deed, Recalls}
+use Rattle.fi_run.specs.StatePast.{newest, newest_from, IsNewest, IsNewestFrom, IsCopyOf, OpenFits, sends_step, sends, asked_step, asked_by, GivesNewest, GivesNewestFrom, closes_step, new_closes, state_deed, Recalls}
 use Rattle.fi_run.specs.OneshotLaws.{ready_pending, pending_ready, ready_same}
 use Rattle.fi_run.specs.Wakers.Deed.{Rests}
 use Rattle.fi_run.specs.WakersLaws.{if_true, if_false, CarriesOn, wakers_kept, others_stay, others_stay_named, all_stay, queue_named, oldest_woken}
@@ -47,6 +47,18 @@ copy_is is_clone None number id copy cloned = absurd (none_some (id, copy) (sym 
 copy_is {T} is_clone (Some value) number id copy cloned =
     let pair : (id, copy) ≡ (number, cloned.0) = some_same (id, copy) (number, cloned.0) cloned.2 in
     (value, refl, subst (λ (c : T). is_clone value c) (sym (ap (λ (p : ℕ × T). p.1) pair)) cloned.1, ap (λ (p : ℕ × T). p.0) pair)
+
+newest_opened : {T : Type 0} (sent : List T) → newest_from None sent ≡ newest sent
+newest_opened [] = refl
+newest_opened (last ∷ earlier) = refl
+
+-- the newest since the opening
+is_newest_opened : {T : Type 0} (W : Type 0) (is_clone : T → T → Type 0) (sent : List T) (asked : Option ℕ) (number : ℕ) (copy : T) → IsNewestFrom is_clone (opened {T = T} {W = W}) sent asked number copy →
+    IsNewest is_clone sent asked number copy
+is_newest_opened W is_clone [] None number copy is = absurd is
+is_newest_opened W is_clone [] (Some asked) number copy is = absurd is.2
+is_newest_opened W is_clone (last ∷ earlier) None number copy is = absurd is
+is_newest_opened W is_clone (last ∷ earlier) (Some asked) number copy is = (omega (arith, is.0), is.1, is.2)
 
 module _ {T W : Type 0} (is_clone : T → T → Type 0) where
   pub state_keeps : (old : StateMachine T W) (call : StateCall T W) (answer : Answer T W) (new : StateMachine T W) →
@@ -160,9 +172,9 @@ module _ {T W : Type 0} (is_clone : T → T → Type 0) where
   abbrev Sent : StateMachine T W → T → StateMachine T W → Type 0
   Sent old value new = new ≡ record (all_named old) { number = old.number + 1; value = Some value }
 
-  sent : (can : Bool) (old new : StateMachine T W) (value : T) → MatchBool can ((◌≡◌ {A = Result (Unit {0}) (ChannelSendError T)} (Ok tt) (Ok tt)) × Sent old value new) ((◌≡◌ {A = Result (Unit {0}) (ChannelSendError T)} (Ok tt) (Err (record { 0 = value }))) × (new ≡ old)) → Sent old value new
-  sent true old new value move = move.1
-  sent false old new value move = absurd (ok_err value move.0)
+  was_sent : (can : Bool) (old new : StateMachine T W) (value : T) → MatchBool can ((◌≡◌ {A = Result (Unit {0}) (ChannelSendError T)} (Ok tt) (Ok tt)) × Sent old value new) ((◌≡◌ {A = Result (Unit {0}) (ChannelSendError T)} (Ok tt) (Err (record { 0 = value }))) × (new ≡ old)) → Sent old value new
+  was_sent true old new value move = move.1
+  was_sent false old new value move = absurd (ok_err value move.0)
 
   not_sent : (can : Bool) (old new : StateMachine T W) (value : T) → MatchBool can ((◌≡◌ {A = Result (Unit {0}) (ChannelSendError T)} (Err (record { 0 = value })) (Ok tt)) × Sent old value new) ((◌≡◌ {A = Result (Unit {0}) (ChannelSendError T)} (Err (record { 0 = value })) (Err (record { 0 = value }))) × (new ≡ old)) → new ≡ old
   not_sent true old new value move = absurd (err_ok value move.0)
@@ -207,7 +219,7 @@ module _ {T W : Type 0} (is_clone : T → T → Type 0) where
       (subst (λ (s : StateMachine T W). Becomes old.receives s.receives slot.0 None) (sym taken.1) (becomes-forgotten old.receives slot.0)) (ap (λ (s : StateMachine T W). s.out) taken.1)
   carries old (TryReceive asked) (State id value) new sound taken = carries_same old new taken.1
   carries old (TryReceive asked) Nothing new sound taken = carries_same old new taken.1
-  carries old (Send value) Done new sound taken = carries_named old new sound (ap (λ (s : StateMachine T W). s.out) (sent (can_send old) old new value taken))
+  carries old (Send value) Done new sound taken = carries_named old new sound (ap (λ (s : StateMachine T W). s.out) (was_sent (can_send old) old new value taken))
   carries old (Send value) (Back back Closed) new sound taken = carries_same old new (not_sent (can_send old) old new value taken.1)
   carries old Close Newly new sound taken = carries_named old new sound (ap (λ (s : StateMachine T W). s.out) (newly old.is_open old new taken).1)
   carries old Close Already new sound taken = carries_same old new (already old.is_open old new taken)
@@ -216,133 +228,136 @@ module _ {T W : Type 0} (is_clone : T → T → Type 0) where
   carries old call answer new sound taken = absurd taken
 
   -- the number and the state
-  abbrev Counts : List (StateCall T W × Answer T W) → StateMachine T W → Type 0
-  Counts past state = (state.number ≡ length (sends past)) × (state.value ≡ newest (sends past))
+  abbrev pub Counts : StateMachine T W → List T → StateMachine T W → Type 0
+  Counts first sent state = (state.number ≡ first.number + length sent) × (state.value ≡ newest_from first.value sent)
 
-  sends_same : (past : List (StateCall T W × Answer T W)) (old new : StateMachine T W) → new.number ≡ old.number → new.value ≡ old.value → Counts past old → Counts past new
-  sends_same past old new number value was = (number ∙ was.0, value ∙ was.1)
+  sends_same : (first : StateMachine T W) (sent : List T) (old new : StateMachine T W) → new.number ≡ old.number → new.value ≡ old.value → Counts first sent old → Counts first sent new
+  sends_same first sent old new number value was = (number ∙ was.0, value ∙ was.1)
 
-  sends_kept : (past : List (StateCall T W × Answer T W)) (old new : StateMachine T W) → new ≡ old → Counts past old → Counts past new
-  sends_kept past old new is was = subst (Counts past) (sym is) was
+  sends_kept : (first : StateMachine T W) (sent : List T) (old new : StateMachine T W) → new ≡ old → Counts first sent old → Counts first sent new
+  sends_kept first sent old new is was = subst (Counts first sent) (sym is) was
 
-  sends_recalled : (past : List (StateCall T W × Answer T W)) (old : StateMachine T W) (call : StateCall T W) (answer : Answer T W) (new : StateMachine T W) →
-      Counts past old → Step is_clone old call answer new → Counts ((call, answer) ∷ past) new
-  sends_recalled past old call (Refused fault) new was taken = sends_kept past old new taken.1 was
-  sends_recalled past old (Receive asked) (Made slot) new was taken = sends_same past old new (ap (λ (s : StateMachine T W). s.number) taken.1) (ap (λ (s : StateMachine T W). s.value) taken.1) was
-  sends_recalled past old (Poll slot waker) Pending new was taken = let did = pends old new slot.0 waker taken in sends_same past old new did.same.number did.same.value was
-  sends_recalled past old (Poll slot waker) (State id value) new was taken = let did = ends old new slot.0 waker (Some (id, value)) taken in sends_same past old new did.same.number did.same.value was
-  sends_recalled past old (Poll slot waker) Nothing new was taken = let did = ends old new slot.0 waker None taken in sends_same past old new did.same.number did.same.value was
-  sends_recalled past old (Cancel slot) Done new was taken = sends_same past old new (ap (λ (s : StateMachine T W). s.number) taken.1) (ap (λ (s : StateMachine T W). s.value) taken.1) was
-  sends_recalled past old (TryReceive asked) (State id value) new was taken = sends_kept past old new taken.1 was
-  sends_recalled past old (TryReceive asked) Nothing new was taken = sends_kept past old new taken.1 was
-  sends_recalled past old (Send value) Done new was taken =
-      let is = sent (can_send old) old new value taken in
+  pub sends_recalled : (first : StateMachine T W) (sent : List T) (old : StateMachine T W) (call : StateCall T W) (answer : Answer T W) (new : StateMachine T W) →
+      Counts first sent old → Step is_clone old call answer new → Counts first (sends_step call answer sent) new
+  sends_recalled first sent old call (Refused fault) new was taken = sends_kept first sent old new taken.1 was
+  sends_recalled first sent old (Receive asked) (Made slot) new was taken = sends_same first sent old new (ap (λ (s : StateMachine T W). s.number) taken.1) (ap (λ (s : StateMachine T W). s.value) taken.1) was
+  sends_recalled first sent old (Poll slot waker) Pending new was taken = let did = pends old new slot.0 waker taken in sends_same first sent old new did.same.number did.same.value was
+  sends_recalled first sent old (Poll slot waker) (State id value) new was taken = let did = ends old new slot.0 waker (Some (id, value)) taken in sends_same first sent old new did.same.number did.same.value was
+  sends_recalled first sent old (Poll slot waker) Nothing new was taken = let did = ends old new slot.0 waker None taken in sends_same first sent old new did.same.number did.same.value was
+  sends_recalled first sent old (Cancel slot) Done new was taken = sends_same first sent old new (ap (λ (s : StateMachine T W). s.number) taken.1) (ap (λ (s : StateMachine T W). s.value) taken.1) was
+  sends_recalled first sent old (TryReceive asked) (State id value) new was taken = sends_kept first sent old new taken.1 was
+  sends_recalled first sent old (TryReceive asked) Nothing new was taken = sends_kept first sent old new taken.1 was
+  sends_recalled first sent old (Send value) Done new was taken =
+      let is = was_sent (can_send old) old new value taken in
       let number : new.number ≡ old.number + 1 = ap (λ (s : StateMachine T W). s.number) is in
       (omega (arith, number, was.0), ap (λ (s : StateMachine T W). s.value) is)
-  sends_recalled past old (Send value) (Back back Closed) new was taken = sends_kept past old new (not_sent (can_send old) old new value taken.1) was
-  sends_recalled past old Close Newly new was taken =
-      let is = (newly old.is_open old new taken).1 in sends_same past old new (ap (λ (s : StateMachine T W). s.number) is) (ap (λ (s : StateMachine T W). s.value) is) was
-  sends_recalled past old Close Already new was taken = sends_kept past old new (already old.is_open old new taken) was
-  sends_recalled past old NextWake (Woken waker) new was taken = sends_same past old new (ap (λ (s : StateMachine T W). s.number) taken.1) (ap (λ (s : StateMachine T W). s.value) taken.1) was
-  sends_recalled past old call answer new was taken = absurd taken
+  sends_recalled first sent old (Send value) (Back back Closed) new was taken = sends_kept first sent old new (not_sent (can_send old) old new value taken.1) was
+  sends_recalled first sent old Close Newly new was taken =
+      let is = (newly old.is_open old new taken).1 in sends_same first sent old new (ap (λ (s : StateMachine T W). s.number) is) (ap (λ (s : StateMachine T W). s.value) is) was
+  sends_recalled first sent old Close Already new was taken = sends_kept first sent old new (already old.is_open old new taken) was
+  sends_recalled first sent old NextWake (Woken waker) new was taken = sends_same first sent old new (ap (λ (s : StateMachine T W). s.number) taken.1) (ap (λ (s : StateMachine T W). s.value) taken.1) was
+  sends_recalled first sent old call answer new was taken = absurd taken
 
   -- open or closed
-  open_recalled : (past : List (StateCall T W × Answer T W)) (old : StateMachine T W) (call : StateCall T W) (answer : Answer T W) (new : StateMachine T W) →
-      OpenFits old.is_open (new_closes past) → Step is_clone old call answer new → OpenFits new.is_open (new_closes ((call, answer) ∷ past))
-  open_recalled past old call (Refused fault) new was taken = open_at _ old.is_open new.is_open (ap (λ (s : StateMachine T W). s.is_open) taken.1) was
-  open_recalled past old (Receive asked) (Made slot) new was taken = open_at _ old.is_open new.is_open (ap (λ (s : StateMachine T W). s.is_open) taken.1) was
-  open_recalled past old (Poll slot waker) Pending new was taken = open_at _ old.is_open new.is_open (pends old new slot.0 waker taken).same.is_open was
-  open_recalled past old (Poll slot waker) (State id value) new was taken = open_at _ old.is_open new.is_open (ends old new slot.0 waker (Some (id, value)) taken).same.is_open was
-  open_recalled past old (Poll slot waker) Nothing new was taken = open_at _ old.is_open new.is_open (ends old new slot.0 waker None taken).same.is_open was
-  open_recalled past old (Cancel slot) Done new was taken = open_at _ old.is_open new.is_open (ap (λ (s : StateMachine T W). s.is_open) taken.1) was
-  open_recalled past old (TryReceive asked) (State id value) new was taken = open_at _ old.is_open new.is_open (ap (λ (s : StateMachine T W). s.is_open) taken.1) was
-  open_recalled past old (TryReceive asked) Nothing new was taken = open_at _ old.is_open new.is_open (ap (λ (s : StateMachine T W). s.is_open) taken.1) was
-  open_recalled past old (Send value) Done new was taken = open_at _ old.is_open new.is_open (ap (λ (s : StateMachine T W). s.is_open) (sent (can_send old) old new value taken)) was
-  open_recalled past old (Send value) (Back back Closed) new was taken = open_at _ old.is_open new.is_open (ap (λ (s : StateMachine T W). s.is_open) (not_sent (can_send old) old new value taken.1)) was
-  open_recalled past old Close Newly new was taken =
+  pub open_recalled : (closes : ℕ) (old : StateMachine T W) (call : StateCall T W) (answer : Answer T W) (new : StateMachine T W) →
+      OpenFits old.is_open closes → Step is_clone old call answer new → OpenFits new.is_open (closes_step call answer closes)
+  open_recalled closes old call (Refused fault) new was taken = open_at _ old.is_open new.is_open (ap (λ (s : StateMachine T W). s.is_open) taken.1) was
+  open_recalled closes old (Receive asked) (Made slot) new was taken = open_at _ old.is_open new.is_open (ap (λ (s : StateMachine T W). s.is_open) taken.1) was
+  open_recalled closes old (Poll slot waker) Pending new was taken = open_at _ old.is_open new.is_open (pends old new slot.0 waker taken).same.is_open was
+  open_recalled closes old (Poll slot waker) (State id value) new was taken = open_at _ old.is_open new.is_open (ends old new slot.0 waker (Some (id, value)) taken).same.is_open was
+  open_recalled closes old (Poll slot waker) Nothing new was taken = open_at _ old.is_open new.is_open (ends old new slot.0 waker None taken).same.is_open was
+  open_recalled closes old (Cancel slot) Done new was taken = open_at _ old.is_open new.is_open (ap (λ (s : StateMachine T W). s.is_open) taken.1) was
+  open_recalled closes old (TryReceive asked) (State id value) new was taken = open_at _ old.is_open new.is_open (ap (λ (s : StateMachine T W). s.is_open) taken.1) was
+  open_recalled closes old (TryReceive asked) Nothing new was taken = open_at _ old.is_open new.is_open (ap (λ (s : StateMachine T W). s.is_open) taken.1) was
+  open_recalled closes old (Send value) Done new was taken = open_at _ old.is_open new.is_open (ap (λ (s : StateMachine T W). s.is_open) (was_sent (can_send old) old new value taken)) was
+  open_recalled closes old (Send value) (Back back Closed) new was taken = open_at _ old.is_open new.is_open (ap (λ (s : StateMachine T W). s.is_open) (not_sent (can_send old) old new value taken.1)) was
+  open_recalled closes old Close Newly new was taken =
       let did = newly old.is_open old new taken in
-      let none : new_closes past ≡ 0 = open_at (new_closes past) old.is_open true (sym did.0) was in
+      let none : closes ≡ 0 = open_at closes old.is_open true (sym did.0) was in
       open_at _ false new.is_open (ap (λ (s : StateMachine T W). s.is_open) did.1) (ap (λ n. n + 1) none)
-  open_recalled past old Close Already new was taken = open_at _ old.is_open new.is_open (ap (λ (s : StateMachine T W). s.is_open) (already old.is_open old new taken)) was
-  open_recalled past old NextWake (Woken waker) new was taken = open_at _ old.is_open new.is_open (ap (λ (s : StateMachine T W). s.is_open) taken.1) was
-  open_recalled past old call answer new was taken = absurd taken
+  open_recalled closes old Close Already new was taken = open_at _ old.is_open new.is_open (ap (λ (s : StateMachine T W). s.is_open) (already old.is_open old new taken)) was
+  open_recalled closes old NextWake (Woken waker) new was taken = open_at _ old.is_open new.is_open (ap (λ (s : StateMachine T W). s.is_open) taken.1) was
+  open_recalled closes old call answer new was taken = absurd taken
 
   -- what each receive asked for
-  abbrev Asks : List (StateCall T W × Answer T W) → StateMachine T W → Type 0
-  Asks past state = (name asked : ℕ) → asks_of state.receives name ≡ Some asked → asked_by name past ≡ Some asked
+  abbrev pub Asks : (ℕ → Option ℕ) → StateMachine T W → Type 0
+  Asks asked_now state = (name asked : ℕ) → asks_of state.receives name ≡ Some asked → asked_now name ≡ Some asked
 
-  asks_same : (past : List (StateCall T W × Answer T W)) (old new : StateMachine T W) → ((q : ℕ) → asks_of new.receives q ≡ asks_of old.receives q) → Asks past old → Asks past new
-  asks_same past old new same was name asked is = was name asked (sym (same name) ∙ is)
+  asks_same : (asked_now : ℕ → Option ℕ) (old new : StateMachine T W) → ((q : ℕ) → asks_of new.receives q ≡ asks_of old.receives q) → Asks asked_now old → Asks asked_now new
+  asks_same asked_now old new same was name asked is = was name asked (sym (same name) ∙ is)
 
-  asks_kept : (past : List (StateCall T W × Answer T W)) (old new : StateMachine T W) → new.receives ≡ old.receives → Asks past old → Asks past new
-  asks_kept past old new is was = asks_same past old new (λ q. ap (λ (s : Side ℕ W). asks_of s q) is) was
+  asks_kept : (asked_now : ℕ → Option ℕ) (old new : StateMachine T W) → new.receives ≡ old.receives → Asks asked_now old → Asks asked_now new
+  asks_kept asked_now old new is was = asks_same asked_now old new (λ q. ap (λ (s : Side ℕ W). asks_of s q) is) was
 
-  asks_named : (past : List (StateCall T W × Answer T W)) (old new : StateMachine T W) → new.receives ≡ (all_named old).receives → Asks past old → Asks past new
-  asks_named past old new is was = asks_same past old new (λ q. ap (λ (s : Side ℕ W). asks_of s q) is ∙ asks-with_phases Fresh old.receives.queue old.receives.live q) was
+  asks_named : (asked_now : ℕ → Option ℕ) (old new : StateMachine T W) → new.receives ≡ (all_named old).receives → Asks asked_now old → Asks asked_now new
+  asks_named asked_now old new is was = asks_same asked_now old new (λ q. ap (λ (s : Side ℕ W). asks_of s q) is ∙ asks-with_phases Fresh old.receives.queue old.receives.live q) was
 
-  asks_made : (past : List (StateCall T W × Answer T W)) (old new : StateMachine T W) (name asked : ℕ) → new.receives ≡ made old.receives name asked → Asks past old →
-      (q other : ℕ) → asks_of new.receives q ≡ Some other → (if name == q then Some asked else asked_by q past) ≡ Some other
-  asks_made past old new name asked is was q other asks = elim (cases_eq name q) [
+  asks_made : (asked_now : ℕ → Option ℕ) (old new : StateMachine T W) (name asked : ℕ) → new.receives ≡ made old.receives name asked → Asks asked_now old →
+      (q other : ℕ) → asks_of new.receives q ≡ Some other → (if name == q then Some asked else asked_now q) ≡ Some other
+  asks_made asked_now old new name asked is was q other asks = elim (cases_eq name q) [
     | inl same ↦
-        if_true (name == q) (Some asked) (asked_by q past) (eq-eqb name q same)
+        if_true (name == q) (Some asked) (asked_now q) (eq-eqb name q same)
         ∙ sym (ap asks_in (get-insert_same old.receives.live name _)) ∙ ap (λ (s : Side ℕ W). asks_of s name) (sym is) ∙ ap (asks_of new.receives) same ∙ asks
     | inr ne ↦
-        if_false (name == q) (Some asked) (asked_by q past) (ne_eqb name q ne)
+        if_false (name == q) (Some asked) (asked_now q) (ne_eqb name q ne)
         ∙ was q other (sym (ap asks_in (get-insert_other old.receives.live name _ q (λ e. ne (sym e)))) ∙ ap (λ (s : Side ℕ W). asks_of s q) (sym is) ∙ asks)
   ]
 
-  asks_forgotten : (past : List (StateCall T W × Answer T W)) (old new : StateMachine T W) (name : ℕ) → new.receives ≡ forgotten old.receives name → Asks past old → Asks past new
-  asks_forgotten past old new name is was q other asks = elim (cases_eq q name) [
+  asks_forgotten : (asked_now : ℕ → Option ℕ) (old new : StateMachine T W) (name : ℕ) → new.receives ≡ forgotten old.receives name → Asks asked_now old → Asks asked_now new
+  asks_forgotten asked_now old new name is was q other asks = elim (cases_eq q name) [
     | inl same ↦ absurd (none_some other (sym (ap asks_in (get-remove_same old.receives.live name)) ∙ ap (λ (s : Side ℕ W). asks_of s name) (sym is) ∙ ap (asks_of new.receives) (sym same) ∙ asks))
     | inr ne ↦ was q other (sym (ap asks_in (get-remove_other old.receives.live name q ne)) ∙ ap (λ (s : Side ℕ W). asks_of s q) (sym is) ∙ asks)
   ]
 
-  asks_recalled : (past : List (StateCall T W × Answer T W)) (old : StateMachine T W) (call : StateCall T W) (answer : Answer T W) (new : StateMachine T W) →
-      Asks past old → Step is_clone old call answer new → Asks ((call, answer) ∷ past) new
-  asks_recalled past old call (Refused fault) new was taken = asks_kept past old new (ap (λ (s : StateMachine T W). s.receives) taken.1) was
-  asks_recalled past old (Receive asked) (Made slot) new was taken = asks_made past old new slot.0 asked (ap (λ (s : StateMachine T W). s.receives) taken.1) was
-  asks_recalled past old (Poll slot waker) Pending new was taken = asks_same past old new (pends old new slot.0 waker taken).same.asks was
-  asks_recalled past old (Poll slot waker) (State id value) new was taken = asks_same past old new (ends old new slot.0 waker (Some (id, value)) taken).same.asks was
-  asks_recalled past old (Poll slot waker) Nothing new was taken = asks_same past old new (ends old new slot.0 waker None taken).same.asks was
-  asks_recalled past old (Cancel slot) Done new was taken = asks_forgotten past old new slot.0 (ap (λ (s : StateMachine T W). s.receives) taken.1) was
-  asks_recalled past old (TryReceive asked) (State id value) new was taken = asks_kept past old new (ap (λ (s : StateMachine T W). s.receives) taken.1) was
-  asks_recalled past old (TryReceive asked) Nothing new was taken = asks_kept past old new (ap (λ (s : StateMachine T W). s.receives) taken.1) was
-  asks_recalled past old (Send value) Done new was taken = asks_named past old new (ap (λ (s : StateMachine T W). s.receives) (sent (can_send old) old new value taken)) was
-  asks_recalled past old (Send value) (Back back Closed) new was taken = asks_kept past old new (ap (λ (s : StateMachine T W). s.receives) (not_sent (can_send old) old new value taken.1)) was
-  asks_recalled past old Close Newly new was taken = asks_named past old new (ap (λ (s : StateMachine T W). s.receives) (newly old.is_open old new taken).1) was
-  asks_recalled past old Close Already new was taken = asks_kept past old new (ap (λ (s : StateMachine T W). s.receives) (already old.is_open old new taken)) was
-  asks_recalled past old NextWake (Woken waker) new was taken = asks_kept past old new (ap (λ (s : StateMachine T W). s.receives) taken.1) was
-  asks_recalled past old call answer new was taken = absurd taken
+  pub asks_recalled : (asked_now : ℕ → Option ℕ) (old : StateMachine T W) (call : StateCall T W) (answer : Answer T W) (new : StateMachine T W) →
+      Asks asked_now old → Step is_clone old call answer new → Asks (λ name. asked_step name call answer (asked_now name)) new
+  asks_recalled asked_now old call (Refused fault) new was taken = asks_kept asked_now old new (ap (λ (s : StateMachine T W). s.receives) taken.1) was
+  asks_recalled asked_now old (Receive asked) (Made slot) new was taken = asks_made asked_now old new slot.0 asked (ap (λ (s : StateMachine T W). s.receives) taken.1) was
+  asks_recalled asked_now old (Poll slot waker) Pending new was taken = asks_same asked_now old new (pends old new slot.0 waker taken).same.asks was
+  asks_recalled asked_now old (Poll slot waker) (State id value) new was taken = asks_same asked_now old new (ends old new slot.0 waker (Some (id, value)) taken).same.asks was
+  asks_recalled asked_now old (Poll slot waker) Nothing new was taken = asks_same asked_now old new (ends old new slot.0 waker None taken).same.asks was
+  asks_recalled asked_now old (Cancel slot) Done new was taken = asks_forgotten asked_now old new slot.0 (ap (λ (s : StateMachine T W). s.receives) taken.1) was
+  asks_recalled asked_now old (TryReceive asked) (State id value) new was taken = asks_kept asked_now old new (ap (λ (s : StateMachine T W). s.receives) taken.1) was
+  asks_recalled asked_now old (TryReceive asked) Nothing new was taken = asks_kept asked_now old new (ap (λ (s : StateMachine T W). s.receives) taken.1) was
+  asks_recalled asked_now old (Send value) Done new was taken = asks_named asked_now old new (ap (λ (s : StateMachine T W). s.receives) (was_sent (can_send old) old new value taken)) was
+  asks_recalled asked_now old (Send value) (Back back Closed) new was taken = asks_kept asked_now old new (ap (λ (s : StateMachine T W). s.receives) (not_sent (can_send old) old new value taken.1)) was
+  asks_recalled asked_now old Close Newly new was taken = asks_named asked_now old new (ap (λ (s : StateMachine T W). s.receives) (newly old.is_open old new taken).1) was
+  asks_recalled asked_now old Close Already new was taken = asks_kept asked_now old new (ap (λ (s : StateMachine T W). s.receives) (already old.is_open old new taken)) was
+  asks_recalled asked_now old NextWake (Woken waker) new was taken = asks_kept asked_now old new (ap (λ (s : StateMachine T W). s.receives) taken.1) was
+  asks_recalled asked_now old call answer new was taken = absurd taken
 
   -- a state that is newer than the one asked is the newest that was sent
-  newest_by : (sent : List T) (old : StateMachine T W) (asked : ℕ) (value copy : T) → old.number ≡ length sent → old.value ≡ newest sent → newer_than old asked ≡ Some value → is_clone value copy →
-      IsNewest is_clone sent (Some asked) old.number copy
-  newest_by sent old asked value copy number held newer cloned = each (nat_lt asked old.number) refl
+  newest_by : (first : StateMachine T W) (sent : List T) (old : StateMachine T W) (asked : ℕ) (value copy : T) → Counts first sent old → newer_than old asked ≡ Some value → is_clone value copy →
+      IsNewestFrom is_clone first sent (Some asked) old.number copy
+  newest_by first sent old asked value copy counted newer cloned = each (nat_lt asked old.number) refl
     where
-      newest_of : (sent : List T) → old.number ≡ length sent → old.value ≡ newest sent → asked < old.number → old.value ≡ Some value → IsNewest is_clone sent (Some asked) old.number copy
-      newest_of [] number held below is = absurd (none_some value (sym held ∙ is))
-      newest_of (last ∷ earlier) number held below is = (number, below, subst (λ (v : T). is_clone v copy) (some_same value last (sym is ∙ held)) cloned)
-
-      each : (b : Bool) → nat_lt asked old.number ≡ b → IsNewest is_clone sent (Some asked) old.number copy
-      each true is = newest_of sent number held (ltb-true asked old.number is) (sym (if_true (nat_lt asked old.number) old.value None is) ∙ newer)
+      each : (b : Bool) → nat_lt asked old.number ≡ b → IsNewestFrom is_clone first sent (Some asked) old.number copy
+      each true is =
+          let held : ◌≡◌ {A = Option T} (Some value) (newest_from first.value sent) = sym newer ∙ if_true (nat_lt asked old.number) old.value None is ∙ counted.1 in
+          (counted.0, ltb-true asked old.number is, subst (λ (o : Option T). IsCopyOf is_clone o copy) held cloned)
       each false is = absurd (none_some value (sym (if_false (nat_lt asked old.number) old.value None is) ∙ newer))
 
-  newest_for : (past : List (StateCall T W × Answer T W)) (old : StateMachine T W) (name : ℕ) (asked : Option ℕ) (value copy : T) → asks_of old.receives name ≡ asked → Counts past old → Asks past old → newer_for old asked ≡ Some value →
-      is_clone value copy → IsNewest is_clone (sends past) (asked_by name past) old.number copy
-  newest_for past old name None value copy is counted asks newer cloned = absurd (none_some value newer)
-  newest_for past old name (Some asked) value copy is counted asks newer cloned =
-      rw (asks name asked is) (newest_by (sends past) old asked value copy counted.0 counted.1 newer cloned)
+  newest_for : (first : StateMachine T W) (sent : List T) (asked_now : ℕ → Option ℕ) (old : StateMachine T W) (name : ℕ) (asked : Option ℕ) (value copy : T) → asks_of old.receives name ≡ asked → Counts first sent old →
+      Asks asked_now old → newer_for old asked ≡ Some value → is_clone value copy → IsNewestFrom is_clone first sent (asked_now name) old.number copy
+  newest_for first sent asked_now old name None value copy is counted asks newer cloned = absurd (none_some value newer)
+  newest_for first sent asked_now old name (Some asked) value copy is counted asks newer cloned =
+      rw (asks name asked is) (newest_by first sent old asked value copy counted newer cloned)
 
-  gives_newest : (past : List (StateCall T W × Answer T W)) (old : StateMachine T W) (call : StateCall T W) (answer : Answer T W) (new : StateMachine T W) → Counts past old → Asks past old →
-      Step is_clone old call answer new → GivesNewest is_clone call answer past
-  gives_newest past old (Poll slot waker) (State id copy) new counted asks taken =
+  pub gives_newest : (first : StateMachine T W) (sent : List T) (asked_now : ℕ → Option ℕ) (old : StateMachine T W) (call : StateCall T W) (answer : Answer T W) (new : StateMachine T W) → Counts first sent old → Asks asked_now old →
+      Step is_clone old call answer new → GivesNewestFrom is_clone first sent asked_now call answer
+  gives_newest first sent asked_now old (Poll slot waker) (State id copy) new counted asks taken =
       let given = (ends old new slot.0 waker (Some (id, copy)) taken).given in
-      subst (λ (n : ℕ). IsNewest is_clone (sends past) (asked_by slot.0 past) n copy) (sym given.3)
-      (newest_for past old slot.0 (asks_of old.receives slot.0) given.0 copy refl counted asks given.1 given.2)
-  gives_newest past old (TryReceive asked) (State id copy) new counted asks taken =
+      subst (λ (n : ℕ). IsNewestFrom is_clone first sent (asked_now slot.0) n copy) (sym given.3)
+      (newest_for first sent asked_now old slot.0 (asks_of old.receives slot.0) given.0 copy refl counted asks given.1 given.2)
+  gives_newest first sent asked_now old (TryReceive asked) (State id copy) new counted asks taken =
       let given = copy_is is_clone (newer_than old asked) old.number id copy taken.0 in
-      subst (λ (n : ℕ). IsNewest is_clone (sends past) (Some asked) n copy) (sym given.3) (newest_by (sends past) old asked given.0 copy counted.0 counted.1 given.1 given.2)
-  gives_newest past old call answer new counted asks taken = tt
+      subst (λ (n : ℕ). IsNewestFrom is_clone first sent (Some asked) n copy) (sym given.3) (newest_by first sent old asked given.0 copy counted given.1 given.2)
+  gives_newest first sent asked_now old call answer new counted asks taken = tt
+
+  gives_newest_opened : (past : List (StateCall T W × Answer T W)) (call : StateCall T W) (answer : Answer T W) → GivesNewestFrom is_clone opened (sends past) (λ name. asked_by name past) call answer → GivesNewest is_clone call answer past
+  gives_newest_opened past (Poll slot waker) (State id copy) gives = is_newest_opened W is_clone (sends past) (asked_by slot.0 past) id copy gives
+  gives_newest_opened past (TryReceive asked) (State id copy) gives = is_newest_opened W is_clone (sends past) (Some asked) id copy gives
+  gives_newest_opened past call answer gives = tt
 
   pub state_starts : (opening : Unit {0}) (state : StateMachine T W) → Opens opening state → IsSound state × OwesNoWake state × Recalls is_clone opening [] state
   state_starts opening state opens =
@@ -363,13 +378,13 @@ module _ {T W : Type 0} (is_clone : T → T → Type 0) where
   pub state_recalls : (opening : Unit {0}) (past : List (StateCall T W × Answer T W)) (old : StateMachine T W) (call : StateCall T W) (answer : Answer T W) (new : StateMachine T W) →
       IsSound old → OwesNoWake old → Recalls is_clone opening past old → Step is_clone old call answer new → Recalls is_clone opening ((call, answer) ∷ past) new
   state_recalls opening past old call answer new sound no_wake recalled taken =
-      let counted : Counts past old = (recalled.number, recalled.value) in
-      let now = sends_recalled past old call answer new counted taken in
+      let counted : Counts opened (sends past) old = (omega (arith, recalled.number), recalled.value ∙ sym (newest_opened (sends past))) in
+      let now = sends_recalled opened (sends past) old call answer new counted taken in
       record {
-        number = now.0;
-        value = now.1;
-        is_open = open_recalled past old call answer new recalled.is_open taken;
-        asked = asks_recalled past old call answer new recalled.asked taken;
-        states = (gives_newest past old call answer new counted recalled.asked taken, recalled.states);
+        number = omega (arith, now.0);
+        value = now.1 ∙ newest_opened (sends_step call answer (sends past));
+        is_open = open_recalled (new_closes past) old call answer new recalled.is_open taken;
+        asked = asks_recalled (λ name. asked_by name past) old call answer new recalled.asked taken;
+        states = (gives_newest_opened past call answer (gives_newest opened (sends past) (λ name. asked_by name past) old call answer new counted recalled.asked taken), recalled.states);
         wakers = wakers_kept (λ entry. state_deed entry.0 entry.1) past (call, answer) old.receives new.receives old.out new.out recalled.wakers (carries old call answer new sound taken);
       }

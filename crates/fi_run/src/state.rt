@@ -1,8 +1,8 @@
 //! The state broadcast as a primitive.
-ghost use Rattle.std.specs.Prelude.{◌≡◌, ◌<◌, ◌^◌, ℕ, List, [], IsOk, IfOk, IfErr};
+ghost use Rattle.std.specs.Prelude.{◌≡◌, ◌<◌, ◌+◌, ◌^◌, ℕ, List, [], length, IsOk, IfOk, IfErr};
 ghost use Rattle.fi_channels.specs.StateBroadcast.{StateMachine, IsSound, OwesNoWake};
 ghost use Rattle.fi_run.specs.State.{Opens, Step};
-ghost use Rattle.fi_run.specs.StatePast.{new_closes, OpenFits, StatesAreNewest, WakersAreKept};
+ghost use Rattle.fi_run.specs.StatePast.{sends, new_closes, OpenFits, OpenFitsFrom, StatesAreNewest, StatesAreNewestFrom, WakersAreKept};
 ghost use Rattle.fi_run.specs.StateAnswer.{answer_of};
 ghost use Rattle.fi_run.specs.Run.{IsRun, past_after};
 ghost use Rattle.fi_run.specs.declared.answer.Answer.{Answer};
@@ -128,6 +128,10 @@ fn received<T, W>(state: Result<Option<(StateId, T)>, Fault>) -> Answer<T, W>
 /// one asked, which is how many sends were accepted by then, and is a clone of the last one's value; the first close is the
 /// one that is answered `Newly`, and a closed channel stays closed; a pending receive's last waker is registered, stands in
 /// the outbox, or was given since; and no wake is owed.
+///
+/// And what every run from any state keeps: each state that was delivered has a number greater than the one asked, which is the
+/// first state's number and one more for each send by then, and is a clone of the newest value; the number never falls; at most one
+/// close is answered `Newly`, and what was closed at first stays closed; and no wake is owed, if the state was sound and owed none.
 pub fn every_run_of_a_state_broadcast<T: Clone, W: Drop>()
     ensures states { (first now : StateMachine T W) (entries : List (StateCall T W × Answer T W)) →
         Opens tt first → IsRun (Step T.is_clone) first entries now → StatesAreNewest T.is_clone (past_after entries []) }
@@ -139,6 +143,12 @@ pub fn every_run_of_a_state_broadcast<T: Clone, W: Drop>()
         Opens tt first → IsRun (Step T.is_clone) first entries now → WakersAreKept (past_after entries []) now }
     ensures no_wake { (first now : StateMachine T W) (entries : List (StateCall T W × Answer T W)) →
         Opens tt first → IsRun (Step T.is_clone) first entries now → OwesNoWake now }
+    ensures states_onward { (first now : StateMachine T W) (entries : List (StateCall T W × Answer T W)) →
+        IsRun (Step T.is_clone) first entries now → StatesAreNewestFrom T.is_clone first (past_after entries []) }
+    ensures number_onward { (first now : StateMachine T W) (entries : List (StateCall T W × Answer T W)) →
+        IsRun (Step T.is_clone) first entries now → now.number ≡ first.number + length (sends (past_after entries [])) }
+    ensures closed_onward { (first now : StateMachine T W) (entries : List (StateCall T W × Answer T W)) →
+        IsRun (Step T.is_clone) first entries now → OpenFitsFrom first.is_open now.is_open (new_closes (past_after entries [])) }
     ensures no_wake_onward { (first now : StateMachine T W) (entries : List (StateCall T W × Answer T W)) →
         IsSound first → OwesNoWake first → IsRun (Step T.is_clone) first entries now → IsSound now × OwesNoWake now }
 {
