@@ -1,8 +1,9 @@
 //! The state broadcast as a primitive.
-ghost use Rattle.std.specs.Prelude.{◌≡◌, ◌<◌, ◌+◌, ◌^◌, ℕ, List, [], length, IsOk, IfOk, IfErr};
+ghost use Rattle.std.specs.Prelude.{◌≡◌, ◌<◌, ◌+◌, ◌^◌, ℕ, Some, List, [], length, IsOk, IfOk, IfErr};
+ghost use Rattle.fi_parts.specs.Waiting.{asks_of};
 ghost use Rattle.fi_channels.specs.StateBroadcast.{StateMachine, IsSound, OwesNoWake};
 ghost use Rattle.fi_run.specs.State.{Opens, Step};
-ghost use Rattle.fi_run.specs.StatePast.{sends, new_closes, OpenFits, OpenFitsFrom, StatesAreNewest, StatesAreNewestFrom, WakersAreKept};
+ghost use Rattle.fi_run.specs.StatePast.{sends, asked_from, new_closes, OpenFits, OpenFitsFrom, StatesAreNewest, StatesAreNewestFrom, WakersAreKept};
 ghost use Rattle.fi_run.specs.StateAnswer.{answer_of};
 ghost use Rattle.fi_run.specs.Run.{IsRun, past_after};
 ghost use Rattle.fi_run.specs.declared.answer.Answer.{Answer};
@@ -130,8 +131,9 @@ fn received<T, W>(state: Result<Option<(StateId, T)>, Fault>) -> Answer<T, W>
 /// the outbox, or was given since; and no wake is owed.
 ///
 /// And what every run from any state keeps: each state that was delivered has a number greater than the one asked, which is the
-/// first state's number and one more for each send by then, and is a clone of the newest value; the number never falls; at most one
-/// close is answered `Newly`, and what was closed at first stays closed; and no wake is owed, if the state was sound and owed none.
+/// first state's number and one more for each send by then, and is a clone of the newest value; a live receive asks for what its
+/// name was last made with, or, if it was not made since, for what it asked at first; the number never falls; at most one close is
+/// answered `Newly`, and what was closed at first stays closed; and no wake is owed, if the state was sound and owed none.
 pub fn every_run_of_a_state_broadcast<T: Clone, W: Drop>()
     ensures states { (first now : StateMachine T W) (entries : List (StateCall T W × Answer T W)) →
         Opens tt first → IsRun (Step T.is_clone) first entries now → StatesAreNewest T.is_clone (past_after entries []) }
@@ -145,6 +147,8 @@ pub fn every_run_of_a_state_broadcast<T: Clone, W: Drop>()
         Opens tt first → IsRun (Step T.is_clone) first entries now → OwesNoWake now }
     ensures states_onward { (first now : StateMachine T W) (entries : List (StateCall T W × Answer T W)) →
         IsRun (Step T.is_clone) first entries now → StatesAreNewestFrom T.is_clone first (past_after entries []) }
+    ensures asked_onward { (first now : StateMachine T W) (entries : List (StateCall T W × Answer T W)) (name asked : ℕ) →
+        IsRun (Step T.is_clone) first entries now → asks_of now.receives name ≡ Some asked → asked_from first name (past_after entries []) ≡ Some asked }
     ensures number_onward { (first now : StateMachine T W) (entries : List (StateCall T W × Answer T W)) →
         IsRun (Step T.is_clone) first entries now → now.number ≡ first.number + length (sends (past_after entries [])) }
     ensures closed_onward { (first now : StateMachine T W) (entries : List (StateCall T W × Answer T W)) →

@@ -27,3 +27,6 @@ returns-clause-number_onward g c first now entries run = (recalls_onward g.T.Clo
 
 pub returns-clause-closed_onward : goal.returns-clause-closed_onward
 returns-clause-closed_onward g c first now entries run = open_onward g.T.Clone.is_clone first entries now run
+
+pub returns-clause-asked_onward : goal.returns-clause-asked_onward
+returns-clause-asked_onward g c first now entries name asked run asks = (recalls_onward g.T.Clone.is_clone first entries now run).asked name asked asks
