@@ -14,11 +14,17 @@ use Rattle.fi_run.specs.declared.oneshot.OneshotCall.{OneshotCall}
 use Rattle.fi_run.specs.declared.oneshot.OneshotCall.TheVariants.{Receive, Poll, Cancel, Send, Close, NextWake}
 use Rattle.fi_run.specs.Oneshot.{lacks_clone, BroadcastStep, Opens}
 use Rattle.fi_run.specs.OneshotPast.{accepted, new_closes, oneshot_deed, KeptFits, DeliversAfter, BroadcastRecalls}
-use Rattle.fi_run.specs.OneshotLaws.{full_same, full_empty, full_spent, nil_cons, ready_pending, ready_same, sent_content, refused_content, closed_content, still_content, step_keeps, ends, pends, carries}
+use Rattle.fi_run.specs.OneshotLaws.{full_empty, full_spent, ready_pending, ready_same, sent_content, refused_content, closed_content, still_content, step_keeps, ends, pends, carries}
 use Rattle.fi_run.specs.WakersLaws.{wakers_kept}
 
 none_some : {X : Type 0} (x : X) → ◌≡◌ {A = Option X} None (Some x) → ⊥
 none_some x e = cc
+
+full_same : {T : Type 0} (x y : T) → Full x ≡ Full y → x ≡ y
+full_same x y e = cc
+
+nil_cons : {X : Type 0} (x : X) (xs : List X) → ◌≡◌ {A = List X} [] (x ∷ xs) → ⊥
+nil_cons x xs e = cc
 
 head_same : {X : Type 0} (x y : X) (xs ys : List X) → x ∷ xs ≡ y ∷ ys → x ≡ y
 head_same x y xs ys e = cc

@@ -1,5 +1,5 @@
 -- The channels of one value keep their laws.
-use Rattle.std.specs.Prelude.{◌≡◌, ◌⊎◌, ℕ, true, Option, Some, None, Result, Ok, Err, List, [], ◌∷◌, refl}
+use Rattle.std.specs.Prelude.{◌≡◌, ◌⊎◌, ℕ, true, Option, Some, None, Result, Ok, Err, refl}
 use Rattle.std.proofs.Common.{sym, ap, subst, inl, inr}
 use Rattle.futures.specs.declared.task.Poll.TheVariants as polled
 use Rattle.futures.specs.declared.task.Poll as polls
@@ -68,9 +68,6 @@ module _ {T W : Type 0} where
   still_content (Full before) old new move = ap (λ (s : OneshotMachine T W). s.content) move.1
   still_content Spent old new move = ap (λ (s : OneshotMachine T W). s.content) move.1
 
-pub full_same : {T : Type 0} (x y : T) → Full x ≡ Full y → x ≡ y
-full_same x y e = cc
-
 pub full_empty : {T : Type 0} (x : T) → Full x ≡ Empty → ⊥
 full_empty x e = cc
 
@@ -79,9 +76,6 @@ full_spent x e = cc
 
 pub spent_empty : {T : Type 0} → ◌≡◌ {A = Content T} Spent Empty → ⊥
 spent_empty e = cc
-
-pub nil_cons : {X : Type 0} (x : X) (xs : List X) → ◌≡◌ {A = List X} [] (x ∷ xs) → ⊥
-nil_cons x xs e = cc
 
 -- However a channel gives its value.
 module _ {T W : Type 0} (gives : Gives T W) (each : EachEnds gives) (may_lack : MayLack T W) where
