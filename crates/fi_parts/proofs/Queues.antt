@@ -7,7 +7,7 @@ use Rattle.std.proofs.lemmas.Grind.{reverse_onto}
 use Rattle.fi_parts.specs.Order.{holds, Apart}
 use Rattle.fi_parts.specs.Order.{without}
 use Rattle.fi_parts.specs.Pairs.{has, without_pair, PairsApart}
-use Rattle.fi_parts.proofs.Slots.{holds-append}
+use Rattle.fi_parts.proofs.Slots.{holds-append, without_absent}
 use Rattle.fi_parts.proofs.Pairs.{has-push}
 
 or_turned : (a b : Bool) → (a || (b || false)) ≡ (b || a)
@@ -102,3 +102,6 @@ holds-without k x xs at = elim (cases_eq k x) [
   | inl same ↦ absurd (both_ways _ (holds-without_same x xs) (ap (λ n. holds n (without x xs)) (sym same) ∙ at))
   | inr ne ↦ sym (holds-without_other k x xs ne) ∙ at
 ]
+
+-- what is known of a list that a slot was taken out of
+pub ruleset taken_out = (without_absent, holds-without_same)

@@ -121,6 +121,7 @@ impl<T> LinkedList<T> {
     }
 
     /// Takes a slot out of the list; it stays live. False where it was not in the list. Keeps `LinkedList::remove`.
+    #[tactic(auto, using(crate::proofs::Queues::taken_out))]
     pub fn remove(&mut self, slot: Slot) -> bool
         ensures found { result ≡ holds slot.0 self.old.order }
         ensures live { self.new.live ≡ self.old.live }
