@@ -3,3 +3,5 @@ pub mod Labels
 pub mod Bytes
 pub mod Cuts
 pub mod Numbered
+pub mod Answered
+pub mod Script

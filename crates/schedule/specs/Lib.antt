@@ -1,6 +1,9 @@
+pub mod Answered
 pub mod Cuts
 pub mod Labels
+pub mod Names
 pub mod Outputs
+pub mod Script
 pub mod Owed
 pub mod Statuses
 pub mod Texts

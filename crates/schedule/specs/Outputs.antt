@@ -7,12 +7,16 @@ use Rattle.schedule.specs.declared.output.Output.{Output}
 
 -- what the writer holds, and then what was collected
 abbrev pub on_its_way : {W : Type 0} → (W → Option (List ℕ)) → Output W → Option (List ℕ)
-on_its_way contents output = append_known (contents output.writer.now) output.collected.items
+on_its_way contents output = append_known (contents output.writer.now) output.collected.now.items
 
 -- The output goes on with a text; without a text it can't.
 abbrev pub GoesOn : {W : Type 0} → (W → Option (List ℕ)) → Output W → Output W → Option (List ℕ) → Type 0
 GoesOn contents old new None = ⊥
 GoesOn contents old new (Some text) = Appends (on_its_way contents old) (on_its_way contents new) text
+
+-- It goes on with some text of which this holds.
+abbrev pub Tells : {W : Type 0} → (W → Option (List ℕ)) → Output W → Output W → (List ℕ → Type 0) → Type 0
+Tells contents old new holds = (text : List ℕ) × holds text × GoesOn contents old new (Some text)
 
 -- what may keep an output from going on
 abbrev pub IsOfOutput : ScriptFault → Type 0

@@ -1,14 +1,17 @@
 //! Answering scripts.
-ghost use Rattle.std.specs.Prelude.{◌≡◌, [], Some, true, OnOk, IfErr, drop};
+ghost use Rattle.std.specs.Prelude.{◌≡◌, [], Some, true, OnOk, OnErr, IfOk, IfErr, IfSome, drop, option_copied};
+ghost use Rattle.schedule.specs.Answered.{Performs, IsOfLine, MakesCall, BeginsLine, AnswersLine, AnswersRest, AnswersFront, RefusesLine, IfBad};
+ghost use Rattle.schedule.specs.Script.{AnswersScript, RefusesScript, Turns, IfFault};
 ghost use Rattle.schedule.specs.Owed.{first_of};
-ghost use Rattle.schedule.specs.Outputs.{GoesOn, IsOfOutput};
+ghost use Rattle.schedule.specs.Outputs.{GoesOn, Tells, IsOfOutput};
 ghost use Rattle.schedule.specs.Texts.{wakes_text};
 
 use crate::fault::ScriptFault;
 use crate::input::read_whole;
 use crate::label::Label;
 use crate::labelled::Labelled;
-use crate::output::Output;
+use crate::named::Named;
+use crate::output::{COLLECTED, Output};
 use crate::scripted::{Request, Scripted};
 use crate::texts::{put_waker, write_answer};
 use crate::words::{Lines, Words, split_at_first};
@@ -34,13 +37,20 @@ pub fn run_script<R: Read, W: Write>(
     alloc: Global,
     reader: &mut R,
     writer: &mut W,
-) -> Result<(), ScriptFault> {
+) -> Result<(), ScriptFault>
+    ensures answered { OnOk result (Turns (R.remaining reader.old) (W.contents writer.old) (W.contents writer.new) AnswersScript) }
+    ensures fault { IfErr result (IfFault (writer.new ≡ writer.old) (λ number. Turns (R.remaining reader.old) (W.contents writer.old) (W.contents writer.new) (RefusesScript number))) }
+{
     let script = read_whole(alloc, reader)?;
-    let mut output = Output::new(alloc, writer)?;
+    let Ok(mut collected) = Vec::with_capacity(alloc, COLLECTED) else {
+        return Err(ScriptFault::NoMemory);
+    };
+    let mut output = Output::new(writer, &mut collected);
     let answered = answer_script(alloc, script.as_slice(), &mut output);
-    if answered != Err(ScriptFault::Write) {
-        output.flush()?;
+    if let Err(ScriptFault::Write) = answered {
+        return answered;
     }
+    output.flush()?;
     answered
 }
 
@@ -49,22 +59,29 @@ fn answer_script<W: Write>(
     alloc: Global,
     script: &[u8],
     output: &mut Output<'_, W>,
-) -> Result<(), ScriptFault> {
+) -> Result<(), ScriptFault>
+    ensures answered { OnOk result (Tells W.contents output.old output.new (AnswersScript script.now)) }
+    ensures bad { IfErr result (IfBad (λ number. Tells W.contents output.old output.new (RefusesScript number script.now))) }
+    ensures same_writer { output.new.writer.ghost_name ≡ output.old.writer.ghost_name }
+{
     let (first, rest) = split_at_first(script, b'\n');
     let lines = Lines::after(rest);
     let mut words = Words::of(first);
-    match words.word() {
-        Some(b"event") => answer_calls::<EventState<u64>, W>(alloc, words, lines, output),
-        Some(b"oneshot") => {
+    let Some(name) = words.word() else {
+        return Err(ScriptFault::BadLine(1));
+    };
+    match Named::by(name) {
+        Some(Named::Event) => answer_calls::<EventState<u64>, W>(alloc, words, lines, output),
+        Some(Named::Oneshot) => {
             answer_calls::<OneshotState<u64, u64>, W>(alloc, words, lines, output)
         }
-        Some(b"oneshot-broadcast") => {
+        Some(Named::OneshotBroadcast) => {
             answer_calls::<OneshotBroadcastState<u64, u64>, W>(alloc, words, lines, output)
         }
-        Some(b"state-broadcast") => {
+        Some(Named::StateBroadcast) => {
             answer_calls::<StateBroadcastState<u64, u64>, W>(alloc, words, lines, output)
         }
-        _ => Err(ScriptFault::BadLine(1)),
+        None => Err(ScriptFault::BadLine(1)),
     }
 }
 
@@ -74,7 +91,12 @@ fn answer_calls<P: Scripted, W: Write>(
     mut words: Words<'_>,
     lines: Lines<'_>,
     output: &mut Output<'_, W>,
-) -> Result<(), ScriptFault> {
+) -> Result<(), ScriptFault>
+    ensures answered { OnOk result (Tells W.contents output.old output.new (AnswersRest P.opens P.step P.Scripted.owed P.Scripted.without_wakers (option_copied lines.entry.rest))) }
+    ensures bad { IfErr result (IfBad (λ number.
+        Tells W.contents output.old output.new (RefusesLine P.opens P.step P.Scripted.owed P.Scripted.without_wakers (option_copied lines.entry.rest) number))) }
+    ensures same_writer { output.new.writer.ghost_name ≡ output.old.writer.ghost_name }
+{
     let Some(opening) = P::opening(&mut words) else {
         return Err(ScriptFault::BadLine(1));
     };
@@ -90,7 +112,12 @@ fn answer_lines<P: Scripted, W: Write>(
     opening: P::Opening,
     mut lines: Lines<'_>,
     output: &mut Output<'_, W>,
-) -> Result<(), ScriptFault> {
+) -> Result<(), ScriptFault>
+    ensures answered { OnOk result (Tells W.contents output.old output.new (AnswersRest P.opens P.step P.Scripted.owed P.Scripted.without_wakers (option_copied lines.entry.rest))) }
+    ensures bad { IfErr result (IfBad (λ number.
+        Tells W.contents output.old output.new (AnswersFront P.opens P.step P.Scripted.owed P.Scripted.without_wakers (option_copied lines.entry.rest) number))) }
+    ensures same_writer { output.new.writer.ghost_name ≡ output.old.writer.ghost_name }
+{
     let Ok(primitive) = P::open(alloc, opening) else {
         return Err(ScriptFault::NoMemory);
     };
@@ -123,12 +150,18 @@ struct Session<P: Scripted> {
 }
 
 impl<P: Scripted> Session<P> {
+    /// Answers one line.
     fn answer_line<W: Write>(
         &mut self,
         number: usize,
         line: &[u8],
         output: &mut Output<'_, W>,
-    ) -> Result<(), ScriptFault> {
+    ) -> Result<(), ScriptFault>
+        ensures answered { OnOk result (Tells W.contents output.old output.new (AnswersLine P.opens P.step P.Scripted.owed P.Scripted.without_wakers line.now self.old.primitive self.new.primitive)) }
+        // A bad line is told by its number, changes nothing and writes nothing.
+        ensures bad { IfErr result (IfBad (λ line. (line ≡ number) × (self.new.primitive ≡ self.old.primitive) × (output.new ≡ output.old))) }
+        ensures same_writer { output.new.writer.ghost_name ≡ output.old.writer.ghost_name }
+    {
         let mut words = Words::of(line);
         let Some((holds, action)) = self.parse(&mut words) else {
             return Err(ScriptFault::BadLine(number));
@@ -145,7 +178,9 @@ impl<P: Scripted> Session<P> {
     }
 
     /// What a line asks for, and whether it leaves the outbox as it is.
-    fn parse(&self, words: &mut Words<'_>) -> Option<(bool, Action<P::Call, P::Kind>)> {
+    fn parse(&self, words: &mut Words<'_>) -> Option<(bool, Action<P::Call, P::Kind>)>
+        ensures { IfSome result (λ asked. BeginsLine (option_copied words.old.rest) asked.0 asked.1) }
+    {
         let verb = words.word()?;
         match verb {
             b"wakes" => Some((false, Action::Wakes)),
@@ -157,8 +192,11 @@ impl<P: Scripted> Session<P> {
         }
     }
 
+    /// The call that a verb and the words after it ask for.
     #[inline(always)]
-    fn parse_call(&self, verb: &[u8], words: &mut Words<'_>) -> Option<Action<P::Call, P::Kind>> {
+    fn parse_call(&self, verb: &[u8], words: &mut Words<'_>) -> Option<Action<P::Call, P::Kind>>
+        ensures { IfSome result MakesCall }
+    {
         match verb {
             b"poll" => {
                 let label = words.label()?;
@@ -173,11 +211,16 @@ impl<P: Scripted> Session<P> {
         }
     }
 
+    /// Does what a line asks for.
     fn perform(
         &mut self,
         number: usize,
         action: Action<P::Call, P::Kind>,
-    ) -> Result<Answer<u64, u64>, ScriptFault> {
+    ) -> Result<Answer<u64, u64>, ScriptFault>
+        ensures answered { IfOk result (λ answer. Performs P.step action self.old.primitive answer self.new.primitive) }
+        ensures refused { IfErr result (λ fault. IsOfLine number fault) }
+        ensures unchanged { OnErr result (self.new.primitive ≡ self.old.primitive) }
+    {
         match action {
             Action::Wakes => Ok(Answer::Done),
             Action::Call(call) => Ok(self.primitive.apply(call)),
@@ -196,7 +239,11 @@ impl<P: Scripted> Session<P> {
         label: Label,
         kind: P::Kind,
         call: P::Call,
-    ) -> Result<Answer<u64, u64>, ScriptFault> {
+    ) -> Result<Answer<u64, u64>, ScriptFault>
+        ensures answered { IfOk result (λ answer. P.step self.old.primitive call answer self.new.primitive) }
+        ensures refused { IfErr result (λ fault. IsOfLine number fault) }
+        ensures unchanged { OnErr result (self.new.primitive ≡ self.old.primitive) }
+    {
         match self.futures.shelf_mut(label).entry(label) {
             Ok(Entry::Vacant(place)) => {
                 let answer = self.primitive.apply(call);
@@ -230,6 +277,7 @@ impl<P: Scripted> Session<P> {
         ensures rest { OnOk result (P.Scripted.without_wakers self.new.primitive ≡ P.Scripted.without_wakers self.old.primitive) }
         ensures futures { self.new.futures ≡ self.old.futures }
         ensures fault { IfErr result IsOfOutput }
+        ensures same_writer { output.new.writer.ghost_name ≡ output.old.writer.ghost_name }
     {
         let mut is_first = true;
         while let Some(waker) = self.take_waker() {

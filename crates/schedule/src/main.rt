@@ -8,6 +8,7 @@ mod fault;
 mod input;
 mod label;
 mod labelled;
+mod named;
 mod number;
 mod oneshot;
 mod output;

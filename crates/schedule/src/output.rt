@@ -7,11 +7,10 @@ ghost use Rattle.std.specs.Fmt.{decimal};
 
 use crate::fault::ScriptFault;
 use itoa::Buffer;
-use std::alloc::Global;
 use std::io::Write;
 
 /// How many bytes are collected before they are written.
-const COLLECTED: usize = 65536;
+pub const COLLECTED: usize = 65536;
 
 /// Writes all of the bytes. An error and a write that takes no byte are failures, and are not tried again.
 pub fn write_whole<W: Write>(writer: &mut W, bytes: &[u8]) -> Result<(), ScriptFault>
@@ -32,15 +31,15 @@ pub fn write_whole<W: Write>(writer: &mut W, bytes: &[u8]) -> Result<(), ScriptF
 #[derive(Drop)]
 pub struct Output<'a, W> {
     writer: &'a mut W,
-    collected: Vec<u8>,
+    collected: &'a mut Vec<u8>,
 }
 
 impl<'a, W: Write> Output<'a, W> {
-    pub fn new(alloc: Global, writer: &'a mut W) -> Result<Self, ScriptFault> {
-        match Vec::with_capacity(alloc, COLLECTED) {
-            Ok(collected) => Ok(Output { writer, collected }),
-            Err(_) => Err(ScriptFault::NoMemory),
-        }
+    /// What is on its way is collected here first.
+    pub fn new(writer: &'a mut W, collected: &'a mut Vec<u8>) -> Self
+        ensures { (result.writer ≡ writer.entry) × (result.collected ≡ collected.entry) }
+    {
+        Output { writer, collected }
     }
 
     /// Adds text to the output.
@@ -48,6 +47,7 @@ impl<'a, W: Write> Output<'a, W> {
     pub fn put(&mut self, text: &[u8]) -> Result<(), ScriptFault>
         ensures text { OnOk result (GoesOn W.contents self.old self.new (Some text.now)) }
         ensures fault { IfErr result IsOfOutput }
+        ensures same_writer { self.new.writer.ghost_name ≡ self.old.writer.ghost_name }
     {
         if self.collected.len() >= COLLECTED {
             self.flush()?;
@@ -62,6 +62,7 @@ impl<'a, W: Write> Output<'a, W> {
     pub fn put_byte(&mut self, byte: u8) -> Result<(), ScriptFault>
         ensures byte { OnOk result (GoesOn W.contents self.old self.new (Some (byte ∷ []))) }
         ensures fault { IfErr result IsOfOutput }
+        ensures same_writer { self.new.writer.ghost_name ≡ self.old.writer.ghost_name }
     {
         if self.collected.len() >= COLLECTED {
             self.flush()?;
@@ -76,6 +77,7 @@ impl<'a, W: Write> Output<'a, W> {
     pub fn put_number(&mut self, number: u64) -> Result<(), ScriptFault>
         ensures numeral { OnOk result (GoesOn W.contents self.old self.new (Some (decimal number))) }
         ensures fault { IfErr result IsOfOutput }
+        ensures same_writer { self.new.writer.ghost_name ≡ self.old.writer.ghost_name }
     {
         let mut digits = Buffer::new();
         self.put(digits.format(number).as_bytes())
@@ -83,9 +85,10 @@ impl<'a, W: Write> Output<'a, W> {
 
     /// Writes what was collected.
     pub fn flush(&mut self) -> Result<(), ScriptFault>
-        ensures written { OnOk result (Appends (W.contents self.old.writer.now) (W.contents self.new.writer.now) self.old.collected.items) }
-        ensures emptied { OnOk result (self.new.collected.items ≡ []) }
+        ensures written { OnOk result (Appends (W.contents self.old.writer.now) (W.contents self.new.writer.now) self.old.collected.now.items) }
+        ensures emptied { OnOk result (self.new.collected.now.items ≡ []) }
         ensures fault { IfErr result (λ fault. fault ≡ ScriptFault.Write) }
+        ensures same_writer { self.new.writer.ghost_name ≡ self.old.writer.ghost_name }
     {
         write_whole(self.writer, self.collected.as_slice())?;
         self.collected.clear();

@@ -18,6 +18,7 @@ pub fn write_answer<W: Write>(
     ensures text { OnOk result (GoesOn W.contents output.old output.new (answer_text answer.now)) }
     ensures memory { answer_text answer.now ≡ None → result ≡ Err ScriptFault.NoMemory }
     ensures fault { IfErr result IsOfOutput }
+    ensures same_writer { output.new.writer.ghost_name ≡ output.old.writer.ghost_name }
 {
     match answer {
         Answer::Made(_) => output.put(b"made"),
@@ -52,6 +53,7 @@ pub fn put_waker<W: Write>(
 ) -> Result<(), ScriptFault>
     ensures text { OnOk result (GoesOn W.contents output.old output.new (Some (waker_text is_first waker))) }
     ensures fault { IfErr result IsOfOutput }
+    ensures same_writer { output.new.writer.ghost_name ≡ output.old.writer.ghost_name }
 {
     output.put(if is_first { b" wakes " } else { b" " })?;
     output.put_number(waker)
@@ -60,6 +62,7 @@ pub fn put_waker<W: Write>(
 fn put_some<W: Write>(number: u64, output: &mut Output<'_, W>) -> Result<(), ScriptFault>
     ensures text { OnOk result (GoesOn W.contents output.old output.new (with_number (Some (codes "some")) number)) }
     ensures fault { IfErr result IsOfOutput }
+    ensures same_writer { output.new.writer.ghost_name ≡ output.old.writer.ghost_name }
 {
     output.put(b"some ")?;
     output.put_number(number)
@@ -70,6 +73,7 @@ fn put_fault<W: Write>(fault: Fault, output: &mut Output<'_, W>) -> Result<(), S
     ensures text { OnOk result (GoesOn W.contents output.old output.new (fault_text fault)) }
     ensures memory { fault_text fault ≡ None → result ≡ Err ScriptFault.NoMemory }
     ensures fault { IfErr result IsOfOutput }
+    ensures same_writer { output.new.writer.ghost_name ≡ output.old.writer.ghost_name }
 {
     match fault {
         Fault::NoMemory => Err(ScriptFault::NoMemory),
@@ -92,6 +96,7 @@ fn put_back<W: Write>(
     ensures text { OnOk result (GoesOn W.contents output.old output.new (with_number (fault_text fault) value)) }
     ensures memory { fault_text fault ≡ None → result ≡ Err ScriptFault.NoMemory }
     ensures fault { IfErr result IsOfOutput }
+    ensures same_writer { output.new.writer.ghost_name ≡ output.old.writer.ghost_name }
 {
     put_fault(fault, output)?;
     output.put(b" ")?;

@@ -1,5 +1,5 @@
 //! Lines and their words.
-ghost use Rattle.std.specs.Prelude.{◌≡◌, is_none, option_copied};
+ghost use Rattle.std.specs.Prelude.{◌≡◌, Some, is_none, option_copied};
 ghost use Rattle.schedule.specs.Cuts.{IsCut, NextLine, NextWord};
 
 use crate::label::Label;
@@ -59,7 +59,9 @@ pub struct Words<'a> {
 }
 
 impl<'a> Words<'a> {
-    pub fn of(line: &'a [u8]) -> Self {
+    pub fn of(line: &'a [u8]) -> Self
+        ensures { option_copied result.rest ≡ Some line.now }
+    {
         Words { rest: Some(line) }
     }
 

@@ -11,6 +11,7 @@ invariant-loop-waker g l =
     → GoesOn g.W.Write.contents l.fn.output new (Some (wakes_text true (g.P.Scripted.owed l.fn.self.primitive))))
     × (g.P.Scripted.without_wakers l.self.primitive ≡ g.P.Scripted.without_wakers l.fn.self.primitive)
     × (l.self.futures ≡ l.fn.self.futures)
+    × (l.output.writer.ghost_name ≡ l.fn.output.writer.ghost_name)
 
 abbrev pub decreases-loop-waker : goal.decreases-loop-waker
 decreases-loop-waker g l = length (g.P.Scripted.owed l.self.primitive)

@@ -1,0 +1,31 @@
+//! The primitives that a script may name.
+ghost use Rattle.std.specs.Prelude.{◌≡◌, MatchOption};
+ghost use Rattle.schedule.specs.Names.{name_of, IsNoName};
+
+/// A primitive of scripts.
+#[derive(Clone, Copy, Debug, PartialEq, Eq)]
+pub enum Named {
+    Event,
+    Oneshot,
+    OneshotBroadcast,
+    StateBroadcast,
+}
+
+impl Named {
+    /// The primitive of this name, if it is one's.
+    pub fn by(word: &[u8]) -> Option<Named>
+        ensures { MatchOption result (IsNoName word.now) (λ named. word.now ≡ name_of named) }
+    {
+        if word == b"event".as_slice() {
+            Some(Named::Event)
+        } else if word == b"oneshot".as_slice() {
+            Some(Named::Oneshot)
+        } else if word == b"oneshot-broadcast".as_slice() {
+            Some(Named::OneshotBroadcast)
+        } else if word == b"state-broadcast".as_slice() {
+            Some(Named::StateBroadcast)
+        } else {
+            None
+        }
+    }
+}
