@@ -93,20 +93,20 @@ module _ {S O C W : Type 0} (opens : O → S → Type 0) (step : S → C → Ans
 
   pub rest_answered : (opening : O) (whole : Option (List ℕ)) (shown : Output W) (number : ℕ) (rest : Option (List ℕ)) (now : S) (out : Output W) (after : Option (List ℕ))
       → IsSoFar opening whole shown number rest now out → NextLine rest None after
-      → Tells contents shown out (AnswersRest opens step owed without_wakers whole)
+      → Tells contents shown out (AnswersRest opens step owed without_wakers (λ asked. asked ≡ opening) whole)
   unfolding LinesAre AnswersLines
   rest_answered opening whole shown number rest now out after so_far none =
       let all = so_far.2 [] rest now [] out refl (refl, refl) (appends_none (on_its_way contents out)) in
-      (all.1, record { opening = opening; first = so_far.0; last = now; lines = all.0; end = rest; opened = so_far.1; are = all.2; ended = ended_at rest after none; answered = all.3 }, all.4)
+      (all.1, record { opening = opening; as_asked = refl; first = so_far.0; last = now; lines = all.0; end = rest; opened = so_far.1; are = all.2; ended = ended_at rest after none; answered = all.3 }, all.4)
 
   pub front_answered : (opening : O) (whole : Option (List ℕ)) (shown : Output W) (number : ℕ) (rest : Option (List ℕ)) (now : S) (out : Output W) (bad : List ℕ) (after : Option (List ℕ))
       → IsSoFar opening whole shown number rest now out → NextLine rest (Some bad) after
-      → Tells contents shown out (AnswersFront opens step owed without_wakers whole (number + 1))
+      → Tells contents shown out (AnswersFront opens step owed without_wakers (λ asked. asked ≡ opening) whole (number + 1))
   unfolding LinesAre AnswersLines
   front_answered opening whole shown number rest now out bad after so_far comes =
       let all = so_far.2 [] rest now [] out refl (refl, refl) (appends_none (on_its_way contents out)) in (
         all.1,
-        record { opening = opening; first = so_far.0; last = now; lines = all.0; bad = bad; at = rest; after = after; opened = so_far.1; are = all.2; next = comes; number_is = omega (arith, all.5); answered = all.3 },
+        record { opening = opening; as_asked = refl; first = so_far.0; last = now; lines = all.0; bad = bad; at = rest; after = after; opened = so_far.1; are = all.2; next = comes; number_is = omega (arith, all.5); answered = all.3 },
         all.4,
       )
 

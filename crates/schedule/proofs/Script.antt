@@ -25,13 +25,13 @@ module _ {W : Type 0} (contents : W → Option (List ℕ)) (script first : List 
     begun = subst (λ (word : List ℕ). NextWord (Some first) (Some word) after) known (subst (λ (l : Option (List ℕ)). NextWord l (Some name) after) is begins)
 
     pub script_answered : {A E : Type 0} (r : Result A E)
-        → OnOk r (Tells contents shown left (λ text. OfPrimitive named (λ S O C opens step owed without_wakers. AnswersRest opens step owed without_wakers rest text)))
+        → OnOk r (Tells contents shown left (λ text. OfPrimitive named (λ S O C opens step owed without_wakers spells. AnswersRest opens step owed without_wakers (spells after) rest text)))
         → OnOk r (Tells contents shown left (AnswersScript script))
     script_answered (Ok x) told = (told.0, record { first = first; rest = rest; named = named; after = after; cut = cut; begins = begun; answered = told.1 }, told.2)
     script_answered (Err e) told = tt
 
     pub script_refused : {A : Type 0} (r : Result A ScriptFault)
-        → IfErr r (IfBad (λ number. Tells contents shown left (λ text. OfPrimitive named (λ S O C opens step owed without_wakers. RefusesLine opens step owed without_wakers rest number text))))
+        → IfErr r (IfBad (λ number. Tells contents shown left (λ text. OfPrimitive named (λ S O C opens step owed without_wakers spells. RefusesLine opens step owed without_wakers (spells after) rest number text))))
         → IfErr r (IfBad (λ number. Tells contents shown left (RefusesScript number script)))
     script_refused (Ok x) told = tt
     script_refused (Err fault) told = if_bad_more _ _ fault told (λ number it. (it.0, record { first = first; rest = rest; cut = cut; refused = inr (named, after, begun, it.1) }, it.2))

@@ -74,9 +74,10 @@ module _ {S O C : Type 0} (opens : O → S → Type 0) (step : S → C → Answe
   AnswersLines (line ∷ lines) old new text =
       (between : S) × (front : List ℕ) × (rest : List ℕ) × AnswersLine line old between front × AnswersLines lines between new rest × (text ≡ front ++ rest)
 
-  -- A primitive was opened, and answered all lines that are left of a script.
-  pub record AnswersRest (rest : Option (List ℕ)) (text : List ℕ) : Type 0 where
+  -- A primitive was opened, as this says, and answered all lines that are left of a script.
+  pub record AnswersRest (asked : O → Type 0) (rest : Option (List ℕ)) (text : List ℕ) : Type 0 where
     pub opening : O
+    pub as_asked : asked opening
     pub first : S
     pub last : S
     pub lines : List (List ℕ)
@@ -87,8 +88,9 @@ module _ {S O C : Type 0} (opens : O → S → Type 0) (step : S → C → Answe
     pub answered : AnswersLines lines first last text
 
   -- It answered those before the line of this number; the first of them has the number 2.
-  pub record AnswersFront (rest : Option (List ℕ)) (number : ℕ) (text : List ℕ) : Type 0 where
+  pub record AnswersFront (asked : O → Type 0) (rest : Option (List ℕ)) (number : ℕ) (text : List ℕ) : Type 0 where
     pub opening : O
+    pub as_asked : asked opening
     pub first : S
     pub last : S
     pub lines : List (List ℕ)
@@ -102,5 +104,5 @@ module _ {S O C : Type 0} (opens : O → S → Type 0) (step : S → C → Answe
     pub answered : AnswersLines lines first last text
 
   -- It was refused before the first of these lines, or at one of them.
-  abbrev pub RefusesLine : Option (List ℕ) → ℕ → List ℕ → Type 0
-  RefusesLine rest number text = ((number ≡ 1) × (text ≡ [])) ⊎ AnswersFront rest number text
+  abbrev pub RefusesLine : (O → Type 0) → Option (List ℕ) → ℕ → List ℕ → Type 0
+  RefusesLine asked rest number text = ((number ≡ 1) × (text ≡ [])) ⊎ AnswersFront asked rest number text

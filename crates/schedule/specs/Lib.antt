@@ -2,6 +2,7 @@ pub mod Answered
 pub mod Cuts
 pub mod Labels
 pub mod Names
+pub mod Openings
 pub mod Outputs
 pub mod Script
 pub mod Owed

@@ -9,6 +9,7 @@ use fi_run::OneshotCall;
 
 impl Scripted for OneshotBroadcastState<u64, u64> {
     ghost use Rattle.fi_run.specs.declared.oneshot.OneshotCall.TheVariants.{NextWake};
+    ghost use Rattle.schedule.specs.Openings.{spells_nothing};
     ghost use Rattle.schedule.specs.Owed.{is_same, oneshot_owed, oneshot_without, broadcast_takes};
 
     type Kind = ();
@@ -18,6 +19,8 @@ impl Scripted for OneshotBroadcastState<u64, u64> {
     ghost owed = { oneshot_owed };
 
     ghost without_wakers = { oneshot_without };
+
+    ghost spells = { spells_nothing };
 
     ghost takes_oldest = { broadcast_takes is_same };
 

@@ -92,9 +92,9 @@ fn answer_calls<P: Scripted, W: Write>(
     lines: Lines<'_>,
     output: &mut Output<'_, W>,
 ) -> Result<(), ScriptFault>
-    ensures answered { OnOk result (Tells W.contents output.old output.new (AnswersRest P.opens P.step P.Scripted.owed P.Scripted.without_wakers (option_copied lines.entry.rest))) }
+    ensures answered { OnOk result (Tells W.contents output.old output.new (AnswersRest P.opens P.step P.Scripted.owed P.Scripted.without_wakers (P.Scripted.spells (option_copied words.entry.rest)) (option_copied lines.entry.rest))) }
     ensures bad { IfErr result (IfBad (λ number.
-        Tells W.contents output.old output.new (RefusesLine P.opens P.step P.Scripted.owed P.Scripted.without_wakers (option_copied lines.entry.rest) number))) }
+        Tells W.contents output.old output.new (RefusesLine P.opens P.step P.Scripted.owed P.Scripted.without_wakers (P.Scripted.spells (option_copied words.entry.rest)) (option_copied lines.entry.rest) number))) }
     ensures same_writer { output.new.writer.ghost_name ≡ output.old.writer.ghost_name }
 {
     let Some(opening) = P::opening(&mut words) else {
@@ -113,9 +113,9 @@ fn answer_lines<P: Scripted, W: Write>(
     mut lines: Lines<'_>,
     output: &mut Output<'_, W>,
 ) -> Result<(), ScriptFault>
-    ensures answered { OnOk result (Tells W.contents output.old output.new (AnswersRest P.opens P.step P.Scripted.owed P.Scripted.without_wakers (option_copied lines.entry.rest))) }
+    ensures answered { OnOk result (Tells W.contents output.old output.new (AnswersRest P.opens P.step P.Scripted.owed P.Scripted.without_wakers (λ asked. asked ≡ opening) (option_copied lines.entry.rest))) }
     ensures bad { IfErr result (IfBad (λ number.
-        Tells W.contents output.old output.new (AnswersFront P.opens P.step P.Scripted.owed P.Scripted.without_wakers (option_copied lines.entry.rest) number))) }
+        Tells W.contents output.old output.new (AnswersFront P.opens P.step P.Scripted.owed P.Scripted.without_wakers (λ asked. asked ≡ opening) (option_copied lines.entry.rest) number))) }
     ensures same_writer { output.new.writer.ghost_name ≡ output.old.writer.ghost_name }
 {
     let Ok(primitive) = P::open(alloc, opening) else {

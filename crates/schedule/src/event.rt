@@ -8,6 +8,7 @@ use fi_run::EventCall;
 
 impl Scripted for EventState<u64> {
     ghost use Rattle.fi_run.specs.declared.event.EventCall.TheVariants.{NextWake};
+    ghost use Rattle.schedule.specs.Openings.{event_spells};
     ghost use Rattle.schedule.specs.Owed.{event_owed, event_without, event_takes};
 
     type Kind = ();
@@ -17,6 +18,8 @@ impl Scripted for EventState<u64> {
     ghost owed = { event_owed };
 
     ghost without_wakers = { event_without };
+
+    ghost spells = { event_spells };
 
     ghost takes_oldest = { event_takes };
 

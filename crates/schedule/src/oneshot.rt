@@ -8,6 +8,7 @@ use fi_run::OneshotCall;
 
 impl Scripted for OneshotState<u64, u64> {
     ghost use Rattle.fi_run.specs.declared.oneshot.OneshotCall.TheVariants.{NextWake};
+    ghost use Rattle.schedule.specs.Openings.{spells_nothing};
     ghost use Rattle.schedule.specs.Owed.{oneshot_owed, oneshot_without, oneshot_takes};
 
     type Kind = ();
@@ -17,6 +18,8 @@ impl Scripted for OneshotState<u64, u64> {
     ghost owed = { oneshot_owed };
 
     ghost without_wakers = { oneshot_without };
+
+    ghost spells = { spells_nothing };
 
     ghost takes_oldest = { oneshot_takes };
 

@@ -1,6 +1,6 @@
 //! What a primitive has to say to be called from scripts.
 
-ghost use Rattle.std.specs.Prelude.{◌≡◌, ℕ, List};
+ghost use Rattle.std.specs.Prelude.{◌≡◌, ℕ, List, Option, None, IfSome, option_copied};
 ghost use Rattle.fi_run.specs.declared.answer.Answer.{Answer};
 ghost use Rattle.schedule.specs.Owed.{HandsOutOldest};
 
@@ -34,8 +34,12 @@ pub trait Scripted: Primitive<Answer = Answer<u64, u64>> + Drop {
     /// What is left when all of them are taken out.
     ghost without_wakers: { Self → Self };
 
+    /// The words that ask for an opening.
+    ghost spells: { Option (List ℕ) → Self.Opening → Type 0 };
+
     /// The opening that the words after the primitive's name ask for.
-    fn opening(words: &mut Words<'_>) -> Option<Self::Opening>;
+    fn opening(words: &mut Words<'_>) -> Option<Self::Opening>
+        ensures { IfSome result (λ opening. option_copied words.new.rest ≡ None → spells (option_copied words.old.rest) opening) };
 
     /// The call that a verb and the words after it ask for; `None` for a line of no call.
     fn parse(verb: &[u8], words: &mut Words<'_>) -> Option<Request<Self::Call, Self::Kind>>;

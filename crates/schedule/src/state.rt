@@ -8,6 +8,7 @@ use fi_run::StateCall;
 
 impl Scripted for StateBroadcastState<u64, u64> {
     ghost use Rattle.fi_run.specs.declared.state.StateCall.TheVariants.{NextWake};
+    ghost use Rattle.schedule.specs.Openings.{spells_nothing};
     ghost use Rattle.schedule.specs.Owed.{is_same, state_owed, state_without, state_takes};
 
     type Kind = ();
@@ -17,6 +18,8 @@ impl Scripted for StateBroadcastState<u64, u64> {
     ghost owed = { state_owed };
 
     ghost without_wakers = { state_without };
+
+    ghost spells = { spells_nothing };
 
     ghost takes_oldest = { state_takes is_same };
 
