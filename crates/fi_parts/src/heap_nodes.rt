@@ -43,6 +43,7 @@ pub struct HeapNodes<T> {
 }
 
 impl<T> HeapNodes<T> {
+    /// No live slot, and no root. It takes no memory yet.
     pub fn new(alloc: Global) -> Self
         ensures empty { result.store.slots ≡ [] }
         ensures root { result.root ≡ None }
@@ -53,18 +54,21 @@ impl<T> HeapNodes<T> {
         }
     }
 
+    /// The root of the heap's tree; None for an empty heap.
     pub fn root(&self) -> Option<usize>
         ensures { result ≡ self.now.root }
     {
         self.root
     }
 
+    /// Makes this the root.
     pub fn set_root(&mut self, root: Option<usize>)
         ensures { self.new ≡ record self.old { root = root } }
     {
         self.root = root;
     }
 
+    /// The value of a live slot; None for another.
     pub fn get(&self, slot: usize) -> Option<&T>
         ensures { option_copied result ≡ values_of self.now slot }
     {
@@ -74,6 +78,7 @@ impl<T> HeapNodes<T> {
         }
     }
 
+    /// The value of a live slot.
     pub fn value(&self, slot: usize) -> &T
         requires { ContainsKey self.now.store slot }
         ensures { values_of self.now slot ≡ Some result.now }
@@ -82,6 +87,7 @@ impl<T> HeapNodes<T> {
         &node.value
     }
 
+    /// The value of a live slot, to be written.
     pub fn value_mut(&mut self, slot: usize) -> &mut T
         requires { ContainsKey self.old.store slot }
         ensures* writes_back { sem 𝓛 (LendsValueIn T.row self.entry slot result) }
@@ -91,6 +97,7 @@ impl<T> HeapNodes<T> {
         &mut node.value
     }
 
+    /// The node has links, so it is in the heap.
     pub fn is_linked(&self, slot: usize) -> bool
         ensures { result ≡ is_some (links_of self.now slot) }
     {
@@ -100,6 +107,7 @@ impl<T> HeapNodes<T> {
         }
     }
 
+    /// A new node without links. Where there is no memory the value comes back.
     pub fn claim(&mut self, value: T) -> Result<usize, NoRoom<T>>
         ensures was_free { IfOk result (λ slot. get self.old.store slot ≡ None) }
         ensures claimed { IfOk result (λ slot. Updates self.old.store self.new.store slot (Some (loose_node value))) }
@@ -119,6 +127,7 @@ impl<T> HeapNodes<T> {
         }
     }
 
+    /// Takes a node away, and gives its value back. Links that name it are the caller's care.
     pub fn free(&mut self, slot: usize) -> T
         requires { ContainsKey self.old.store slot }
         ensures value { values_of self.old slot ≡ Some result }
@@ -129,6 +138,7 @@ impl<T> HeapNodes<T> {
         value
     }
 
+    /// The links of a node that is in the heap.
     pub fn links(&self, slot: usize) -> HeapLinks
         requires { IsLinked self.now slot }
         ensures { links_of self.now slot ≡ Some result }
@@ -137,6 +147,7 @@ impl<T> HeapNodes<T> {
         node.links.unwrap()
     }
 
+    /// Gives a node these links, or none.
     pub fn set_links(&mut self, slot: usize, links: Option<HeapLinks>)
         requires { ContainsKey self.old.store slot }
         ensures { Relinks self.old self.new slot links }
@@ -145,6 +156,7 @@ impl<T> HeapNodes<T> {
         node.links = links;
     }
 
+    /// Makes this the node's first child.
     pub fn set_child(&mut self, slot: usize, child: Option<usize>)
         requires { IsLinked self.old slot }
         ensures { Relinks self.old self.new slot (child_to (links_of self.old slot) child) }
@@ -153,6 +165,7 @@ impl<T> HeapNodes<T> {
         self.set_links(slot, Some(HeapLinks { child, ..links }));
     }
 
+    /// Makes this the node's next sibling.
     pub fn set_next(&mut self, slot: usize, next: Option<usize>)
         requires { IsLinked self.old slot }
         ensures { Relinks self.old self.new slot (next_to (links_of self.old slot) next) }
@@ -161,6 +174,7 @@ impl<T> HeapNodes<T> {
         self.set_links(slot, Some(HeapLinks { next, ..links }));
     }
 
+    /// Says what stands before the node.
     pub fn set_back(&mut self, slot: usize, back: Back)
         requires { IsLinked self.old slot }
         ensures { Relinks self.old self.new slot (back_to (links_of self.old slot) back) }
@@ -169,6 +183,7 @@ impl<T> HeapNodes<T> {
         self.set_links(slot, Some(HeapLinks { back, ..links }));
     }
 
+    /// Says what stands behind the node and before it.
     pub fn set_place(&mut self, slot: usize, next: Option<usize>, back: Back)
         requires { IsLinked self.old slot }
         ensures { Relinks self.old self.new slot (placed (links_of self.old slot) next back) }

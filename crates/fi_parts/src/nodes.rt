@@ -40,6 +40,7 @@ impl<T> Model for Nodes<T> {
 impl<T> Nodes<T> {
     ghost use Rattle.fi_parts.specs.NodesLending.{LendsNode};
 
+    /// No live slot. It takes no memory yet.
     pub fn new(alloc: Global) -> Self
         ensures { result ≡ record { live = map.empty; order = []; visits = 0 } }
     {
@@ -76,12 +77,14 @@ impl<T> Nodes<T> {
         self.store.last()
     }
 
+    /// The value of a live slot; None for another.
     pub fn get(&self, slot: usize) -> Option<&T>
         ensures { option_copied result ≡ item self.now slot }
     {
         self.store.get(slot)
     }
 
+    /// The same, to be written.
     pub fn get_mut(&mut self, slot: usize) -> Option<&mut T>
         ensures* writes_back { sem 𝓛 (LendsNode T.row self.entry slot result) }
         ensures value { option_copied_mut result ≡ item self.old slot }
@@ -92,7 +95,7 @@ impl<T> Nodes<T> {
         Some(self.store.item_mut(slot))
     }
 
-    /// A live slot that is not linked.
+    /// Takes a value in under a slot that was not live, and does not link it. Where there is no memory the value comes back.
     pub fn claim(&mut self, value: T) -> Result<usize, NoRoom<T>>
     where
         T: Drop,
@@ -106,6 +109,7 @@ impl<T> Nodes<T> {
         Ok(self.store.claim(value)?)
     }
 
+    /// Gives the value of a live slot back that is not linked; the slot is not live afterwards.
     pub fn free(&mut self, slot: usize) -> T
     where
         T: Drop,

@@ -1,11 +1,7 @@
 -- Wakers that a state names to be woken.
-use Rattle.std.specs.Prelude.{◌≡◌, ℕ, List, [], ◌∷◌, Option, Some, None, map}
+use Rattle.std.specs.Prelude.{◌≡◌, List, [], ◌∷◌, Option, Some, None}
 
 -- The oldest waker is taken out; none comes where none is left.
 abbrev pub TakesOldest : {W : Type 0} → List W → Option W → List W → Type 0
 TakesOldest [] answer new = (answer ≡ None) × (new ≡ [])
 TakesOldest (waker ∷ wakers) answer new = (answer ≡ Some waker) × (new ≡ wakers)
-
--- the wakers of named pairs, in their order
-abbrev pub wakers_of : {W : Type 0} → List (ℕ × W) → List W
-wakers_of pairs = map (λ pair. pair.1) pairs

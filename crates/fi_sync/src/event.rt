@@ -70,7 +70,7 @@ impl<R: Wait> ManualResetEvent<R> {
 
 impl HasOutbox for EventState<Waker> {
     ghost use Rattle.fi_channels.specs.Event.{Wakes};
-    ghost use Rattle.fi_sync.specs.Wakes.{wakers_of};
+    ghost use Rattle.fi_parts.specs.Pairs.{wakers_of};
 
     ghost wakers = { λ event. wakers_of event.out };
 

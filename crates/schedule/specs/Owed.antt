@@ -1,7 +1,7 @@
 -- The wakers that a primitive has still to hand out.
 use Rattle.std.specs.Prelude.{◌≡◌, ℕ, Option, None, Some, List, [], ◌∷◌, drop}
 use Rattle.std.proofs.Common.{ap, refl, ◌∙◌}
-use Rattle.fi_parts.specs.Pairs.{oldest}
+use Rattle.fi_parts.specs.Pairs.{oldest, wakers_of}
 use Rattle.fi_channels.specs.Event.{EventMachine}
 use Rattle.fi_channels.specs.Oneshot.{OneshotMachine, Gives, Takes, Clones}
 use Rattle.fi_channels.specs.StateBroadcast.{StateMachine}
@@ -18,11 +18,6 @@ use Rattle.fi_run.specs.declared.state.StateCall.TheVariants as state_calls
 abbrev pub is_same : ℕ → ℕ → Type 0
 is_same value copy = copy ≡ value
 
--- the wakers of an outbox, oldest first
-abbrev pub wakers_in : List (ℕ × ℕ) → List ℕ
-wakers_in [] = []
-wakers_in (pair ∷ pairs) = pair.1 ∷ wakers_in pairs
-
 abbrev pub first_of : List ℕ → Option ℕ
 first_of [] = None
 first_of (waker ∷ wakers) = Some waker
@@ -32,31 +27,31 @@ abbrev pub HandsOutOldest : {S : Type 0} → (S → List ℕ) → (S → S) → 
 HandsOutOldest owed without_wakers old answer new =
     (answer ≡ Woken (first_of (owed old))) × (owed new ≡ drop 1 (owed old)) × (without_wakers new ≡ without_wakers old)
 
-first_in : (out : List (ℕ × ℕ)) → oldest out ≡ first_of (wakers_in out)
+first_in : (out : List (ℕ × ℕ)) → oldest out ≡ first_of (wakers_of out)
 first_in [] = refl
 first_in (pair ∷ out) = refl
 
-rest_in : (out : List (ℕ × ℕ)) → wakers_in (drop 1 out) ≡ drop 1 (wakers_in out)
+rest_in : (out : List (ℕ × ℕ)) → wakers_of (drop 1 out) ≡ drop 1 (wakers_of out)
 rest_in [] = refl
 rest_in (pair ∷ out) = refl
 
-answered : (waker : Option ℕ) (out : List (ℕ × ℕ)) → waker ≡ oldest out → ◌≡◌ {A = Answer ℕ ℕ} (Woken waker) (Woken (first_of (wakers_in out)))
+answered : (waker : Option ℕ) (out : List (ℕ × ℕ)) → waker ≡ oldest out → ◌≡◌ {A = Answer ℕ ℕ} (Woken waker) (Woken (first_of (wakers_of out)))
 answered waker out is = ap (λ found. Woken found) (is ∙ first_in out)
 
 abbrev pub event_owed : EventMachine ℕ → List ℕ
-event_owed event = wakers_in event.out
+event_owed event = wakers_of event.out
 
 abbrev pub event_without : EventMachine ℕ → EventMachine ℕ
 event_without event = record event { out = [] }
 
 abbrev pub oneshot_owed : OneshotMachine ℕ ℕ → List ℕ
-oneshot_owed channel = wakers_in channel.out
+oneshot_owed channel = wakers_of channel.out
 
 abbrev pub oneshot_without : OneshotMachine ℕ ℕ → OneshotMachine ℕ ℕ
 oneshot_without channel = record channel { out = [] }
 
 abbrev pub state_owed : StateMachine ℕ ℕ → List ℕ
-state_owed channel = wakers_in channel.out
+state_owed channel = wakers_of channel.out
 
 abbrev pub state_without : StateMachine ℕ ℕ → StateMachine ℕ ℕ
 state_without channel = record channel { out = [] }

@@ -266,6 +266,7 @@ impl<P: Scripted> Session<P> {
     {
         match self.primitive.apply(P::next_wake()) {
             Answer::Woken(waker) => waker,
+            // The law of the call leaves no other answer.
             _ => None,
         }
     }

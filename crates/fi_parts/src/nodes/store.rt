@@ -43,6 +43,7 @@ pub struct Store<T> {
 }
 
 impl<T> Store<T> {
+    /// No node. It takes no memory yet.
     pub fn new(alloc: Global) -> Self
         ensures empty { result.slab.slots ≡ [] }
         ensures first { result.first ≡ None }
@@ -57,18 +58,21 @@ impl<T> Store<T> {
         }
     }
 
+    /// The youngest node of the list.
     pub fn first(&self) -> Option<usize>
         ensures { result ≡ self.now.first }
     {
         self.first
     }
 
+    /// The oldest node of the list.
     pub fn last(&self) -> Option<usize>
         ensures { result ≡ self.now.last }
     {
         self.last
     }
 
+    /// The item of a live slot; None for another.
     pub fn get(&self, slot: usize) -> Option<&T>
         ensures { option_copied result ≡ item_at self.now slot }
     {
@@ -78,6 +82,7 @@ impl<T> Store<T> {
         }
     }
 
+    /// The links of a live slot, to be read or written. This is one visit.
     pub fn fetch(&mut self, slot: usize) -> &mut Links
         requires { ContainsKey self.old.slab slot }
         ensures* writes_back { sem 𝓛 (LendsLinks T.row self.entry slot result) }
@@ -95,6 +100,7 @@ impl<T> Store<T> {
         let _capacity = self.slab.capacity();
     }
 
+    /// The item of a live slot, to be written.
     pub fn item_mut(&mut self, slot: usize) -> &mut T
         requires { ContainsKey self.old.slab slot }
         ensures* writes_back { sem 𝓛 (LendsItem T.row self.entry slot result) }
@@ -104,6 +110,7 @@ impl<T> Store<T> {
         &mut node.item
     }
 
+    /// A new node with loose links. Where there is no memory the item comes back.
     pub fn claim(&mut self, item: T) -> Result<usize, NoRoom<T>>
         ensures was_free { IfOk result (λ slot. get self.old.slab slot ≡ None) }
         ensures claimed { IfOk result (λ slot. Updates self.old.slab self.new.slab slot (Some (loose_node item))) }
@@ -126,6 +133,7 @@ impl<T> Store<T> {
         }
     }
 
+    /// Takes a node away and gives its item back. Links that name it are the caller's care.
     pub fn free(&mut self, slot: usize) -> T
         requires { ContainsKey self.old.slab slot }
         ensures value { item_at self.old slot ≡ Some result }
