@@ -1,5 +1,5 @@
 #!/bin/sh
-# Times the built `schedule` and another program of the same grammar in turn, on the script of N waits (100000 if not given), and
+# Times the built `schedule` and another program that reads the same script in turn, on the script of N waits (100000 if not given), and
 # prints the best of nine runs of each in nanoseconds a line. `cargo build --release` in bench/rust makes such a program from the
 # Rust crate, bench/rust/target/release/schedule-rust; `rt run` in crates/schedule makes ours.
 set -eu
