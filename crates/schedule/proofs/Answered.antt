@@ -1,5 +1,5 @@
 -- What a line does, from what its parts do.
-use Rattle.std.specs.Prelude.{◌≡◌, ◌≢◌, ◌⊎◌, ℕ, ◌++◌, Bool, true, false, List, [], ◌∷◌, codes, ◌+◌, length, Option, Some, None, Result, Ok, Err, OnOk, IfErr, IsErrAnd}
+use Rattle.std.specs.Prelude.{◌≡◌, ◌≢◌, ◌⊎◌, ℕ, ◌++◌, Bool, true, false, List, [], ◌∷◌, codes, ◌+◌, length, Option, Some, None, Result, Ok, Err, IfErr, IsErrAnd}
 use Rattle.std.proofs.Common.{refl, sym, ◌∙◌, subst, inl, inr, arith}
 use Rattle.std.proofs.lemmas.Bool.{true≢false}
 use Rattle.fi_run.specs.declared.answer.Answer.{Answer}
@@ -18,7 +18,7 @@ wakes_hold : codes "wakes" ≡ codes "hold" → ⊥
 wakes_hold e = cc
 
 hold_wakes : codes "hold" ≡ codes "wakes" → ⊥
-hold_wakes e = cc
+hold_wakes e = wakes_hold (sym e)
 
 module _ {W : Type 0} (contents : W → Option (List ℕ)) where
   -- a line of output whose parts were written one after another
@@ -59,10 +59,6 @@ module _ {C K : Type 0} where
   is_told word action (inl wakes) = λ hold. wakes_hold (sym wakes.0 ∙ hold)
   is_told word action (inr (inl hold)) = absurd (true≢false (sym hold.1))
   is_told word action (inr (inr other)) = other.1
-
-pub then_on_ok : {A E B C : Type 0} (r : Result A E) → OnOk r B → (B → C) → OnOk r C
-then_on_ok (Ok x) known more = more known
-then_on_ok (Err e) known more = tt
 
 module _ {S O C W : Type 0} (opens : O → S → Type 0) (step : S → C → Answer ℕ ℕ → S → Type 0) (owed : S → List ℕ) (without_wakers : S → S) (contents : W → Option (List ℕ)) where
   -- After the line of this number: what goes on from here goes on from the start.

@@ -1,5 +1,6 @@
 -- Texts that go on with a number.
-use Rattle.std.specs.Prelude.{ℕ, List, codes, Option, Some, None, Result, Ok, Err, OnOk}
+use Rattle.std.specs.Prelude.{ℕ, List, codes, Option, Some, None, Result, OnOk}
+use Rattle.std.proofs.lemmas.Result.{on_ok_weaker}
 use Rattle.std.specs.Fmt.{decimal}
 use Rattle.schedule.specs.declared.output.Output.{Output}
 use Rattle.schedule.specs.Outputs.{GoesOn}
@@ -16,5 +17,4 @@ goes_on_with_number contents old between later new (Some text) number first spac
 pub goes_on_if_ok : {W A E : Type 0} (contents : W → Option (List ℕ)) (old between later new : Output W) (text : Option (List ℕ)) (number : ℕ) (r : Result A E)
     → GoesOn contents old between text → GoesOn contents between later (Some (codes " ")) → OnOk r (GoesOn contents later new (Some (decimal number)))
     → OnOk r (GoesOn contents old new (with_number text number))
-goes_on_if_ok contents old between later new text number (Ok x) first space last = goes_on_with_number contents old between later new text number first space last
-goes_on_if_ok contents old between later new text number (Err e) first space last = tt
+goes_on_if_ok contents old between later new text number r first space = on_ok_weaker r (goes_on_with_number contents old between later new text number first space)

@@ -8,3 +8,4 @@ pub mod Script
 pub mod Owed
 pub mod Statuses
 pub mod Texts
+pub mod Unread

@@ -1,5 +1,5 @@
 -- What is on its way to a writer.
-use Rattle.std.specs.Prelude.{⊤, ℕ, List, Option, Some, None}
+use Rattle.std.specs.Prelude.{◌≡◌, ⊤, ℕ, List, Option, Some, None}
 use Rattle.std.specs.Io.KnownBytes.{Appends, append_known}
 use Rattle.schedule.specs.declared.fault.ScriptFault.{ScriptFault}
 use Rattle.schedule.specs.declared.fault.ScriptFault.TheVariants.{Read, Write, BadLine, NoMemory}
@@ -17,6 +17,10 @@ GoesOn contents old new (Some text) = Appends (on_its_way contents old) (on_its_
 -- It goes on with some text of which this holds.
 abbrev pub Tells : {W : Type 0} → (W → Option (List ℕ)) → Output W → Output W → (List ℕ → Type 0) → Type 0
 Tells contents old new holds = (text : List ℕ) × holds text × GoesOn contents old new (Some text)
+
+-- It is on its way to the same writer.
+abbrev pub SameWriter : {W : Type 0} → Output W → Output W → Type 0
+SameWriter old new = new.writer.ghost_name ≡ old.writer.ghost_name
 
 -- what may keep an output from going on
 abbrev pub IsOfOutput : ScriptFault → Type 0

@@ -1,10 +1,11 @@
 //! Answering scripts.
-ghost use Rattle.std.specs.Prelude.{◌≡◌, [], Some, true, OnOk, OnErr, IfOk, IfErr, IfSome, drop, option_copied};
+ghost use Rattle.std.specs.Prelude.{◌≡◌, [], Some, true, OnOk, OnErr, IfOk, IfErr, IfSome, drop};
 ghost use Rattle.schedule.specs.Answered.{Performs, IsOfLine, MakesCall, BeginsLine, AnswersLine, AnswersRest, AnswersFront, RefusesLine, IfBad};
 ghost use Rattle.schedule.specs.Script.{AnswersScript, RefusesScript, Turns, IfFault};
 ghost use Rattle.schedule.specs.Owed.{first_of};
-ghost use Rattle.schedule.specs.Outputs.{GoesOn, Tells, IsOfOutput};
+ghost use Rattle.schedule.specs.Outputs.{GoesOn, Tells, SameWriter, IsOfOutput};
 ghost use Rattle.schedule.specs.Texts.{wakes_text};
+ghost use Rattle.schedule.specs.Unread.{lines_left, words_left};
 
 use crate::fault::ScriptFault;
 use crate::input::read_whole;
@@ -62,7 +63,7 @@ fn answer_script<W: Write>(
 ) -> Result<(), ScriptFault>
     ensures answered { OnOk result (Tells W.contents output.old output.new (AnswersScript script.now)) }
     ensures bad { IfErr result (IfBad (λ number. Tells W.contents output.old output.new (RefusesScript number script.now))) }
-    ensures same_writer { output.new.writer.ghost_name ≡ output.old.writer.ghost_name }
+    ensures same_writer { SameWriter output.old output.new }
 {
     let (first, rest) = split_at_first(script, b'\n');
     let lines = Lines::after(rest);
@@ -92,10 +93,10 @@ fn answer_calls<P: Scripted, W: Write>(
     lines: Lines<'_>,
     output: &mut Output<'_, W>,
 ) -> Result<(), ScriptFault>
-    ensures answered { OnOk result (Tells W.contents output.old output.new (AnswersRest P.opens P.step P.Scripted.owed P.Scripted.without_wakers (P.Scripted.spells (option_copied words.entry.rest)) (option_copied lines.entry.rest))) }
+    ensures answered { OnOk result (Tells W.contents output.old output.new (AnswersRest P.opens P.step P.Scripted.owed P.Scripted.without_wakers (P.Scripted.spells (words_left words.entry)) (lines_left lines.entry))) }
     ensures bad { IfErr result (IfBad (λ number.
-        Tells W.contents output.old output.new (RefusesLine P.opens P.step P.Scripted.owed P.Scripted.without_wakers (P.Scripted.spells (option_copied words.entry.rest)) (option_copied lines.entry.rest) number))) }
-    ensures same_writer { output.new.writer.ghost_name ≡ output.old.writer.ghost_name }
+        Tells W.contents output.old output.new (RefusesLine P.opens P.step P.Scripted.owed P.Scripted.without_wakers (P.Scripted.spells (words_left words.entry)) (lines_left lines.entry) number))) }
+    ensures same_writer { SameWriter output.old output.new }
 {
     let Some(opening) = P::opening(&mut words) else {
         return Err(ScriptFault::BadLine(1));
@@ -113,10 +114,10 @@ fn answer_lines<P: Scripted, W: Write>(
     mut lines: Lines<'_>,
     output: &mut Output<'_, W>,
 ) -> Result<(), ScriptFault>
-    ensures answered { OnOk result (Tells W.contents output.old output.new (AnswersRest P.opens P.step P.Scripted.owed P.Scripted.without_wakers (λ asked. asked ≡ opening) (option_copied lines.entry.rest))) }
+    ensures answered { OnOk result (Tells W.contents output.old output.new (AnswersRest P.opens P.step P.Scripted.owed P.Scripted.without_wakers (λ asked. asked ≡ opening) (lines_left lines.entry))) }
     ensures bad { IfErr result (IfBad (λ number.
-        Tells W.contents output.old output.new (AnswersFront P.opens P.step P.Scripted.owed P.Scripted.without_wakers (λ asked. asked ≡ opening) (option_copied lines.entry.rest) number))) }
-    ensures same_writer { output.new.writer.ghost_name ≡ output.old.writer.ghost_name }
+        Tells W.contents output.old output.new (AnswersFront P.opens P.step P.Scripted.owed P.Scripted.without_wakers (λ asked. asked ≡ opening) (lines_left lines.entry) number))) }
+    ensures same_writer { SameWriter output.old output.new }
 {
     let Ok(primitive) = P::open(alloc, opening) else {
         return Err(ScriptFault::NoMemory);
@@ -158,9 +159,9 @@ impl<P: Scripted> Session<P> {
         output: &mut Output<'_, W>,
     ) -> Result<(), ScriptFault>
         ensures answered { OnOk result (Tells W.contents output.old output.new (AnswersLine P.opens P.step P.Scripted.owed P.Scripted.without_wakers line.now self.old.primitive self.new.primitive)) }
-        // A bad line is told by its number, changes nothing and writes nothing.
+        // A bad line is told by its number; the primitive and the output stay as they were.
         ensures bad { IfErr result (IfBad (λ line. (line ≡ number) × (self.new.primitive ≡ self.old.primitive) × (output.new ≡ output.old))) }
-        ensures same_writer { output.new.writer.ghost_name ≡ output.old.writer.ghost_name }
+        ensures same_writer { SameWriter output.old output.new }
     {
         let mut words = Words::of(line);
         let Some((holds, action)) = self.parse(&mut words) else {
@@ -179,7 +180,7 @@ impl<P: Scripted> Session<P> {
 
     /// What a line asks for, and whether it leaves the outbox as it is.
     fn parse(&self, words: &mut Words<'_>) -> Option<(bool, Action<P::Call, P::Kind>)>
-        ensures { IfSome result (λ asked. BeginsLine (option_copied words.old.rest) asked.0 asked.1) }
+        ensures { IfSome result (λ asked. BeginsLine (words_left words.old) asked.0 asked.1) }
     {
         let verb = words.word()?;
         match verb {
@@ -278,7 +279,7 @@ impl<P: Scripted> Session<P> {
         ensures rest { OnOk result (P.Scripted.without_wakers self.new.primitive ≡ P.Scripted.without_wakers self.old.primitive) }
         ensures futures { self.new.futures ≡ self.old.futures }
         ensures fault { IfErr result IsOfOutput }
-        ensures same_writer { output.new.writer.ghost_name ≡ output.old.writer.ghost_name }
+        ensures same_writer { SameWriter output.old output.new }
     {
         let mut is_first = true;
         while let Some(waker) = self.take_waker() {

@@ -1,5 +1,6 @@
 //! What stands under labels.
-ghost use Rattle.std.specs.Prelude.{◌≡◌, ◌<◌, ◌/◌, ◌%◌, ◌^◌, Some, slice_get, vec_len};
+ghost use Rattle.std.specs.Prelude.{◌≡◌, ◌<◌, ◌%◌, Some, slice_get, vec_len};
+ghost use Rattle.schedule.specs.Labels.{front_of};
 
 use crate::label::Label;
 use std::alloc::{AllocError, Global};
@@ -33,14 +34,14 @@ impl<V: Drop> Labelled<V> {
 
     /// The number of the shelf that a label belongs on.
     fn shelf_number(&self, label: Label) -> usize
-        ensures { result ≡ label.code / 256 % 2 ^ 64 % vec_len self.now.shelves }
+        ensures { result ≡ front_of label % vec_len self.now.shelves }
     {
         label.front() as usize % self.shelves.len()
     }
 
     /// The shelf that a label belongs on.
     pub fn shelf(&self, label: Label) -> &BTreeMap<Label, V>
-        ensures { slice_get self.now.shelves.items (label.code / 256 % 2 ^ 64 % vec_len self.now.shelves) ≡ Some result.now }
+        ensures { slice_get self.now.shelves.items (front_of label % vec_len self.now.shelves) ≡ Some result.now }
     {
         &self.shelves[self.shelf_number(label)]
     }

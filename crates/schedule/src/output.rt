@@ -2,7 +2,7 @@
 
 ghost use Rattle.std.specs.Prelude.{◌≡◌, ◌++◌, ◌∷◌, [], Some, OnOk, IfErr};
 ghost use Rattle.std.specs.Io.KnownBytes.{Appends};
-ghost use Rattle.schedule.specs.Outputs.{GoesOn, IsOfOutput};
+ghost use Rattle.schedule.specs.Outputs.{GoesOn, SameWriter, IsOfOutput};
 ghost use Rattle.std.specs.Fmt.{decimal};
 
 use crate::fault::ScriptFault;
@@ -47,7 +47,7 @@ impl<'a, W: Write> Output<'a, W> {
     pub fn put(&mut self, text: &[u8]) -> Result<(), ScriptFault>
         ensures text { OnOk result (GoesOn W.contents self.old self.new (Some text.now)) }
         ensures fault { IfErr result IsOfOutput }
-        ensures same_writer { self.new.writer.ghost_name ≡ self.old.writer.ghost_name }
+        ensures same_writer { SameWriter self.old self.new }
     {
         if self.collected.len() >= COLLECTED {
             self.flush()?;
@@ -62,7 +62,7 @@ impl<'a, W: Write> Output<'a, W> {
     pub fn put_byte(&mut self, byte: u8) -> Result<(), ScriptFault>
         ensures byte { OnOk result (GoesOn W.contents self.old self.new (Some (byte ∷ []))) }
         ensures fault { IfErr result IsOfOutput }
-        ensures same_writer { self.new.writer.ghost_name ≡ self.old.writer.ghost_name }
+        ensures same_writer { SameWriter self.old self.new }
     {
         if self.collected.len() >= COLLECTED {
             self.flush()?;
@@ -77,7 +77,7 @@ impl<'a, W: Write> Output<'a, W> {
     pub fn put_number(&mut self, number: u64) -> Result<(), ScriptFault>
         ensures numeral { OnOk result (GoesOn W.contents self.old self.new (Some (decimal number))) }
         ensures fault { IfErr result IsOfOutput }
-        ensures same_writer { self.new.writer.ghost_name ≡ self.old.writer.ghost_name }
+        ensures same_writer { SameWriter self.old self.new }
     {
         let mut digits = Buffer::new();
         self.put(digits.format(number).as_bytes())
@@ -88,7 +88,7 @@ impl<'a, W: Write> Output<'a, W> {
         ensures written { OnOk result (Appends (W.contents self.old.writer.now) (W.contents self.new.writer.now) self.old.collected.now.items) }
         ensures emptied { OnOk result (self.new.collected.now.items ≡ []) }
         ensures fault { IfErr result (λ fault. fault ≡ ScriptFault.Write) }
-        ensures same_writer { self.new.writer.ghost_name ≡ self.old.writer.ghost_name }
+        ensures same_writer { SameWriter self.old self.new }
     {
         write_whole(self.writer, self.collected.as_slice())?;
         self.collected.clear();

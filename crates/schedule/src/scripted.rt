@@ -1,6 +1,7 @@
 //! What a primitive has to say to be called from scripts.
 
-ghost use Rattle.std.specs.Prelude.{◌≡◌, ℕ, List, Option, None, IfSome, option_copied};
+ghost use Rattle.std.specs.Prelude.{◌≡◌, ℕ, List, Option, None, IfSome};
+ghost use Rattle.schedule.specs.Unread.{words_left};
 ghost use Rattle.fi_run.specs.declared.answer.Answer.{Answer};
 ghost use Rattle.schedule.specs.Owed.{HandsOutOldest};
 
@@ -39,7 +40,7 @@ pub trait Scripted: Primitive<Answer = Answer<u64, u64>> + Drop {
 
     /// The opening that the words after the primitive's name ask for.
     fn opening(words: &mut Words<'_>) -> Option<Self::Opening>
-        ensures { IfSome result (λ opening. option_copied words.new.rest ≡ None → spells (option_copied words.old.rest) opening) };
+        ensures { IfSome result (λ opening. words_left words.new ≡ None → spells (words_left words.old) opening) };
 
     /// The call that a verb and the words after it ask for; `None` for a line of no call.
     fn parse(verb: &[u8], words: &mut Words<'_>) -> Option<Request<Self::Call, Self::Kind>>;

@@ -1,7 +1,8 @@
 use Rattle.std.specs.Prelude.{true}
 use Rattle.std.proofs.Common.{inl, inr, ap, ◌∙◌}
 use Rattle.schedule.specs.Texts.{answer_text, wakes_text}
-use Rattle.schedule.proofs.Answered.{held_line, told_line, called_by, is_held, is_told, then_on_ok}
+use Rattle.std.proofs.lemmas.Result.{on_ok_weaker}
+use Rattle.schedule.proofs.Answered.{held_line, told_line, called_by, is_held, is_told}
 use Rattle.schedule.proofs.engine.Session.answer_line.Goals.{then-not-holds+in_ok-write_wakes, else-not-holds}
 use Rattle.schedule.proofs.engine.Session.answer_line.Goals as goal
 
@@ -11,7 +12,7 @@ returns-clause-answered g c =
     let text = answer_text c.in_ok-answer.answer in
     let called = called_by _ first.0 _ c.in-Some.action _ _ _ first.3 c.in_ok-answer.ensures.answered in
     let begins = rw c.of-words.ensures at first.2 in
-    then_on_ok c.put_byte.result c.put_byte.ensures.byte (λ last.
+    on_ok_weaker c.put_byte.result (λ last.
     elim c.if-not-holds.branch [
       | then-not-holds+in_ok-write_wakes w ↦
           let written = told_line g.W.Write.contents c.args.output.now c.write_answer.new.output w.write_wakes.new.output c.put_byte.new.self text
@@ -47,4 +48,4 @@ returns-clause-answered g c =
             },
             written.2,
           )
-    ])
+    ]) c.put_byte.ensures.byte
