@@ -17,3 +17,7 @@ pub mod HeapCuts
 pub mod HeapSteps
 pub mod Picked
 pub mod HeapViews
+pub mod Effects
+pub mod Machines
+pub mod WakerHistories
+pub mod PairsWithin

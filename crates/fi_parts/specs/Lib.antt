@@ -23,3 +23,6 @@ pub mod HeapLending
 pub mod HeapNodes
 pub mod HeapPieces
 pub mod Picked
+pub mod Effects
+pub mod Machine
+pub mod WakerHistory

@@ -1,0 +1,17 @@
+use Rattle.fi_channels.specs.StateParts.{machine_of}
+use Rattle.fi_channels.specs.StateLaws.{same_preserves, cloned, own_cloned}
+use Rattle.fi_channels.proofs.state.StateBroadcastStateChannelReceiveAccess.receive_or_register.Goals as goal
+
+pub invariant_of-self : goal.invariant_of-self
+invariant_of-self g c =
+    let old = machine_of c.self.inside.parts in
+    let new = machine_of c.receive_or_register.new.self in
+    let did = c.receive_or_register.ensures.polled in
+    same_preserves old new
+    (cloned _ _ old c.args.slot.0 c.args.waker new c.receive_or_register.result.0 c.self.invariant.0.numbered did).line
+    (own_cloned _ _ old c.args.slot.0 c.args.waker new c.receive_or_register.result.0 did) c.self.invariant
+
+pub returns-clause-live : goal.returns-clause-live
+returns-clause-live g c =
+    (cloned _ _ (machine_of c.self.inside.parts) c.args.slot.0 c.args.waker (machine_of c.receive_or_register.new.self)
+    c.receive_or_register.result.0 c.self.invariant.0.numbered c.receive_or_register.ensures.polled).lives

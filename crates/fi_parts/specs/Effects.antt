@@ -1,0 +1,62 @@
+-- What a call does to the futures that wait.
+use Rattle.std.specs.Prelude.{◌≡◌, ℕ, true, Option, None, List, [], ◌∷◌, ◌++◌, drop}
+use Rattle.fi_parts.specs.declared.phase.Phase.{Phase}
+use Rattle.fi_parts.specs.declared.phase.Phase.TheVariants.{Ended}
+use Rattle.fi_parts.specs.declared.phase.Notice.{Notice}
+use Rattle.fi_parts.specs.Noticed.{phase_after}
+use Rattle.fi_parts.specs.Order.{without}
+use Rattle.fi_parts.specs.Pairs.{without_pair, oldest}
+use Rattle.fi_parts.specs.Waiting.{Side, Waiting, phase_of, with_phase, is_registered, may_be_named, IsLive, no_futures, made, registered, stays, ended, forgotten, noticed, pair, all_noticed}
+
+-- Names are slots, D is what a future asks for, W a waker.
+pub data WaiterEffect (D W : Type 0) : Type 0 where
+  -- nothing
+  NoChange : WaiterEffect D W
+  -- a fresh future is there under this name, which was not live, and asks for that
+  Inserts : ℕ → D → WaiterEffect D W
+  -- it has this waker, and goes to the end of the queue
+  Registers : ℕ → W → WaiterEffect D W
+  -- it is registered, has this newer waker, and keeps its place
+  KeepsWaiting : ℕ → W → WaiterEffect D W
+  -- it ends; it was not registered
+  Ends : ℕ → WaiterEffect D W
+  -- it ends, and leaves the queue, where it was registered
+  EndsRegistered : ℕ → WaiterEffect D W
+  -- it is forgotten, its place in the queue with it
+  Removes : ℕ → WaiterEffect D W
+  -- the oldest of the queue, if there is one, is named and leaves the queue
+  NotifiesOldest : Notice → WaiterEffect D W
+  -- the whole queue is named, in order, and emptied
+  NotifiesAll : Notice → WaiterEffect D W
+  -- the front pair is taken out, and its waker handed out
+  PopsOldest : Option W → WaiterEffect D W
+  -- one after the other
+  AndThen : WaiterEffect D W → WaiterEffect D W → WaiterEffect D W
+
+module _ {D W : Type 0} where
+  -- the oldest of this queue is named and gets this phase; the others stay in the queue
+  abbrev pub oldest_notified : Phase W → List ℕ → Waiting D W → Waiting D W
+  oldest_notified phase [] waiting = waiting
+  oldest_notified phase (name ∷ others) waiting = record { side = noticed phase waiting.side name others; out = waiting.out ++ pair waiting.side name }
+
+  -- it has ended, and left the queue
+  abbrev pub left : Side D W → ℕ → Side D W
+  left side name = record { live = with_phase side.live name Ended; queue = without name side.queue }
+
+  -- The effect made these of those. A poll or a cancel takes out the future's pair first.
+  abbrev pub TakesEffect : WaiterEffect D W → Waiting D W → Waiting D W → Type 0
+  TakesEffect NoChange old new = new ≡ old
+  TakesEffect (Inserts name asks) old new = (phase_of old.side name ≡ None) × (new ≡ record old { side = made old.side name asks })
+  TakesEffect (Registers name waker) old new = (may_be_named (phase_of old.side name) ≡ true) × (new ≡ record { side = registered old.side name waker; out = without_pair name old.out })
+  TakesEffect (KeepsWaiting name waker) old new = (is_registered (phase_of old.side name) ≡ true) × (new ≡ record { side = stays old.side name waker; out = without_pair name old.out })
+  TakesEffect (Ends name) old new = (may_be_named (phase_of old.side name) ≡ true) × (new ≡ record { side = ended old.side name; out = without_pair name old.out })
+  TakesEffect (EndsRegistered name) old new = (is_registered (phase_of old.side name) ≡ true) × (new ≡ record { side = left old.side name; out = without_pair name old.out })
+  TakesEffect (Removes name) old new = IsLive old.side name × (new ≡ record { side = forgotten old.side name; out = without_pair name old.out })
+  TakesEffect (NotifiesOldest notice) old new = new ≡ oldest_notified (phase_after notice) old.side.queue old
+  TakesEffect (NotifiesAll notice) old new = new ≡ all_noticed (phase_after notice) old
+  TakesEffect (PopsOldest waker) old new = (waker ≡ oldest old.out) × (new ≡ record old { out = drop 1 old.out })
+  TakesEffect (AndThen one other) old new = (mid : Waiting D W) × TakesEffect one old mid × TakesEffect other mid new
+
+  -- nothing lives, and nobody is to be woken
+  abbrev pub nobody : Waiting D W
+  nobody = record { side = no_futures; out = [] }
