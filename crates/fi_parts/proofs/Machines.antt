@@ -10,9 +10,9 @@ use Rattle.fi_parts.specs.declared.phase.Phase.{Phase}
 use Rattle.fi_parts.specs.declared.phase.Phase.TheVariants.{Fresh, Registered, Told, Complete, Ended}
 use Rattle.fi_parts.specs.Noticed.{phase_after}
 use Rattle.fi_parts.specs.Waiting.{Side, Waiting, phase_of, phase_in, asks_of, asks_in, is_registered, may_be_named, no_futures, made, forgotten, AreSound}
-use Rattle.fi_parts.proofs.Waiting.{Becomes, noticed_phase, notices, unregistered, asks-with_phase}
+use Rattle.fi_parts.proofs.Waiting.{Becomes, noticed_phase, notices, unregistered, asks-with_phase, asks-with_phases}
 use Rattle.fi_parts.proofs.Sound.{sound-empty}
-use Rattle.fi_parts.proofs.Live.{get-insert_other, get-remove_other}
+use Rattle.fi_parts.proofs.Live.{get-insert_same, get-insert_other, get-remove_same, get-remove_other}
 use Rattle.fi_parts.specs.WakerHistory.{WakerEffect, gives}
 use Rattle.fi_parts.specs.WakerHistory.WakerEffect.{Leaves, NoEffect}
 use Rattle.fi_parts.proofs.PairsWithin.{if_true, if_false}
@@ -39,6 +39,39 @@ module _ {D W : Type 0} where
   -- an unregistered phase is not that of one who is registered
   pub not_so : (new : Side D W) (q : ℕ) (phase : Option (Phase W)) → phase_of new q ≡ phase → is_registered phase ≡ false → is_registered (phase_of new q) ≡ true → ⊥
   not_so new q phase here apart is = both_ways (is_registered phase) apart (sym (ap is_registered here) ∙ is)
+
+  -- what this name asks for after an effect
+  abbrev pub asks_step : WaiterEffect D W → ℕ → Option D → Option D
+  asks_step (Inserts name asks) q before = if name == q then Some asks else before
+  asks_step (Removes name) q before = if name == q then None else before
+  asks_step (AndThen one other) q before = asks_step other q (asks_step one q before)
+  asks_step effect q before = before
+
+  -- An effect makes or removes a future; what another asks for stays.
+  pub asks_after : (effect : WaiterEffect D W) (old new : Waiting D W) → TakesEffect effect old new → (q : ℕ) →
+      asks_of new.side q ≡ asks_step effect q (asks_of old.side q)
+  asks_after NoChange old new did q = asks_to new old q did
+  asks_after (Inserts name asks) old new did q = elim (cases_eq name q) [
+    | inl same ↦ asks_to new _ q did.1 ∙ ap (asks_of (made old.side name asks)) (sym same)
+        ∙ ap asks_in (get-insert_same old.side.live name _) ∙ sym (if_true (name == q) (Some asks) (asks_of old.side q) (eq-eqb name q same))
+    | inr ne ↦ asks_to new _ q did.1 ∙ asks_made old.side name asks q (λ e. ne (sym e))
+        ∙ sym (if_false (name == q) (Some asks) (asks_of old.side q) (ne_eqb name q ne))
+  ]
+  asks_after (Registers name waker) old new did q = asks_to new _ q did.1 ∙ asks-with_phase old.side.live name (Registered waker) q
+  asks_after (KeepsWaiting name waker) old new did q = asks_to new _ q did.1 ∙ asks-with_phase old.side.live name (Registered waker) q
+  asks_after (Ends name) old new did q = asks_to new _ q did.1 ∙ asks-with_phase old.side.live name Ended q
+  asks_after (EndsRegistered name) old new did q = asks_to new _ q did.1 ∙ asks-with_phase old.side.live name Ended q
+  asks_after (Removes name) old new did q = elim (cases_eq name q) [
+    | inl same ↦ asks_to new _ q did.1 ∙ ap (asks_of (forgotten old.side name)) (sym same)
+        ∙ ap asks_in (get-remove_same old.side.live name) ∙ sym (if_true (name == q) None (asks_of old.side q) (eq-eqb name q same))
+    | inr ne ↦ asks_to new _ q did.1 ∙ asks_forgotten old.side name q (λ e. ne (sym e))
+        ∙ sym (if_false (name == q) None (asks_of old.side q) (ne_eqb name q ne))
+  ]
+  asks_after (NotifiesOldest notice) old new did q = asks_to new _ q did ∙ oldest_asks (phase_after notice) old.side.queue old q
+  asks_after (NotifiesAll notice) old new did q = asks_to new _ q did ∙ asks-with_phases (phase_after notice) old.side.queue old.side.live q
+  asks_after (PopsOldest waker) old new did q = asks_to new _ q did.1
+  asks_after (AndThen one other) old new did q =
+      asks_after other did.0 new did.2 q ∙ ap (asks_step other q) (asks_after one old did.0 did.1 q)
 
 module _ {W : Type 0} where
   never_noticed : (phase : Phase W) (before : Option (Phase W)) → may_be_named (Some phase) ≡ true → is_registered (noticed_phase phase before) ≡ true → ⊥
@@ -134,6 +167,7 @@ module _ {S D W : Type 0} (rules : WaiterRules S D W) where
   ends own name waker old new did still = record {
     line = record { own = own; effect = Ends name; steps = did.1; knows = tt; lack = still; effect_is = ap (poll_effect name waker) (sym did.0) };
     lives = polled_lives (Ends name) old.waiting new.waiting name refl did.1.1;
+    asks = asks_after (Ends name) old.waiting new.waiting did.1.1;
   }
 
   -- a poll that ended one that was registered
@@ -141,6 +175,7 @@ module _ {S D W : Type 0} (rules : WaiterRules S D W) where
   ends_waiting own name waker old new did still = record {
     line = record { own = own; effect = EndsRegistered name; steps = did.1; knows = tt; lack = still; effect_is = ap (poll_effect name waker) (sym did.0) };
     lives = polled_lives (EndsRegistered name) old.waiting new.waiting name refl did.1.1;
+    asks = asks_after (EndsRegistered name) old.waiting new.waiting did.1.1;
   }
 
   -- a poll that registered it
@@ -149,6 +184,7 @@ module _ {S D W : Type 0} (rules : WaiterRules S D W) where
   registers own name waker old new did lack still = record {
     line = record { own = own; effect = Registers name waker; steps = did.1; knows = tt; lack = (lack, still); effect_is = ap (poll_effect name waker) (sym did.0) };
     lives = polled_lives (Registers name waker) old.waiting new.waiting name refl did.1.1;
+    asks = asks_after (Registers name waker) old.waiting new.waiting did.1.1;
   }
 
   -- a poll that left it registered
@@ -156,6 +192,7 @@ module _ {S D W : Type 0} (rules : WaiterRules S D W) where
   stays own name waker old new did still = record {
     line = record { own = own; effect = KeepsWaiting name waker; steps = did.1; knows = tt; lack = still; effect_is = ap (poll_effect name waker) (sym did.0) };
     lives = polled_lives (KeepsWaiting name waker) old.waiting new.waiting name refl did.1.1;
+    asks = asks_after (KeepsWaiting name waker) old.waiting new.waiting did.1.1;
   }
 
   -- a poll that was refused
@@ -164,6 +201,7 @@ module _ {S D W : Type 0} (rules : WaiterRules S D W) where
   refused_poll name old new same lives = record {
     line = unchanged old new same;
     lives = ap (λ (m : Machine S D W). is_some (phase_at m name)) same ∙ lives;
+    asks = λ q. ap (λ (m : Machine S D W). asks_of m.waiting.side q) same;
   }
 
   -- who was made is fresh

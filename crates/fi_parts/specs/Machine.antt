@@ -111,8 +111,9 @@ answered_effect name waker Pending = Pends name waker
 answered_effect name waker (Ready (Ok x)) = Leaves name
 answered_effect name waker (Ready (Err fault)) = NoEffect
 
--- The line of a poll of this name: its future lives afterwards.
+-- The line of a poll of this name: its future lives afterwards, and what each one asks for stays.
 pub record PollLine {S D W : Type 0} (rules : WaiterRules S D W) (name : ℕ) (on_wakers : WakerEffect W)
     (old new : Machine S D W) : Type 0 where
   pub line : Line rules on_wakers old new
   pub lives : is_some (phase_at new name) ≡ true
+  pub asks : (q : ℕ) → asks_of new.waiting.side q ≡ asks_of old.waiting.side q

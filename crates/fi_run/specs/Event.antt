@@ -3,7 +3,7 @@ use Rattle.std.specs.Prelude.{◌≡◌, ℕ, Bool, false, None}
 use Rattle.futures.specs.declared.task.Poll.TheVariants as polled
 use Rattle.fi_parts.specs.declared.errors.Fault.{Fault}
 use Rattle.fi_parts.specs.declared.errors.Fault.TheVariants.{NoMemory, NoSlot}
-use Rattle.fi_parts.specs.Waiting.{phase_of}
+use Rattle.fi_parts.specs.Machine.{phase_at}
 use Rattle.fi_run.specs.declared.answer.Answer.{Answer}
 use Rattle.fi_run.specs.declared.answer.Answer.TheVariants.{Made, Pending, Ready, Done, Flag, Woken, Refused}
 use Rattle.fi_run.specs.declared.event.EventCall.{EventCall}
@@ -14,8 +14,8 @@ module _ {W : Type 0} where
   -- where a call may be refused so
   abbrev pub MayRefuse : EventMachine W → EventCall W → Fault → Type 0
   MayRefuse old Wait NoMemory = Unit {0}
-  MayRefuse old (Poll slot waker) NoSlot = can_be_polled (phase_of old.waits slot.0) ≡ false
-  MayRefuse old (Cancel slot) NoSlot = phase_of old.waits slot.0 ≡ None
+  MayRefuse old (Poll slot waker) NoSlot = can_be_polled (phase_at old slot.0) ≡ false
+  MayRefuse old (Cancel slot) NoSlot = phase_at old slot.0 ≡ None
   MayRefuse old call fault = ⊥
 
   -- From old, an event may give this answer to the call and go on to new.
@@ -27,7 +27,7 @@ module _ {W : Type 0} where
   Step old (Cancel slot) Done new = Cancels old slot.0 new
   Step old Set Done new = Sets old new
   Step old Reset Done new = Resets old new
-  Step old IsSet (Flag flag) new = (flag ≡ old.is_set) × (new ≡ old)
+  Step old IsSet (Flag flag) new = (flag ≡ old.own) × (new ≡ old)
   Step old NextWake (Woken waker) new = Wakes old waker new
   Step old call answer new = ⊥
 

@@ -1,259 +1,190 @@
--- The event's machine keeps its laws.
-use Rattle.std.specs.Prelude.{◌≡◌, ℕ, ◌==◌, ◌⊎◌, Bool, true, false, if◌then◌else◌, Option, Some, None, List, [], ◌∷◌, refl}
-use Rattle.std.proofs.Common.{sym, ◌∙◌, ap, subst, inl, inr}
-use Rattle.std.proofs.lemmas.Bool.{eq-eqb, ne_eqb, cases_eq, both_ways}
-use Rattle.futures.specs.declared.task.Poll.TheVariants as polled
+-- What the runs of an event keep.
+use Rattle.std.specs.Prelude.{◌≡◌, ℕ, ◌==◌, if◌then◌else◌, Bool, true, false, Option, Some, None, List, [], ◌∷◌, refl}
+use Rattle.std.proofs.Common.{sym, ◌∙◌, ap, subst}
+use Rattle.std.proofs.lemmas.Bool.{both_ways}
 use Rattle.futures.specs.declared.task.Poll as polls
+use Rattle.futures.specs.declared.task.Poll.TheVariants as polled
 use Rattle.fi_parts.specs.declared.phase.Phase.{Phase}
 use Rattle.fi_parts.specs.declared.phase.Phase.TheVariants.{Fresh, Registered, Told, Complete, Ended}
-use Rattle.fi_parts.specs.Pairs.{without_pair}
-use Rattle.fi_parts.specs.Waiting.{Side, phase_of, is_registered}
-use Rattle.fi_parts.proofs.Waiting.{Becomes, becomes-made, becomes-with_phase, becomes-forgotten, phase-emptied, noticed_phase, lives_as}
-use Rattle.std.specs.Ordering.{nat_cmp}
-use Rattle.std.specs.FinMap as finmap
-use Rattle.fi_parts.specs.declared.phase.Future.{Future}
+use Rattle.fi_parts.specs.declared.phase.Notice.TheVariants.{Tell}
+use Rattle.fi_parts.proofs.Waiting.{Becomes, noticed_phase}
+use Rattle.fi_parts.specs.Effects.WaiterEffect.{NoChange, Inserts, Registers, KeepsWaiting, Ends, Removes, NotifiesAll, PopsOldest}
+use Rattle.fi_parts.specs.Machine.{phase_at, Line}
+use Rattle.fi_parts.proofs.Machines.{line_preserves, unchanged, inserts, removes, pops, phases_after, history_by, apart_noticed}
+use Rattle.fi_parts.proofs.WakerHistories.{line_keeps_wakers, kept_at_first}
+use Rattle.fi_channels.specs.Event.{EventMachine, PollsAs, SetsFrom, IsSound, OwesNoWake}
+use Rattle.fi_channels.specs.EventLaws as laws
+use Rattle.fi_channels.specs.EventLaws.{rules}
 use Rattle.fi_run.specs.declared.answer.Answer.{Answer}
 use Rattle.fi_run.specs.declared.answer.Answer.TheVariants.{Made, Pending, Ready, Done, Flag, Woken, Refused}
 use Rattle.fi_run.specs.declared.event.EventCall.{EventCall}
 use Rattle.fi_run.specs.declared.event.EventCall.TheVariants.{Wait, Poll, Cancel, Set, Reset, IsSet, NextWake}
-use Rattle.fi_channels.specs.Event.{EventMachine, PollsAs, Polls, SetsFrom, IsSound, OwesNoWake}
-use Rattle.fi_channels.specs.EventLaws.{well, opened_well, makes_well, polls_well, cancels_well, sets_well, resets_well, wakes_well}
+use Rattle.fi_run.specs.WakerEffects.{on_wakers}
 use Rattle.fi_run.specs.Event.{Opens, Step}
-use Rattle.fi_run.specs.EventPast.{event_deed, flag_after, first_seen, set_from_then, was_set_since_first_poll, PhaseFits, PollIsRight, Recalls}
-use Rattle.fi_run.specs.Wakers.Deed.{Rests}
-use Rattle.fi_run.specs.WakersLaws.{if_true, if_false, if_same, CarriesOn, wakers_kept, others_stay, others_stay_named, all_stay, queue_named, oldest_woken}
+use Rattle.fi_run.specs.EventHistory.{subject, flag_step, first_seen, set_from_then, seen_by, seen_step, was_set_since_first_poll}
+use Rattle.fi_run.specs.EventHistory.{PollIsRight, HistoryHolds}
 
-not_pending : (X : Type 0) (x : X) → ◌≡◌ {A = polls.Poll X} (polled.Ready x) polled.Pending → ⊥
-not_pending X x e = cc
+abbrev IsRight : polls.Poll (Unit {0}) → Option Bool → Type 0
+IsRight (polled.Ready x) seen = seen ≡ Some true
+IsRight polled.Pending seen = seen ≡ Some false
 
-not_ready : (X : Type 0) (x : X) → ◌≡◌ {A = polls.Poll X} polled.Pending (polled.Ready x) → ⊥
-not_ready X x e = cc
+told_seen : {W : Type 0} (phase : Option (Phase W)) → set_from_then (seen_by phase) ≡ seen_by (noticed_phase Told phase)
+told_seen None = refl
+told_seen (Some Fresh) = refl
+told_seen (Some (Registered w)) = refl
+told_seen (Some Told) = refl
+told_seen (Some Complete) = refl
+told_seen (Some Ended) = refl
 
 module _ {W : Type 0} where
+  -- Each step is a line of the table.
+  is_line : (old : EventMachine W) (call : EventCall W) (answer : Answer ℕ W) (new : EventMachine W) → Step old call answer new →
+      Line rules (on_wakers (subject call) answer) old new
+  is_line old call (Refused fault) new did = unchanged rules old new did.1
+  is_line old Wait (Made slot) new did = inserts rules slot.0 tt old new did
+  is_line old (Poll slot waker) Ready new did = (laws.polled old slot.0 waker (polled.Ready tt) new did).line
+  is_line old (Poll slot waker) Pending new did = (laws.polled old slot.0 waker polled.Pending new did).line
+  is_line old (Cancel slot) Done new did = removes rules slot.0 old new did
+  is_line old Set Done new did = laws.was_set old new did
+  is_line old Reset Done new did = laws.was_reset old new did
+  is_line old IsSet (Flag flag) new did = unchanged rules old new did.1
+  is_line old NextWake (Woken waker) new did = pops rules waker old new did
+  is_line old call answer new did = absurd did
+
   pub event_keeps : (old : EventMachine W) (call : EventCall W) (answer : Answer ℕ W) (new : EventMachine W) →
       IsSound old → OwesNoWake old → Step old call answer new → IsSound new × OwesNoWake new
-  event_keeps old call (Refused fault) new sound no_wake taken = well old new taken.1 (sound, no_wake)
-  event_keeps old Wait (Made slot) new sound no_wake taken = makes_well old slot.0 new (sound, no_wake) taken
-  event_keeps old (Poll slot waker) Ready new sound no_wake taken = polls_well old slot.0 waker (polled.Ready tt) new (sound, no_wake) taken
-  event_keeps old (Poll slot waker) Pending new sound no_wake taken = polls_well old slot.0 waker polled.Pending new (sound, no_wake) taken
-  event_keeps old (Cancel slot) Done new sound no_wake taken = cancels_well old slot.0 new (sound, no_wake) taken
-  event_keeps old Set Done new sound no_wake taken = sets_well old new (sound, no_wake) taken
-  event_keeps old Reset Done new sound no_wake taken = resets_well old new (sound, no_wake) taken
-  event_keeps old IsSet (Flag flag) new sound no_wake taken = well old new taken.1 (sound, no_wake)
-  event_keeps old NextWake (Woken waker) new sound no_wake taken = wakes_well old waker new (sound, no_wake) taken
-  event_keeps old call answer new sound no_wake taken = absurd taken
+  event_keeps old call answer new sound no_wake did = line_preserves rules old new (is_line old call answer new did) (sound, no_wake)
 
-  -- what a poll did: how the wait stood, and how it stands
+  -- What a poll did: the wait's phase now, and that it says what was seen since its first poll.
+  record Polled (old new : EventMachine W) (name : ℕ) (answer : polls.Poll (Unit {0})) : Type 0 where
+    phase : Option (Phase W)
+    becomes : Becomes old.waiting.side new.waiting.side name phase
+    seen : first_seen (seen_by (phase_at old name)) old.own ≡ seen_by phase
+    right : IsRight answer (seen_by phase)
+    flag : new.own ≡ old.own
 
-  -- a poll that ended a wait: it was told, or fresh while the flag was set
-  record Ends (old new : EventMachine W) (name : ℕ) : Type 0 where
-    before : (phase_of old.waits name ≡ Some Told) ⊎ ((phase_of old.waits name ≡ Some Fresh) × (old.is_set ≡ true))
-    phases : Becomes old.waits new.waits name (Some Ended)
-    out : new.out ≡ without_pair name old.out
-    flag : new.is_set ≡ old.is_set
+  module _ (old : EventMachine W) (name : ℕ) (waker : W) (answer : polls.Poll (Unit {0})) (new : EventMachine W) (sound : IsSound old) where
+    polls_as : (phase : Option (Phase W)) (flag : Bool) → phase_at old name ≡ phase → old.own ≡ flag →
+        PollsAs phase flag old name waker answer new → Polled old new name answer
+    polls_as (Some Fresh) true is flag did = record {
+      phase = Some Ended;
+      becomes = phases_after rules true (Ends name) old new sound tt did.1;
+      seen = rw (is, flag) refl;
+      right = rw did.0 refl;
+      flag = did.1.0 ∙ sym flag;
+    }
+    polls_as (Some Fresh) false is flag did = record {
+      phase = Some (Registered waker);
+      becomes = phases_after rules false (Registers name waker) old new sound tt did.1;
+      seen = rw (is, flag) refl;
+      right = rw did.0 refl;
+      flag = did.1.0 ∙ sym flag;
+    }
+    polls_as (Some (Registered before)) now is flag did = record {
+      phase = Some (Registered waker);
+      becomes = phases_after rules now (KeepsWaiting name waker) old new sound tt did.1;
+      seen = rw is refl;
+      right = rw did.0 refl;
+      flag = did.1.0 ∙ sym flag;
+    }
+    polls_as (Some Told) now is flag did = record {
+      phase = Some Ended;
+      becomes = phases_after rules now (Ends name) old new sound tt did.1;
+      seen = rw is refl;
+      right = rw did.0 refl;
+      flag = did.1.0 ∙ sym flag;
+    }
+    polls_as phase now is flag did = absurd did
 
-  -- a poll that left it pending: it was registered, or fresh while the flag was not set
-  record Stays (old new : EventMachine W) (name : ℕ) (waker : W) : Type 0 where
-    before : ((b : W) × (phase_of old.waits name ≡ Some (Registered b))) ⊎ ((phase_of old.waits name ≡ Some Fresh) × (old.is_set ≡ false))
-    phases : Becomes old.waits new.waits name (Some (Registered waker))
-    out : new.out ≡ without_pair name old.out
-    flag : new.is_set ≡ old.is_set
+    did_poll : PollsAs (phase_at old name) old.own old name waker answer new → Polled old new name answer
+    did_poll did = polls_as (phase_at old name) old.own refl refl did
 
-  becomes_to : (old new to : EventMachine W) (name : ℕ) (phase : Option (Phase W)) → new ≡ to → Becomes old.waits to.waits name phase → Becomes old.waits new.waits name phase
-  becomes_to old new to name phase is b = subst (λ (s : EventMachine W). Becomes old.waits s.waits name phase) (sym is) b
+  module _ (old new : EventMachine W) where
+    set_flag : (flag : Bool) → SetsFrom flag old new → new.own ≡ true
+    set_flag true did = did.0
+    set_flag false did = did.0
 
-  ends_as : (phase : Option (Phase W)) (is_set : Bool) (old : EventMachine W) (name : ℕ) (waker : W) (new : EventMachine W) → phase_of old.waits name ≡ phase → old.is_set ≡ is_set →
-      PollsAs phase is_set (record old { out = without_pair name old.out }) name waker (polled.Ready tt) new → Ends old new name
-  ends_as (Some Fresh) true old name waker new is flag move = record {
-    before = inr (is, flag);
-    phases = becomes_to old new _ name (Some Ended) move.1 (becomes-with_phase old.waits name Ended old.waits.queue (lives_as old.waits name Fresh is));
-    out = ap (λ (s : EventMachine W). s.out) move.1;
-    flag = ap (λ (s : EventMachine W). s.is_set) move.1;
-  }
-  ends_as (Some Fresh) false old name waker new is flag move = absurd (not_pending (Unit {0}) tt move.0)
-  ends_as (Some (Registered b)) is_set old name waker new is flag move = absurd (not_pending (Unit {0}) tt move.0)
-  ends_as (Some Told) is_set old name waker new is flag move = record {
-    before = inl is;
-    phases = becomes_to old new _ name (Some Ended) move.1 (becomes-with_phase old.waits name Ended old.waits.queue (lives_as old.waits name Told is));
-    out = ap (λ (s : EventMachine W). s.out) move.1;
-    flag = ap (λ (s : EventMachine W). s.is_set) move.1;
-  }
-  ends_as phase is_set old name waker new is flag move = absurd move
+    set_seen : (flag : Bool) → IsSound old → OwesNoWake old → old.own ≡ flag → SetsFrom flag old new →
+        (q : ℕ) → phase_at new q ≡ noticed_phase Told (phase_at old q)
+    set_seen true sound no_wake is did q =
+        phases_after rules true NoChange old new sound tt did q
+        ∙ sym (apart_noticed Told (phase_at old q) (λ waits. both_ways old.own (no_wake q waits) is))
+    set_seen false sound no_wake is did q = phases_after rules true (NotifiesAll Tell) old new sound refl did q
 
-  stays_as : (phase : Option (Phase W)) (is_set : Bool) (old : EventMachine W) (name : ℕ) (waker : W) (new : EventMachine W) → phase_of old.waits name ≡ phase → old.is_set ≡ is_set →
-      PollsAs phase is_set (record old { out = without_pair name old.out }) name waker polled.Pending new → Stays old new name waker
-  stays_as (Some Fresh) false old name waker new is flag move = record {
-    before = inr (is, flag);
-    phases = becomes_to old new _ name (Some (Registered waker)) move.1 (becomes-with_phase old.waits name (Registered waker) _ (lives_as old.waits name Fresh is));
-    out = ap (λ (s : EventMachine W). s.out) move.1;
-    flag = ap (λ (s : EventMachine W). s.is_set) move.1;
-  }
-  stays_as (Some Fresh) true old name waker new is flag move = absurd (not_ready (Unit {0}) tt move.0)
-  stays_as (Some (Registered b)) is_set old name waker new is flag move = record {
-    before = inl (b, is);
-    phases = becomes_to old new _ name (Some (Registered waker)) move.1 (becomes-with_phase old.waits name (Registered waker) old.waits.queue (lives_as old.waits name (Registered b) is));
-    out = ap (λ (s : EventMachine W). s.out) move.1;
-    flag = ap (λ (s : EventMachine W). s.is_set) move.1;
-  }
-  stays_as (Some Told) is_set old name waker new is flag move = absurd (not_ready (Unit {0}) tt move.0)
-  stays_as phase is_set old name waker new is flag move = absurd move
+  -- the flag after each step
+  flag_after_step : (old : EventMachine W) (call : EventCall W) (answer : Answer ℕ W) (new : EventMachine W) → IsSound old →
+      Step old call answer new → flag_step call answer old.own ≡ new.own
+  flag_after_step old call (Refused fault) new sound did = ap (λ (s : EventMachine W). s.own) (sym did.1)
+  flag_after_step old Wait (Made slot) new sound did = sym did.0
+  flag_after_step old (Poll slot waker) Ready new sound did = sym (did_poll old slot.0 waker (polled.Ready tt) new sound did).flag
+  flag_after_step old (Poll slot waker) Pending new sound did = sym (did_poll old slot.0 waker polled.Pending new sound did).flag
+  flag_after_step old (Cancel slot) Done new sound did = sym did.0
+  flag_after_step old Set Done new sound did = sym (set_flag old new old.own did)
+  flag_after_step old Reset Done new sound did = sym did.0
+  flag_after_step old IsSet (Flag flag) new sound did = ap (λ (s : EventMachine W). s.own) (sym did.1)
+  flag_after_step old NextWake (Woken waker) new sound did = sym did.0
+  flag_after_step old call answer new sound did = absurd did
 
-  ends : (old : EventMachine W) (name : ℕ) (waker : W) (new : EventMachine W) → Polls old name waker (polled.Ready tt) new → Ends old new name
-  ends old name waker new move = ends_as (phase_of old.waits name) old.is_set old name waker new refl refl move
+  -- what was seen, after each step
+  module _ (seen : ℕ → Option Bool) (old : EventMachine W) (new : EventMachine W) (sound : IsSound old)
+      (says : (q : ℕ) → seen q ≡ seen_by (phase_at old q)) where
+    seen_polled : (slot : ℕ) (waker : W) (answer : polls.Poll (Unit {0})) → PollsAs (phase_at old slot) old.own old slot waker answer new →
+        (q : ℕ) → (if slot == q then first_seen (seen q) old.own else seen q) ≡ seen_by (phase_at new q)
+    seen_polled slot waker answer did q =
+        let now = did_poll old slot waker answer new sound did in
+        history_by seen_by old.waiting.side new.waiting.side slot now.phase seen (λ n. first_seen (seen n) old.own) now.becomes says
+        (rw (says slot) now.seen) q
 
-  pends : (old : EventMachine W) (name : ℕ) (waker : W) (new : EventMachine W) → Polls old name waker polled.Pending new → Stays old new name waker
-  pends old name waker new move = stays_as (phase_of old.waits name) old.is_set old name waker new refl refl move
+    seen_after_step : (call : EventCall W) (answer : Answer ℕ W) → OwesNoWake old → Step old call answer new →
+        (q : ℕ) → seen_step q call answer old.own (seen q) ≡ seen_by (phase_at new q)
+    seen_after_step call (Refused fault) no_wake did q = says q ∙ ap (λ (s : EventMachine W). seen_by (phase_at s q)) (sym did.1)
+    seen_after_step Wait (Made slot) no_wake did q =
+        history_by seen_by old.waiting.side new.waiting.side slot.0 (Some Fresh) seen (λ n. None)
+        (phases_after rules old.own (Inserts slot.0 tt) old new sound tt did) says refl q
+    seen_after_step (Poll slot waker) Ready no_wake did q = seen_polled slot.0 waker (polled.Ready tt) did q
+    seen_after_step (Poll slot waker) Pending no_wake did q = seen_polled slot.0 waker polled.Pending did q
+    seen_after_step (Cancel slot) Done no_wake did q =
+        history_by seen_by old.waiting.side new.waiting.side slot.0 None seen (λ n. None)
+        (phases_after rules old.own (Removes slot.0) old new sound tt did) says refl q
+    seen_after_step Set Done no_wake did q =
+        ap set_from_then (says q) ∙ told_seen (phase_at old q) ∙ ap seen_by (sym (set_seen old new old.own sound no_wake refl did q))
+    seen_after_step Reset Done no_wake did q = says q ∙ ap seen_by (sym (phases_after rules false NoChange old new sound tt did q))
+    seen_after_step IsSet (Flag flag) no_wake did q = says q ∙ ap (λ (s : EventMachine W). seen_by (phase_at s q)) (sym did.1)
+    seen_after_step NextWake (Woken waker) no_wake did q =
+        says q ∙ ap seen_by (sym (phases_after rules old.own (PopsOldest waker) old new sound tt did q))
+    seen_after_step call answer no_wake did q = absurd did
 
-  -- the flag
-
-  flag_set : (is_set : Bool) (old new : EventMachine W) → old.is_set ≡ is_set → SetsFrom is_set old new → new.is_set ≡ true
-  flag_set true old new flag move = ap (λ (s : EventMachine W). s.is_set) move ∙ flag
-  flag_set false old new flag move = ap (λ (s : EventMachine W). s.is_set) move
-
-  flag_recalled : (opening : Bool) (past : List (EventCall W × Answer ℕ W)) (old : EventMachine W) (call : EventCall W) (answer : Answer ℕ W) (new : EventMachine W) →
-      old.is_set ≡ flag_after opening past → Step old call answer new → new.is_set ≡ flag_after opening ((call, answer) ∷ past)
-  flag_recalled opening past old call (Refused fault) new flag taken = ap (λ (s : EventMachine W). s.is_set) taken.1 ∙ flag
-  flag_recalled opening past old Wait (Made slot) new flag taken = ap (λ (s : EventMachine W). s.is_set) taken.1 ∙ flag
-  flag_recalled opening past old (Poll slot waker) Ready new flag taken = (ends old slot.0 waker new taken).flag ∙ flag
-  flag_recalled opening past old (Poll slot waker) Pending new flag taken = (pends old slot.0 waker new taken).flag ∙ flag
-  flag_recalled opening past old (Cancel slot) Done new flag taken = ap (λ (s : EventMachine W). s.is_set) taken.1 ∙ flag
-  flag_recalled opening past old Set Done new flag taken = flag_set old.is_set old new refl taken
-  flag_recalled opening past old Reset Done new flag taken = ap (λ (s : EventMachine W). s.is_set) taken
-  flag_recalled opening past old IsSet (Flag is) new flag taken = ap (λ (s : EventMachine W). s.is_set) taken.1 ∙ flag
-  flag_recalled opening past old NextWake (Woken waker) new flag taken = ap (λ (s : EventMachine W). s.is_set) taken.1 ∙ flag
-  flag_recalled opening past old call answer new flag taken = absurd taken
-
-  -- the phases
-
-  fits_at : (phase : Option (Phase W)) (own : Option (Phase W)) (seen : Option Bool) → phase ≡ own → PhaseFits phase seen → PhaseFits own seen
-  fits_at phase own seen is fits = subst (λ (p : Option (Phase W)). PhaseFits p seen) is fits
-
-  fits_by : (old new : Side (Unit {0}) W) (name : ℕ) (phase : Option (Phase W)) (seen own : ℕ → Option Bool) → Becomes old new name phase →
-      ((q : ℕ) → PhaseFits (phase_of old q) (seen q)) → PhaseFits phase (own name) → (q : ℕ) → PhaseFits (phase_of new q) (if name == q then own q else seen q)
-  fits_by old new name phase seen own b fits here q = elim (cases_eq name q) [
-    | inl same ↦ subst (λ (n : ℕ). PhaseFits (phase_of new n) (if name == n then own n else seen n)) same
-        (rw (if_true (name == name) (own name) (seen name) (eq-eqb name name refl), b.here) here)
-    | inr ne ↦ rw (if_false (name == q) (own q) (seen q) (ne_eqb name q ne), b.others q (λ e. ne (sym e))) (fits q)
-  ]
-
-  set_fits : (phase : Option (Phase W)) (seen : Option Bool) → is_registered phase ≡ false → PhaseFits phase seen → PhaseFits phase (set_from_then seen)
-  set_fits None seen apart fits = tt
-  set_fits (Some Fresh) seen apart fits = ap set_from_then fits
-  set_fits (Some (Registered w)) seen apart fits = absurd (both_ways true apart refl)
-  set_fits (Some Told) seen apart fits = ap set_from_then fits
-  set_fits (Some Complete) seen apart fits = tt
-  set_fits (Some Ended) seen apart fits = ap set_from_then fits
-
-  told_fits : (phase : Option (Phase W)) (seen : Option Bool) → PhaseFits phase seen → PhaseFits (noticed_phase Told phase) (set_from_then seen)
-  told_fits None seen fits = tt
-  told_fits (Some Fresh) seen fits = ap set_from_then fits
-  told_fits (Some (Registered w)) seen fits = ap set_from_then fits
-  told_fits (Some Told) seen fits = ap set_from_then fits
-  told_fits (Some Complete) seen fits = tt
-  told_fits (Some Ended) seen fits = ap set_from_then fits
-
-  fits_same : (old new : EventMachine W) (seen : ℕ → Option Bool) → new.waits ≡ old.waits → ((q : ℕ) → PhaseFits (phase_of old.waits q) (seen q)) → (q : ℕ) → PhaseFits (phase_of new.waits q) (seen q)
-  fits_same old new seen same fits q = subst (λ (s : Side (Unit {0}) W). PhaseFits (phase_of s q) (seen q)) (sym same) (fits q)
-
-  fits_set : (is_set : Bool) (old new : EventMachine W) (seen : ℕ → Option Bool) → IsSound old → OwesNoWake old → old.is_set ≡ is_set → SetsFrom is_set old new →
-      ((q : ℕ) → PhaseFits (phase_of old.waits q) (seen q)) → (q : ℕ) → PhaseFits (phase_of new.waits q) (set_from_then (seen q))
-  fits_set true old new seen sound no_wake flag move fits q =
-      fits_same old new (λ n. set_from_then (seen n)) (ap (λ (s : EventMachine W). s.waits) move)
-      (λ n. set_fits (phase_of old.waits n) (seen n) (none_waits n (is_registered (phase_of old.waits n)) refl) (fits n)) q
-    where
-      none_waits : (n : ℕ) (b : Bool) → is_registered (phase_of old.waits n) ≡ b → is_registered (phase_of old.waits n) ≡ false
-      none_waits n true is = absurd (both_ways old.is_set (no_wake n is) flag)
-      none_waits n false is = is
-  fits_set false old new seen sound no_wake flag move fits q =
-      rw (ap (λ (s : EventMachine W). phase_of s.waits q) move ∙ phase-emptied Told old.waits old.out q sound.ordered) (told_fits (phase_of old.waits q) (seen q) (fits q))
-
-  seen_first : (phase : Option (Phase W)) (seen : Option Bool) (flag : Bool) → PhaseFits phase seen → (phase ≡ Some Fresh) → first_seen seen flag ≡ Some flag
-  seen_first phase seen flag fits is = ap (λ s. first_seen s flag) (fits_at phase (Some Fresh) seen is fits)
-
-  phases_recalled : (opening : Bool) (past : List (EventCall W × Answer ℕ W)) (old : EventMachine W) (call : EventCall W) (answer : Answer ℕ W) (new : EventMachine W) →
-      IsSound old → OwesNoWake old → old.is_set ≡ flag_after opening past → ((name : ℕ) → PhaseFits (phase_of old.waits name) (was_set_since_first_poll name opening past)) →
-      Step old call answer new → (name : ℕ) → PhaseFits (phase_of new.waits name) (was_set_since_first_poll name opening ((call, answer) ∷ past))
-  phases_recalled opening past old call (Refused fault) new sound no_wake flag fits taken = fits_same old new (λ n. was_set_since_first_poll n opening past) (ap (λ (s : EventMachine W). s.waits) taken.1) fits
-  phases_recalled opening past old Wait (Made slot) new sound no_wake flag fits taken =
-      fits_by old.waits new.waits slot.0 (Some Fresh) (λ n. was_set_since_first_poll n opening past) (λ n. None) (becomes_to old new _ slot.0 (Some Fresh) taken.1 (becomes-made old.waits slot.0 tt)) fits refl
-  phases_recalled opening past old (Poll slot waker) Ready new sound no_wake flag fits taken =
-      let did = ends old slot.0 waker new taken in
-      fits_by old.waits new.waits slot.0 (Some Ended) (λ n. was_set_since_first_poll n opening past) (λ n. first_seen (was_set_since_first_poll n opening past) (flag_after opening past)) did.phases fits
-      (elim did.before [
-        | inl is ↦ ap (λ s. first_seen s (flag_after opening past)) (fits_at (phase_of old.waits slot.0) (Some Told) (was_set_since_first_poll slot.0 opening past) is (fits slot.0))
-        | inr is ↦ seen_first (phase_of old.waits slot.0) (was_set_since_first_poll slot.0 opening past) (flag_after opening past) (fits slot.0) is.0 ∙ ap Some (sym flag ∙ is.1)
-      ])
-  phases_recalled opening past old (Poll slot waker) Pending new sound no_wake flag fits taken =
-      let did = pends old slot.0 waker new taken in
-      fits_by old.waits new.waits slot.0 (Some (Registered waker)) (λ n. was_set_since_first_poll n opening past) (λ n. first_seen (was_set_since_first_poll n opening past) (flag_after opening past)) did.phases fits
-      (elim did.before [
-        | inl is ↦ ap (λ s. first_seen s (flag_after opening past)) (fits_at (phase_of old.waits slot.0) (Some (Registered is.0)) (was_set_since_first_poll slot.0 opening past) is.1 (fits slot.0))
-        | inr is ↦ seen_first (phase_of old.waits slot.0) (was_set_since_first_poll slot.0 opening past) (flag_after opening past) (fits slot.0) is.0 ∙ ap Some (sym flag ∙ is.1)
-      ])
-  phases_recalled opening past old (Cancel slot) Done new sound no_wake flag fits taken = λ other.
-      let seen = was_set_since_first_poll other opening past in
-      subst (λ (s : Option Bool). PhaseFits (phase_of new.waits other) s) (if_same (slot.0 == other) seen)
-      (fits_by old.waits new.waits slot.0 None (λ n. was_set_since_first_poll n opening past) (λ n. was_set_since_first_poll n opening past) (becomes_to old new _ slot.0 None taken.1 (becomes-forgotten old.waits slot.0)) fits tt other)
-  phases_recalled opening past old Set Done new sound no_wake flag fits taken = fits_set old.is_set old new (λ n. was_set_since_first_poll n opening past) sound no_wake refl taken fits
-  phases_recalled opening past old Reset Done new sound no_wake flag fits taken = fits_same old new (λ n. was_set_since_first_poll n opening past) (ap (λ (s : EventMachine W). s.waits) taken) fits
-  phases_recalled opening past old IsSet (Flag is) new sound no_wake flag fits taken = fits_same old new (λ n. was_set_since_first_poll n opening past) (ap (λ (s : EventMachine W). s.waits) taken.1) fits
-  phases_recalled opening past old NextWake (Woken waker) new sound no_wake flag fits taken = fits_same old new (λ n. was_set_since_first_poll n opening past) (ap (λ (s : EventMachine W). s.waits) taken.1) fits
-  phases_recalled opening past old call answer new sound no_wake flag fits taken = absurd taken
-
-  -- the newest entry's poll
-  poll_recalled : (was_set : ℕ → Option Bool) (old : EventMachine W) (call : EventCall W) (answer : Answer ℕ W) (new : EventMachine W) →
-      Step old call answer new → ((name : ℕ) → PhaseFits (phase_of new.waits name) (was_set name)) → PollIsRight call answer was_set
-  poll_recalled was_set old call (Refused fault) new taken fits = tt
-  poll_recalled was_set old (Poll slot waker) Ready new taken fits = fits_at (phase_of new.waits slot.0) (Some Ended) (was_set slot.0) (ends old slot.0 waker new taken).phases.here (fits slot.0)
-  poll_recalled was_set old (Poll slot waker) Pending new taken fits = fits_at (phase_of new.waits slot.0) (Some (Registered waker)) (was_set slot.0) (pends old slot.0 waker new taken).phases.here (fits slot.0)
-  poll_recalled was_set old call answer new taken fits = tt
-
-  -- the wakers
-  abbrev Carries : EventCall W → Answer ℕ W → EventMachine W → EventMachine W → Type 0
-  Carries call answer old new = CarriesOn (event_deed call answer) old.waits old.out new.waits new.out
-
-  carries_set : (is_set : Bool) (old new : EventMachine W) → IsSound old → SetsFrom is_set old new → CarriesOn Rests old.waits old.out new.waits new.out
-  carries_set true old new sound move = all_stay old.waits new.waits old.out new.out (ap (λ (s : EventMachine W). s.waits) move) (ap (λ (s : EventMachine W). s.out) move)
-  carries_set false old new sound move = queue_named old.waits new.waits old.out new.out sound.ordered (ap (λ (s : EventMachine W). s.out) move)
-
-  carries_same : (old new : EventMachine W) → new ≡ old → CarriesOn Rests old.waits old.out new.waits new.out
-  carries_same old new is = all_stay old.waits new.waits old.out new.out (ap (λ (s : EventMachine W). s.waits) is) (ap (λ (s : EventMachine W). s.out) is)
-
-  carries : (old : EventMachine W) (call : EventCall W) (answer : Answer ℕ W) (new : EventMachine W) → IsSound old → Step old call answer new → Carries call answer old new
-  carries old call (Refused fault) new sound taken = carries_same old new taken.1
-  carries old Wait (Made slot) new sound taken =
-      others_stay_named old.waits new.waits old.out new.out slot.0 (Some Fresh) (becomes_to old new _ slot.0 (Some Fresh) taken.1 (becomes-made old.waits slot.0 tt)) (ap (λ (s : EventMachine W). s.out) taken.1)
-  carries old (Poll slot waker) Ready new sound taken =
-      let did = ends old slot.0 waker new taken in others_stay old.waits new.waits old.out new.out slot.0 (Some Ended) did.phases did.out
-  carries old (Poll slot waker) Pending new sound taken =
-      let did = pends old slot.0 waker new taken in (did.phases.here, others_stay old.waits new.waits old.out new.out slot.0 (Some (Registered waker)) did.phases did.out)
-  carries old (Cancel slot) Done new sound taken =
-      others_stay old.waits new.waits old.out new.out slot.0 None (becomes_to old new _ slot.0 None taken.1 (becomes-forgotten old.waits slot.0)) (ap (λ (s : EventMachine W). s.out) taken.1)
-  carries old Set Done new sound taken = carries_set old.is_set old new sound taken
-  carries old Reset Done new sound taken = all_stay old.waits new.waits old.out new.out (ap (λ (s : EventMachine W). s.waits) taken) (ap (λ (s : EventMachine W). s.out) taken)
-  carries old IsSet (Flag flag) new sound taken = carries_same old new taken.1
-  carries old NextWake (Woken waker) new sound taken =
-      oldest_woken waker old.waits new.waits old.out new.out (ap (λ (s : EventMachine W). s.waits) taken.1) taken.0 (ap (λ (s : EventMachine W). s.out) taken.1)
-  carries old call answer new sound taken = absurd taken
+  right_after_step : (seen : ℕ → Option Bool) (old : EventMachine W) (call : EventCall W) (answer : Answer ℕ W) (new : EventMachine W) →
+      IsSound old → ((q : ℕ) → seen q ≡ seen_by (phase_at new q)) → Step old call answer new → PollIsRight call answer seen
+  right_after_step seen old call (Refused fault) new sound says did = tt
+  right_after_step seen old (Poll slot waker) Ready new sound says did =
+      let now = did_poll old slot.0 waker (polled.Ready tt) new sound did in says slot.0 ∙ ap seen_by now.becomes.here ∙ now.right
+  right_after_step seen old (Poll slot waker) Pending new sound says did =
+      let now = did_poll old slot.0 waker polled.Pending new sound did in says slot.0 ∙ ap seen_by now.becomes.here ∙ now.right
+  right_after_step seen old call answer new sound says did = tt
 
   -- the trait's laws
-  none_some : (w : W) → None ≡ Some w → ⊥
-  none_some w e = cc
+  pub event_starts : (opening : Bool) (state : EventMachine W) → Opens opening state → IsSound state × OwesNoWake state
+  event_starts opening state opens = subst (λ (s : EventMachine W). IsSound s × OwesNoWake s) (sym opens) (laws.opened_holds {W = W} opening)
 
-  pub event_starts : (opening : Bool) (state : EventMachine W) → Opens opening state → IsSound state × OwesNoWake state × Recalls opening [] state
-  event_starts opening state opens =
-      let at_first = opened_well {W = W} opening in
-      subst (λ (s : EventMachine W). IsSound s × OwesNoWake s × Recalls opening [] s) (sym opens)
-      (at_first.0, at_first.1, record { flag = refl; phases = λ name. rw (finmap.get-empty {X = Future (Unit {0}) W} nat_cmp name) tt; polls = tt; wakers = λ name waker is. absurd (none_some waker is) })
+  pub event_history_initial : (state : EventMachine W) → HistoryHolds state [] state
+  event_history_initial state = record {
+    flag = refl;
+    phases = λ name. refl;
+    polls = tt;
+    wakers = kept_at_first {E = EventCall W × Answer ℕ W} (λ entry. on_wakers (subject entry.0) entry.1) state.waiting;
+  }
 
-  pub event_recalls : (opening : Bool) (past : List (EventCall W × Answer ℕ W)) (old : EventMachine W) (call : EventCall W) (answer : Answer ℕ W) (new : EventMachine W) →
-      IsSound old → OwesNoWake old → Recalls opening past old → Step old call answer new → Recalls opening ((call, answer) ∷ past) new
-  event_recalls opening past old call answer new sound no_wake recalled taken =
-      let phases : (name : ℕ) → PhaseFits (phase_of new.waits name) (was_set_since_first_poll name opening ((call, answer) ∷ past)) =
-      phases_recalled opening past old call answer new sound no_wake recalled.flag recalled.phases taken in
+  pub event_history_preserved : (first : EventMachine W) (history : List (EventCall W × Answer ℕ W)) (old : EventMachine W)
+      (call : EventCall W) (answer : Answer ℕ W) (new : EventMachine W) →
+      IsSound old → OwesNoWake old → HistoryHolds first history old → Step old call answer new → HistoryHolds first ((call, answer) ∷ history) new
+  event_history_preserved first history old call answer new sound no_wake was did =
+      let seen : (q : ℕ) → was_set_since_first_poll q first ((call, answer) ∷ history) ≡ seen_by (phase_at new q) =
+      λ q. rw was.flag (seen_after_step (λ n. was_set_since_first_poll n first history) old new sound was.phases call answer no_wake did q) in
       record {
-        flag = flag_recalled opening past old call answer new recalled.flag taken;
-        phases = phases;
-        polls = (poll_recalled (λ name. was_set_since_first_poll name opening ((call, answer) ∷ past)) old call answer new taken phases, recalled.polls);
-        wakers = wakers_kept (λ entry. event_deed entry.0 entry.1) past (call, answer) old.waits new.waits old.out new.out recalled.wakers (carries old call answer new sound taken);
+        flag = ap (flag_step call answer) was.flag ∙ flag_after_step old call answer new sound did;
+        phases = seen;
+        polls = (right_after_step (λ name. was_set_since_first_poll name first ((call, answer) ∷ history)) old call answer new sound seen did, was.polls);
+        wakers = line_keeps_wakers rules (λ entry. on_wakers (subject entry.0) entry.1) first.waiting history (call, answer) old new sound
+            (is_line old call answer new did) was.wakers;
       }

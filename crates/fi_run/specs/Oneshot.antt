@@ -4,14 +4,14 @@ use Rattle.futures.specs.declared.task.Poll.TheVariants as polled
 use Rattle.fi_parts.specs.declared.errors.CloseStatus.TheVariants.{NewlyClosed, AlreadyClosed}
 use Rattle.fi_parts.specs.declared.errors.Fault.{Fault}
 use Rattle.fi_parts.specs.declared.errors.Fault.TheVariants.{NoMemory, NoSlot, Closed}
-use Rattle.fi_parts.specs.Waiting.{phase_of}
-use Rattle.fi_channels.specs.Oneshot.{OneshotMachine, opened, can_receive, Gives, Takes, Clones, ClonesFor, Makes, Polls, Cancels, Sends, Closes, Wakes}
+use Rattle.fi_parts.specs.Machine.{phase_at}
+use Rattle.fi_channels.specs.Oneshot.{OneshotMachine, opened, can_receive, Gives, Takes, Clones, MayLackClone, Makes, Polls, Cancels, Sends, Closes, Wakes}
 use Rattle.fi_run.specs.declared.answer.Answer.{Answer}
 use Rattle.fi_run.specs.declared.answer.Answer.TheVariants.{Made, Pending, Item, Nothing, Done, Newly, Already, Woken, Back, Refused}
 use Rattle.fi_run.specs.declared.oneshot.OneshotCall.{OneshotCall}
 use Rattle.fi_run.specs.declared.oneshot.OneshotCall.TheVariants.{Receive, Poll, Cancel, Send, Close, NextWake}
 
--- where a poll of this name may lack memory for a clone
+-- when a poll of this name may lack memory for a clone
 abbrev pub MayLack : Type 0 → Type 0 → Type 1
 MayLack T W = OneshotMachine T W → ℕ → Type 0
 
@@ -20,16 +20,16 @@ module _ {T W : Type 0} where
   abbrev pub lacks_never : MayLack T W
   lacks_never old name = ⊥
 
-  -- a broadcast's poll clones the value for a fresh receive
-  abbrev pub lacks_clone : MayLack T W
-  lacks_clone old name = ClonesFor (phase_of old.receives name) old.content
+  -- a broadcast's poll clones the value for a fresh receive, unless the clone can't fail
+  abbrev pub lacks_clone : (T → Type 0) → MayLack T W
+  lacks_clone is_infallible old name = MayLackClone is_infallible (phase_at old name) old.own
 
-  -- where a call may be refused so
+  -- when a call may be refused with this fault
   abbrev pub MayRefuse : MayLack T W → OneshotMachine T W → OneshotCall T W → Fault → Type 0
   MayRefuse may_lack old Receive NoMemory = ⊤
-  MayRefuse may_lack old (Poll slot waker) NoSlot = can_receive (phase_of old.receives slot.0) ≡ false
+  MayRefuse may_lack old (Poll slot waker) NoSlot = can_receive (phase_at old slot.0) ≡ false
   MayRefuse may_lack old (Poll slot waker) NoMemory = may_lack old slot.0
-  MayRefuse may_lack old (Cancel slot) NoSlot = phase_of old.receives slot.0 ≡ None
+  MayRefuse may_lack old (Cancel slot) NoSlot = phase_at old slot.0 ≡ None
   MayRefuse may_lack old call fault = ⊥
 
   -- From old, a channel that gives its value so may give this answer to the call and go on to new.
@@ -52,8 +52,8 @@ module _ {T W : Type 0} where
   Step old call answer new = StepBy Takes lacks_never old call answer new
 
   -- the steps of a oneshot broadcast
-  abbrev pub BroadcastStep : (T → T → Type 0) → OneshotMachine T W → OneshotCall T W → Answer T W → OneshotMachine T W → Type 0
-  BroadcastStep is_clone old call answer new = StepBy (Clones is_clone) lacks_clone old call answer new
+  abbrev pub BroadcastStep : (T → T → Type 0) → (T → Type 0) → OneshotMachine T W → OneshotCall T W → Answer T W → OneshotMachine T W → Type 0
+  BroadcastStep is_clone is_infallible old call answer new = StepBy (Clones is_clone) (lacks_clone is_infallible) old call answer new
 
   abbrev pub Opens : Unit {0} → OneshotMachine T W → Type 0
   Opens opening state = state ≡ opened

@@ -1,11 +1,12 @@
 //! The oneshot broadcast channel as a primitive.
-ghost use Rattle.std.specs.Prelude.{◌≡◌, true, List, [], IsOk, IfOk, IfErr};
-ghost use Rattle.fi_parts.specs.Waiting.{phase_of};
+ghost use Rattle.std.specs.Prelude.{◌≡◌, true, IsOk, IfOk, IfErr};
+ghost use Rattle.fi_parts.specs.Machine.{phase_at};
 ghost use Rattle.fi_parts.specs.declared.errors.Slot.{Slot};
 ghost use Rattle.fi_channels.specs.Oneshot.{OneshotMachine, can_receive, IsSound, OwesNoWake};
 ghost use Rattle.fi_run.specs.Oneshot.{Opens, BroadcastStep};
-ghost use Rattle.fi_run.specs.OneshotPast.{accepted, new_closes, KeptFits, KeptFitsFrom, NeverEmptyAgain, IsSettledFrom, Delivers, WasPutIn, GivesCopy, WakersAreKept};
-ghost use Rattle.fi_run.specs.Run.{IsRun, past_after};
+ghost use Rattle.fi_run.specs.OneshotHistory.{IsSettledOnce, WakersAreKept};
+ghost use Rattle.fi_run.specs.BroadcastHistory.{ContentKept, KeepsContent, Delivers, WasPutIn, GivesCopy};
+ghost use Rattle.fi_run.specs.Run.{AfterEveryRun};
 ghost use Rattle.fi_run.specs.declared.answer.Answer.{Answer};
 ghost use Rattle.fi_run.specs.declared.oneshot.OneshotCall.{OneshotCall};
 ghost use Rattle.fi_run.specs.declared.oneshot.OneshotCall.TheVariants as calls;
@@ -21,8 +22,9 @@ use std::alloc::Global;
 impl<T: Clone, W: Drop> Primitive for OneshotBroadcastState<T, W> {
     ghost use Rattle.fi_channels.specs.Oneshot.{IsSound, OwesNoWake};
     ghost use Rattle.fi_run.specs.Oneshot.{Opens, BroadcastStep};
-    ghost use Rattle.fi_run.specs.OneshotPast.{BroadcastRecalls};
-    ghost use Rattle.fi_run.specs.BroadcastRuns.{broadcast_starts, broadcast_keeps, broadcast_recalls};
+    ghost use Rattle.fi_run.specs.BroadcastHistory.{BroadcastHistoryHolds};
+    ghost use Rattle.fi_run.specs.OneshotLaws.{oneshot_starts};
+    ghost use Rattle.fi_run.specs.BroadcastLaws.{broadcast_keeps, broadcast_history_initial, broadcast_history_preserved};
 
     type Opening = ();
 
@@ -30,7 +32,7 @@ impl<T: Clone, W: Drop> Primitive for OneshotBroadcastState<T, W> {
 
     type Answer = Answer<T, W>;
 
-    ghost step = { BroadcastStep T.is_clone };
+    ghost step = { BroadcastStep T.is_clone T.is_infallible };
 
     ghost opens = { Opens };
 
@@ -38,13 +40,15 @@ impl<T: Clone, W: Drop> Primitive for OneshotBroadcastState<T, W> {
 
     ghost owes_no_wake = { OwesNoWake };
 
-    ghost recalls = { BroadcastRecalls T.is_clone };
+    ghost history_invariant = { BroadcastHistoryHolds T.is_clone T.is_infallible };
 
-    ghost starts = { broadcast_starts T.is_clone };
+    ghost starts = { oneshot_starts };
 
-    ghost keeps = { broadcast_keeps T.is_clone };
+    ghost keeps = { broadcast_keeps T.is_clone T.is_infallible };
 
-    ghost recalls_after = { broadcast_recalls T.is_clone };
+    ghost history_initial = { broadcast_history_initial T.is_clone T.is_infallible };
+
+    ghost history_preserved = { broadcast_history_preserved T.is_clone T.is_infallible };
 
     fn open(alloc: Global, _opening: ()) -> Result<Self, Fault>
         ensures opened { IfOk result (λ state. Opens tt state) }
@@ -75,7 +79,7 @@ impl<T: Clone, W: Drop> Primitive for OneshotBroadcastState<T, W> {
                 }
             }
             OneshotCall::Cancel(slot) => {
-                if !self.is_live(slot) {
+                if !self.has_receive(slot) {
                     return Answer::Refused(Fault::NoSlot);
                 }
                 self.remove_receive_waiter(slot);
@@ -98,36 +102,23 @@ impl<T: Clone, W: Drop> Primitive for OneshotBroadcastState<T, W> {
     }
 }
 
-/// What every run of a oneshot broadcast channel from its opening keeps: after an accepted send every poll of a receive that
-/// is not refused gives a clone of its value, whatever is closed later; at most one send is accepted or close answered
-/// `Newly`, and what left empty never returns; a pending receive's last waker is registered, stands in the outbox, or was
-/// given since; and no wake is owed.
-///
-/// And what every run from any state keeps: a channel that was not empty at first holds the same, accepts no send, and no close is
-/// new; and if the state was sound and owed no wake, none is owed, and once a value was sent, or if it was held at first, a poll of a
-/// receive that may be polled gives a clone of it or is refused for want of the clone's memory.
+/// Every oneshot broadcast channel follows its promises, in every run from a sound state that owes no wake, so from its opening:
+/// once a value was put in every poll of a receive that may be polled gives a clone of it, whatever is closed later, or is refused
+/// for want of the clone's memory (never, if the clone can't fail); at most one value is put in or close answered `Newly`; a
+/// channel that is not empty keeps what it holds; a pending receive's last waker is registered, stands in the outbox, or was
+/// handed out since; and no wake is owed. A value that the channel held at first counts as put in.
 pub fn every_run_of_a_oneshot_broadcast<T: Clone, W: Drop>()
-    ensures deliveries { (first now : OneshotMachine T W) (entries : List (OneshotCall T W × Answer T W)) →
-        Opens tt first → IsRun (BroadcastStep T.is_clone) first entries now → Delivers T.is_clone (past_after entries []) }
-    ensures content { (first now : OneshotMachine T W) (entries : List (OneshotCall T W × Answer T W)) →
-        Opens tt first → IsRun (BroadcastStep T.is_clone) first entries now →
-        KeptFits now.content (accepted (past_after entries [])) (new_closes (past_after entries [])) }
-    ensures wakers { (first now : OneshotMachine T W) (entries : List (OneshotCall T W × Answer T W)) →
-        Opens tt first → IsRun (BroadcastStep T.is_clone) first entries now → WakersAreKept (past_after entries []) now }
-    ensures no_wake { (first now : OneshotMachine T W) (entries : List (OneshotCall T W × Answer T W)) →
-        Opens tt first → IsRun (BroadcastStep T.is_clone) first entries now → OwesNoWake now }
-    ensures copies_onward { (first mid new : OneshotMachine T W) (entries : List (OneshotCall T W × Answer T W)) (value : T) (slot : Slot) (waker : W) (answer : Answer T W) →
-        IsSound first → OwesNoWake first → IsRun (BroadcastStep T.is_clone) first entries mid → WasPutIn first.content (past_after entries []) value →
-        can_receive (phase_of mid.receives slot.0) ≡ true → BroadcastStep T.is_clone mid (calls.Poll slot waker) answer new → GivesCopy T.is_clone value answer }
-    ensures settled_onward { (first now : OneshotMachine T W) (entries : List (OneshotCall T W × Answer T W)) →
-        IsRun (BroadcastStep T.is_clone) first entries now → IsSettledFrom first.content (past_after entries []) }
-    ensures left_onward { (first now : OneshotMachine T W) (entries : List (OneshotCall T W × Answer T W)) →
-        IsRun (BroadcastStep T.is_clone) first entries now → NeverEmptyAgain first.content now.content }
-    ensures content_onward { (first now : OneshotMachine T W) (entries : List (OneshotCall T W × Answer T W)) →
-        IsRun (BroadcastStep T.is_clone) first entries now →
-        KeptFitsFrom first.content now.content (accepted (past_after entries [])) (new_closes (past_after entries [])) }
-    ensures no_wake_onward { (first now : OneshotMachine T W) (entries : List (OneshotCall T W × Answer T W)) →
-        IsSound first → OwesNoWake first → IsRun (BroadcastStep T.is_clone) first entries now → IsSound now × OwesNoWake now }
+    ensures opened { (first : OneshotMachine T W) → Opens tt first → IsSound first × OwesNoWake first }
+    ensures deliveries { AfterEveryRun {S = OneshotMachine T W} IsSound OwesNoWake (BroadcastStep T.is_clone T.is_infallible) (λ first history now. Delivers T.is_clone T.is_infallible first history) }
+    ensures copies { AfterEveryRun {S = OneshotMachine T W} IsSound OwesNoWake (BroadcastStep T.is_clone T.is_infallible) (λ first history now.
+        (value : T) (slot : Slot) (waker : W) (answer : Answer T W) (new : OneshotMachine T W) → WasPutIn first history value →
+        can_receive (phase_at now slot.0) ≡ true → BroadcastStep T.is_clone T.is_infallible now (calls.Poll slot waker) answer new →
+        GivesCopy T.is_clone T.is_infallible value answer) }
+    ensures settled { AfterEveryRun {S = OneshotMachine T W} IsSound OwesNoWake (BroadcastStep T.is_clone T.is_infallible) (λ first history now. IsSettledOnce first history) }
+    ensures content { AfterEveryRun {S = OneshotMachine T W} IsSound OwesNoWake (BroadcastStep T.is_clone T.is_infallible) (λ first history now. ContentKept first history now.own) }
+    ensures kept { AfterEveryRun {S = OneshotMachine T W} IsSound OwesNoWake (BroadcastStep T.is_clone T.is_infallible) (λ first history now. KeepsContent first now) }
+    ensures wakers { AfterEveryRun {S = OneshotMachine T W} IsSound OwesNoWake (BroadcastStep T.is_clone T.is_infallible) (λ first history now. WakersAreKept first history now) }
+    ensures no_wake { AfterEveryRun {S = OneshotMachine T W} IsSound OwesNoWake (BroadcastStep T.is_clone T.is_infallible) (λ first history now. IsSound now × OwesNoWake now) }
 {
     every_run::<OneshotBroadcastState<T, W>>();
 }

@@ -2,8 +2,8 @@
 ghost use Rattle.std.specs.Prelude.{◌≡◌, Bool, ℕ, List, [], IsOk, IfOk, IfErr};
 ghost use Rattle.fi_channels.specs.Event.{EventMachine, IsSound, OwesNoWake};
 ghost use Rattle.fi_run.specs.Event.{Opens, Step};
-ghost use Rattle.fi_run.specs.EventPast.{PollsAreRight, WakersAreKept};
-ghost use Rattle.fi_run.specs.Run.{IsRun, past_after};
+ghost use Rattle.fi_run.specs.EventHistory.{PollsAreRight, WakersAreKept};
+ghost use Rattle.fi_run.specs.Run.{AfterEveryRun};
 ghost use Rattle.fi_run.specs.declared.answer.Answer.{Answer};
 ghost use Rattle.fi_run.specs.declared.event.EventCall.{EventCall};
 
@@ -36,8 +36,8 @@ pub enum EventCall<W> {
 impl<W: Drop> Primitive for EventState<W> {
     ghost use Rattle.fi_channels.specs.Event.{IsSound, OwesNoWake};
     ghost use Rattle.fi_run.specs.Event.{Opens, Step};
-    ghost use Rattle.fi_run.specs.EventPast.{Recalls};
-    ghost use Rattle.fi_run.specs.EventLaws.{event_starts, event_keeps, event_recalls};
+    ghost use Rattle.fi_run.specs.EventHistory.{HistoryHolds};
+    ghost use Rattle.fi_run.specs.EventLaws.{event_starts, event_keeps, event_history_initial, event_history_preserved};
 
     type Opening = bool;
 
@@ -53,13 +53,15 @@ impl<W: Drop> Primitive for EventState<W> {
 
     ghost owes_no_wake = { OwesNoWake };
 
-    ghost recalls = { Recalls };
+    ghost history_invariant = { HistoryHolds };
 
     ghost starts = { event_starts };
 
     ghost keeps = { event_keeps };
 
-    ghost recalls_after = { event_recalls };
+    ghost history_initial = { event_history_initial };
+
+    ghost history_preserved = { event_history_preserved };
 
     fn open(alloc: Global, opening: bool) -> Result<Self, Fault>
         ensures opened { IfOk result (λ state. Opens opening state) }
@@ -112,18 +114,14 @@ impl<W: Drop> Primitive for EventState<W> {
     }
 }
 
-/// In each run from an opening, a poll that is not refused is ready exactly if the event was set at some moment
-/// from the wait's first poll to then; and a pending wait's last waker is registered, stands in the outbox, or was given since.
-/// After a run from any sound state that owes no wake none is owed.
+/// Every event follows its promises, in every run from a sound state that owes no wake, so from an opening: a poll that is not
+/// refused is ready exactly if the event was set at some moment from the wait's first poll to then; a pending wait's last waker
+/// is registered, stands in the outbox, or was handed out since; and no wake is owed.
 pub fn every_run_of_an_event<W: Drop>()
-    ensures polls { (opening : Bool) (first now : EventMachine W) (entries : List (EventCall W × Answer ℕ W)) →
-        Opens opening first → IsRun Step first entries now → PollsAreRight opening (past_after entries []) }
-    ensures wakers { (opening : Bool) (first now : EventMachine W) (entries : List (EventCall W × Answer ℕ W)) →
-        Opens opening first → IsRun Step first entries now → WakersAreKept (past_after entries []) now }
-    ensures no_wake { (opening : Bool) (first now : EventMachine W) (entries : List (EventCall W × Answer ℕ W)) →
-        Opens opening first → IsRun Step first entries now → OwesNoWake now }
-    ensures no_wake_onward { (first now : EventMachine W) (entries : List (EventCall W × Answer ℕ W)) →
-        IsSound first → OwesNoWake first → IsRun Step first entries now → IsSound now × OwesNoWake now }
+    ensures opened { (opening : Bool) (first : EventMachine W) → Opens opening first → IsSound first × OwesNoWake first }
+    ensures polls { AfterEveryRun {S = EventMachine W} IsSound OwesNoWake Step (λ first history now. PollsAreRight first history) }
+    ensures wakers { AfterEveryRun {S = EventMachine W} IsSound OwesNoWake Step (λ first history now. WakersAreKept first history now) }
+    ensures no_wake { AfterEveryRun {S = EventMachine W} IsSound OwesNoWake Step (λ first history now. IsSound now × OwesNoWake now) }
 {
     every_run::<EventState<W>>();
 }

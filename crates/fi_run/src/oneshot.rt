@@ -2,8 +2,8 @@
 ghost use Rattle.std.specs.Prelude.{◌≡◌, List, [], IsOk, IfOk, IfErr};
 ghost use Rattle.fi_channels.specs.Oneshot.{OneshotMachine, IsSound, OwesNoWake};
 ghost use Rattle.fi_run.specs.Oneshot.{Opens, Step};
-ghost use Rattle.fi_run.specs.OneshotPast.{accepted, received, new_closes, TakenFits, TakenFitsFrom, NeverEmptyAgain, GivesOnce, GivesOnceFrom, IsSettledOnce, IsSettledFrom, WakersAreKept};
-ghost use Rattle.fi_run.specs.Run.{IsRun, past_after};
+ghost use Rattle.fi_run.specs.OneshotHistory.{ContentFits, NeverEmptyAgain, GivesOnce, IsSettledOnce, WakersAreKept};
+ghost use Rattle.fi_run.specs.Run.{AfterEveryRun};
 ghost use Rattle.fi_run.specs.declared.answer.Answer.{Answer};
 ghost use Rattle.fi_run.specs.declared.oneshot.OneshotCall.{OneshotCall};
 
@@ -34,8 +34,8 @@ pub enum OneshotCall<T, W> {
 impl<T: Drop, W: Drop> Primitive for OneshotState<T, W> {
     ghost use Rattle.fi_channels.specs.Oneshot.{IsSound, OwesNoWake};
     ghost use Rattle.fi_run.specs.Oneshot.{Opens, Step};
-    ghost use Rattle.fi_run.specs.OneshotPast.{Recalls};
-    ghost use Rattle.fi_run.specs.OneshotRuns.{oneshot_starts, oneshot_keeps, oneshot_recalls};
+    ghost use Rattle.fi_run.specs.OneshotHistory.{HistoryHolds};
+    ghost use Rattle.fi_run.specs.OneshotLaws.{oneshot_starts, oneshot_keeps, oneshot_history_initial, oneshot_history_preserved};
 
     type Opening = ();
 
@@ -51,13 +51,15 @@ impl<T: Drop, W: Drop> Primitive for OneshotState<T, W> {
 
     ghost owes_no_wake = { OwesNoWake };
 
-    ghost recalls = { Recalls };
+    ghost history_invariant = { HistoryHolds };
 
     ghost starts = { oneshot_starts };
 
     ghost keeps = { oneshot_keeps };
 
-    ghost recalls_after = { oneshot_recalls };
+    ghost history_initial = { oneshot_history_initial };
+
+    ghost history_preserved = { oneshot_history_preserved };
 
     fn open(alloc: Global, _opening: ()) -> Result<Self, Fault>
         ensures opened { IfOk result (λ state. Opens tt state) }
@@ -88,7 +90,7 @@ impl<T: Drop, W: Drop> Primitive for OneshotState<T, W> {
                 }
             }
             OneshotCall::Cancel(slot) => {
-                if !self.is_live(slot) {
+                if !self.has_receive(slot) {
                     return Answer::Refused(Fault::NoSlot);
                 }
                 self.remove_receive_waiter(slot);
@@ -111,36 +113,18 @@ impl<T: Drop, W: Drop> Primitive for OneshotState<T, W> {
     }
 }
 
-/// What every run of a oneshot channel from its opening keeps: at most one receive gets the value of the one accepted send,
-/// at most one send is accepted or close answered `Newly`, what left empty never returns, a pending receive's last waker is
-/// registered, stands in the outbox, or was given since, and no wake is owed.
-///
-/// And what every run from any state keeps: the same of its one value, where a value that the channel held at first is the only
-/// one that a receive can get, and a channel that was not empty at first accepts no send and no close is new; what left empty
-/// never returns; and no wake is owed, if the state was sound and owed none.
+/// Every oneshot channel follows its promises, in every run from a sound state that owes no wake, so from its opening: at most
+/// one receive gets the value that was put in; at most one value is put in or close answered `Newly`; what left empty never
+/// returns; a pending receive's last waker is registered, stands in the outbox, or was handed out since; and no wake is owed.
+/// A value that the channel held at first counts as put in, and a channel that was spent at first as closed.
 pub fn every_run_of_a_oneshot<T: Drop, W: Drop>()
-    ensures once { (first now : OneshotMachine T W) (entries : List (OneshotCall T W × Answer T W)) →
-        Opens tt first → IsRun Step first entries now → GivesOnce (past_after entries []) }
-    ensures settled { (first now : OneshotMachine T W) (entries : List (OneshotCall T W × Answer T W)) →
-        Opens tt first → IsRun Step first entries now → IsSettledOnce (past_after entries []) }
-    ensures content { (first now : OneshotMachine T W) (entries : List (OneshotCall T W × Answer T W)) →
-        Opens tt first → IsRun Step first entries now →
-        TakenFits now.content (accepted (past_after entries [])) (received (past_after entries [])) (new_closes (past_after entries [])) }
-    ensures wakers { (first now : OneshotMachine T W) (entries : List (OneshotCall T W × Answer T W)) →
-        Opens tt first → IsRun Step first entries now → WakersAreKept (past_after entries []) now }
-    ensures no_wake { (first now : OneshotMachine T W) (entries : List (OneshotCall T W × Answer T W)) →
-        Opens tt first → IsRun Step first entries now → OwesNoWake now }
-    ensures once_onward { (first now : OneshotMachine T W) (entries : List (OneshotCall T W × Answer T W)) →
-        IsRun Step first entries now → GivesOnceFrom first.content (past_after entries []) }
-    ensures settled_onward { (first now : OneshotMachine T W) (entries : List (OneshotCall T W × Answer T W)) →
-        IsRun Step first entries now → IsSettledFrom first.content (past_after entries []) }
-    ensures left_onward { (first now : OneshotMachine T W) (entries : List (OneshotCall T W × Answer T W)) →
-        IsRun Step first entries now → NeverEmptyAgain first.content now.content }
-    ensures content_onward { (first now : OneshotMachine T W) (entries : List (OneshotCall T W × Answer T W)) →
-        IsRun Step first entries now →
-        TakenFitsFrom first.content now.content (accepted (past_after entries [])) (received (past_after entries [])) (new_closes (past_after entries [])) }
-    ensures no_wake_onward { (first now : OneshotMachine T W) (entries : List (OneshotCall T W × Answer T W)) →
-        IsSound first → OwesNoWake first → IsRun Step first entries now → IsSound now × OwesNoWake now }
+    ensures opened { (first : OneshotMachine T W) → Opens tt first → IsSound first × OwesNoWake first }
+    ensures once { AfterEveryRun {S = OneshotMachine T W} IsSound OwesNoWake Step (λ first history now. GivesOnce first history) }
+    ensures settled { AfterEveryRun {S = OneshotMachine T W} IsSound OwesNoWake Step (λ first history now. IsSettledOnce first history) }
+    ensures content { AfterEveryRun {S = OneshotMachine T W} IsSound OwesNoWake Step (λ first history now. ContentFits first history now.own) }
+    ensures left { AfterEveryRun {S = OneshotMachine T W} IsSound OwesNoWake Step (λ first history now. NeverEmptyAgain first now) }
+    ensures wakers { AfterEveryRun {S = OneshotMachine T W} IsSound OwesNoWake Step (λ first history now. WakersAreKept first history now) }
+    ensures no_wake { AfterEveryRun {S = OneshotMachine T W} IsSound OwesNoWake Step (λ first history now. IsSound now × OwesNoWake now) }
 {
     every_run::<OneshotState<T, W>>();
 }

@@ -1,6 +1,6 @@
 //! Primitives, and runs of them.
 ghost use Rattle.std.specs.Prelude.{◌≡◌, ◌≤◌, List, [], ◌∷◌, IfOk, IfErr, OnOk, OnErr, vec_len, vec_capacity};
-ghost use Rattle.fi_run.specs.Run.{IsRun, Answers, AnswersFront, past_after};
+ghost use Rattle.fi_run.specs.Run.{AfterEveryRun, Answers, AnswersFront};
 
 use fi_parts::Fault;
 use std::alloc::Global;
@@ -8,8 +8,8 @@ use std::alloc::Global;
 /// A machine that answers calls, whatever they are.
 ///
 /// Its ghost members say what it means: which answers a call may have and what it leaves (`step`), which states an opening
-/// makes (`opens`), what holds of every state (`is_sound`, `owes_no_wake`), and what the past says of itself and of the
-/// state (`recalls`). Its laws say that these hold at first and that a step keeps them.
+/// makes (`opens`), what holds of every state (`is_sound`, `owes_no_wake`), and what holds of a first state, the calls and
+/// answers since, and the state now (`history_invariant`). Its laws: initial states satisfy these, and steps preserve them.
 pub trait Primitive {
     type Opening: Drop;
 
@@ -29,8 +29,8 @@ pub trait Primitive {
     /// No wake is owed.
     ghost owes_no_wake: { Self → Type 0 };
 
-    /// What the opening and the past, its newest entry first, say of each other and of the state now.
-    ghost recalls: { Self.Opening → List (Self.Call × Self.Answer) → Self → Type 0 };
+    /// What holds of a first state, the history since (its newest entry first), and the state now.
+    ghost history_invariant: { Self → List (Self.Call × Self.Answer) → Self → Type 0 };
 
     /// Makes the opening's state. Refused only with `NoMemory`.
     fn open(alloc: Global, opening: Self::Opening) -> Result<Self, Fault>
@@ -46,16 +46,19 @@ pub trait Primitive {
         ensures sound { is_sound self.now }
         ensures no_wake { owes_no_wake self.now };
 
-    /// What is opened is so.
-    ghost starts: { (opening : Self.Opening) (state : Self) → opens opening state → is_sound state × owes_no_wake state × recalls opening [] state };
+    /// Initial states satisfy the invariants.
+    ghost starts: { (opening : Self.Opening) (state : Self) → opens opening state → is_sound state × owes_no_wake state };
 
-    /// A step keeps it so.
+    /// A history may begin at any state.
+    ghost history_initial: { (state : Self) → history_invariant state [] state };
+
+    /// Steps preserve the invariants.
     ghost keeps: { (old : Self) (call : Self.Call) (answer : Self.Answer) (new : Self) →
         is_sound old → owes_no_wake old → step old call answer new → is_sound new × owes_no_wake new };
 
-    /// A step goes into the past.
-    ghost recalls_after: { (opening : Self.Opening) (past : List (Self.Call × Self.Answer)) (old : Self) (call : Self.Call) (answer : Self.Answer) (new : Self) →
-        is_sound old → owes_no_wake old → recalls opening past old → step old call answer new → recalls opening ((call, answer) ∷ past) new };
+    /// Steps preserve the history's invariant.
+    ghost history_preserved: { (first : Self) (history : List (Self.Call × Self.Answer)) (old : Self) (call : Self.Call) (answer : Self.Answer) (new : Self) →
+        is_sound old → owes_no_wake old → history_invariant first history old → step old call answer new → history_invariant first ((call, answer) ∷ history) new };
 }
 
 /// Makes the calls in order, and appends each one's answer to `out`.
@@ -68,9 +71,9 @@ pub fn run<P: Primitive>(
     out: &mut Vec<P::Answer>,
 ) -> Result<(), Fault>
     // The answers are those of a run of the machine.
-    ensures ok { OnOk result (Answers P.step P.recalls primitive.old calls.items out.old.items out.new.items primitive.new) }
+    ensures ok { OnOk result (Answers P.step P.history_invariant primitive.old calls.items out.old.items out.new.items primitive.new) }
     // The same of the calls that were made.
-    ensures err { OnErr result (AnswersFront P.step P.recalls primitive.old calls.items out.old.items out.new.items primitive.new) }
+    ensures err { OnErr result (AnswersFront P.step P.history_invariant primitive.old calls.items out.old.items out.new.items primitive.new) }
     ensures fault { IfErr result (λ fault. fault ≡ Fault.NoMemory) }
     ensures full { OnErr result (vec_capacity out.new ≤ vec_len out.new) }
     ensures no_wake { P.owes_no_wake primitive.new }
@@ -86,16 +89,10 @@ pub fn run<P: Primitive>(
     Ok(())
 }
 
-/// The theorem over all runs: in each state that any run from an opening reaches no wake is owed, and the past says what it
-/// says. So it is of a run from any sound state that owes no wake: none is owed after it, and what a past said of that state, it
-/// says with the run of the new one. Each primitive says its own promises in words of its own, as `every_run_of_an_event` does.
+/// The theorem over all runs: an opening's state is sound and owes no wake; and after each run from any state that is sound and
+/// owes none, the state is sound, no wake is owed, and the history's invariant holds. Each primitive says its own promises in
+/// words of its own, as `every_run_of_an_event` does.
 pub fn every_run<P: Primitive>()
-    ensures opened { (opening : P.Opening) (first : P) (entries : List (P.Call × P.Answer)) (now : P) →
-        P.opens opening first → IsRun P.step first entries now →
-        P.is_sound now × P.owes_no_wake now × P.recalls opening (past_after entries []) now }
-    ensures onward { (opening : P.Opening) (past : List (P.Call × P.Answer)) (first : P) (entries : List (P.Call × P.Answer)) (now : P) →
-        P.is_sound first → P.owes_no_wake first → P.recalls opening past first → IsRun P.step first entries now →
-        P.is_sound now × P.owes_no_wake now × P.recalls opening (past_after entries past) now }
-    ensures no_wake_onward { (first : P) (entries : List (P.Call × P.Answer)) (now : P) →
-        P.is_sound first → P.owes_no_wake first → IsRun P.step first entries now → P.is_sound now × P.owes_no_wake now }
+    ensures opened { (opening : P.Opening) (first : P) → P.opens opening first → P.is_sound first × P.owes_no_wake first }
+    ensures runs { AfterEveryRun P.is_sound P.owes_no_wake P.step (λ first history now. P.is_sound now × P.owes_no_wake now × P.history_invariant first history now) }
 {}

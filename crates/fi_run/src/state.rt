@@ -1,17 +1,16 @@
 //! The state broadcast as a primitive.
-ghost use Rattle.std.specs.Prelude.{◌≡◌, ◌<◌, ◌+◌, ◌^◌, ℕ, Some, List, [], length, IsOk, IfOk, IfErr};
-ghost use Rattle.fi_parts.specs.Waiting.{asks_of};
+ghost use Rattle.std.specs.Prelude.{◌≡◌, ◌<◌, ◌^◌, IsOk, IfOk, IfErr};
 ghost use Rattle.fi_channels.specs.StateBroadcast.{StateMachine, IsSound, OwesNoWake};
 ghost use Rattle.fi_run.specs.State.{Opens, Step};
-ghost use Rattle.fi_run.specs.StatePast.{sends, asked_from, new_closes, OpenFits, OpenFitsFrom, StatesAreNewest, StatesAreNewestFrom, WakersAreKept};
+ghost use Rattle.fi_run.specs.StateHistory.{sends, asked_by, new_closes, Counts, AsksAs, OpenFits, StatesAreNewest, WakersAreKept};
 ghost use Rattle.fi_run.specs.StateAnswer.{answer_of};
-ghost use Rattle.fi_run.specs.Run.{IsRun, past_after};
+ghost use Rattle.fi_run.specs.Run.{AfterEveryRun};
 ghost use Rattle.fi_run.specs.declared.answer.Answer.{Answer};
 ghost use Rattle.fi_run.specs.declared.state.StateCall.{StateCall};
 
 use crate::answer::Answer;
 use crate::runs::{Primitive, every_run};
-use fi_channels::StateBroadcastState;
+use fi_channels::{ChannelReceiveAccess, StateBroadcastState};
 use fi_parts::{ChannelSendError, CloseStatus, Fault, Slot, StateId};
 use futures::task::Poll;
 use std::alloc::Global;
@@ -38,8 +37,8 @@ pub enum StateCall<T, W> {
 impl<T: Clone, W: Drop> Primitive for StateBroadcastState<T, W> {
     ghost use Rattle.fi_channels.specs.StateBroadcast.{IsSound, OwesNoWake};
     ghost use Rattle.fi_run.specs.State.{Opens, Step};
-    ghost use Rattle.fi_run.specs.StatePast.{Recalls};
-    ghost use Rattle.fi_run.specs.StateRuns.{state_starts, state_keeps, state_recalls};
+    ghost use Rattle.fi_run.specs.StateHistory.{HistoryHolds};
+    ghost use Rattle.fi_run.specs.StateLaws.{state_starts, state_keeps, state_history_initial, state_history_preserved};
 
     type Opening = ();
 
@@ -47,7 +46,7 @@ impl<T: Clone, W: Drop> Primitive for StateBroadcastState<T, W> {
 
     type Answer = Answer<T, W>;
 
-    ghost step = { Step T.is_clone };
+    ghost step = { Step T.is_clone T.is_infallible };
 
     ghost opens = { Opens };
 
@@ -55,13 +54,15 @@ impl<T: Clone, W: Drop> Primitive for StateBroadcastState<T, W> {
 
     ghost owes_no_wake = { OwesNoWake };
 
-    ghost recalls = { Recalls T.is_clone };
+    ghost history_invariant = { HistoryHolds T.is_clone };
 
-    ghost starts = { state_starts T.is_clone };
+    ghost starts = { state_starts T.is_clone T.is_infallible };
 
-    ghost keeps = { state_keeps T.is_clone };
+    ghost keeps = { state_keeps T.is_clone T.is_infallible };
 
-    ghost recalls_after = { state_recalls T.is_clone };
+    ghost history_initial = { state_history_initial T.is_clone T.is_infallible };
+
+    ghost history_preserved = { state_history_preserved T.is_clone T.is_infallible };
 
     fn open(alloc: Global, _opening: ()) -> Result<Self, Fault>
         ensures opened { IfOk result (λ state. Opens tt state) }
@@ -90,7 +91,7 @@ impl<T: Clone, W: Drop> Primitive for StateBroadcastState<T, W> {
                 }
             }
             StateCall::Cancel(slot) => {
-                if !self.is_live(slot) {
+                if !self.has_receive(slot) {
                     return Answer::Refused(Fault::NoSlot);
                 }
                 self.remove_receive_waiter(slot);
@@ -125,36 +126,20 @@ fn received<T, W>(state: Result<Option<(StateId, T)>, Fault>) -> Answer<T, W>
     }
 }
 
-/// What every run of a state broadcast from its opening keeps: each state that was delivered has a number greater than the
-/// one asked, which is how many sends were accepted by then, and is a clone of the last one's value; the first close is the
-/// one that is answered `Newly`, and a closed channel stays closed; a pending receive's last waker is registered, stands in
-/// the outbox, or was given since; and no wake is owed.
-///
-/// And what every run from any state keeps: each state that was delivered has a number greater than the one asked, which is the
-/// first state's number and one more for each send by then, and is a clone of the newest value; a live receive asks for what its
-/// name was last made with, or, if it was not made since, for what it asked at first; the number never falls; at most one close is
-/// answered `Newly`, and what was closed at first stays closed; and no wake is owed, if the state was sound and owed none.
+/// Every state broadcast follows its promises, in every run from a sound state that owes no wake, so from its opening: every
+/// delivered state is a clone of the newest, with its number, and newer than the one asked for; a live receive keeps the number
+/// that it was made with; the number is the first state's and one more for each send, and fits; the first close is the one that
+/// is answered `Newly`, and a closed channel stays closed; a pending receive's last waker is registered, stands in the outbox, or
+/// was handed out since; and no wake is owed.
 pub fn every_run_of_a_state_broadcast<T: Clone, W: Drop>()
-    ensures states { (first now : StateMachine T W) (entries : List (StateCall T W × Answer T W)) →
-        Opens tt first → IsRun (Step T.is_clone) first entries now → StatesAreNewest T.is_clone (past_after entries []) }
-    ensures closed { (first now : StateMachine T W) (entries : List (StateCall T W × Answer T W)) →
-        Opens tt first → IsRun (Step T.is_clone) first entries now → OpenFits now.is_open (new_closes (past_after entries [])) }
-    ensures fits { (first now : StateMachine T W) (entries : List (StateCall T W × Answer T W)) →
-        Opens tt first → IsRun (Step T.is_clone) first entries now → now.number < 2 ^ 64 }
-    ensures wakers { (first now : StateMachine T W) (entries : List (StateCall T W × Answer T W)) →
-        Opens tt first → IsRun (Step T.is_clone) first entries now → WakersAreKept (past_after entries []) now }
-    ensures no_wake { (first now : StateMachine T W) (entries : List (StateCall T W × Answer T W)) →
-        Opens tt first → IsRun (Step T.is_clone) first entries now → OwesNoWake now }
-    ensures states_onward { (first now : StateMachine T W) (entries : List (StateCall T W × Answer T W)) →
-        IsRun (Step T.is_clone) first entries now → StatesAreNewestFrom T.is_clone first (past_after entries []) }
-    ensures asked_onward { (first now : StateMachine T W) (entries : List (StateCall T W × Answer T W)) (name asked : ℕ) →
-        IsRun (Step T.is_clone) first entries now → asks_of now.receives name ≡ Some asked → asked_from first name (past_after entries []) ≡ Some asked }
-    ensures number_onward { (first now : StateMachine T W) (entries : List (StateCall T W × Answer T W)) →
-        IsRun (Step T.is_clone) first entries now → now.number ≡ first.number + length (sends (past_after entries [])) }
-    ensures closed_onward { (first now : StateMachine T W) (entries : List (StateCall T W × Answer T W)) →
-        IsRun (Step T.is_clone) first entries now → OpenFitsFrom first.is_open now.is_open (new_closes (past_after entries [])) }
-    ensures no_wake_onward { (first now : StateMachine T W) (entries : List (StateCall T W × Answer T W)) →
-        IsSound first → OwesNoWake first → IsRun (Step T.is_clone) first entries now → IsSound now × OwesNoWake now }
+    ensures opened { (first : StateMachine T W) → Opens tt first → IsSound first × OwesNoWake first }
+    ensures states { AfterEveryRun {S = StateMachine T W} IsSound OwesNoWake (Step T.is_clone T.is_infallible) (λ first history now. StatesAreNewest T.is_clone first history) }
+    ensures asked { AfterEveryRun {S = StateMachine T W} IsSound OwesNoWake (Step T.is_clone T.is_infallible) (λ first history now. AsksAs (λ name. asked_by first name history) now) }
+    ensures number { AfterEveryRun {S = StateMachine T W} IsSound OwesNoWake (Step T.is_clone T.is_infallible) (λ first history now. Counts first (sends history) now) }
+    ensures fits { AfterEveryRun {S = StateMachine T W} IsSound OwesNoWake (Step T.is_clone T.is_infallible) (λ first history now. now.own.number < 2 ^ 64) }
+    ensures closed { AfterEveryRun {S = StateMachine T W} IsSound OwesNoWake (Step T.is_clone T.is_infallible) (λ first history now. OpenFits first.own.is_open now.own.is_open (new_closes history)) }
+    ensures wakers { AfterEveryRun {S = StateMachine T W} IsSound OwesNoWake (Step T.is_clone T.is_infallible) (λ first history now. WakersAreKept first history now) }
+    ensures no_wake { AfterEveryRun {S = StateMachine T W} IsSound OwesNoWake (Step T.is_clone T.is_infallible) (λ first history now. IsSound now × OwesNoWake now) }
 {
     every_run::<StateBroadcastState<T, W>>();
 }

@@ -1,30 +1,32 @@
-use Rattle.fi_run.proofs.BroadcastLemmas.{content_onward, copy_onward, settled_from, left_from}
+use Rattle.std.specs.Prelude.{[]}
+use Rattle.fi_run.specs.Run.{history_after}
+use Rattle.fi_run.specs.BroadcastLaws.{settled_by, holds_value, gives_copy}
 use Rattle.fi_run.proofs.broadcast.every_run_of_a_oneshot_broadcast.Goals as goal
 
+pub returns-clause-opened : goal.returns-clause-opened
+returns-clause-opened g c first opens = c.every_run.ensures.opened tt first opens
+
 pub returns-clause-deliveries : goal.returns-clause-deliveries
-returns-clause-deliveries g c first now entries opens run = (c.every_run.ensures.opened tt first entries now opens run).2.deliveries
+returns-clause-deliveries g c first entries now sound no_wake run = (c.every_run.ensures.runs first entries now sound no_wake run).2.deliveries
 
 pub returns-clause-content : goal.returns-clause-content
-returns-clause-content g c first now entries opens run = (c.every_run.ensures.opened tt first entries now opens run).2.content
+returns-clause-content g c first entries now sound no_wake run = (c.every_run.ensures.runs first entries now sound no_wake run).2.content
+
+pub returns-clause-kept : goal.returns-clause-kept
+returns-clause-kept g c first entries now sound no_wake run = (c.every_run.ensures.runs first entries now sound no_wake run).2.kept
 
 pub returns-clause-wakers : goal.returns-clause-wakers
-returns-clause-wakers g c first now entries opens run = (c.every_run.ensures.opened tt first entries now opens run).2.wakers
+returns-clause-wakers g c first entries now sound no_wake run = (c.every_run.ensures.runs first entries now sound no_wake run).2.wakers
+
+pub returns-clause-settled : goal.returns-clause-settled
+returns-clause-settled g c first entries now sound no_wake run =
+    settled_by g.T.Clone.is_clone now.own first (history_after entries []) (c.every_run.ensures.runs first entries now sound no_wake run).2.content
+
+pub returns-clause-copies : goal.returns-clause-copies
+returns-clause-copies g c first entries now sound no_wake run value slot waker answer new put can did =
+    let ran = c.every_run.ensures.runs first entries now sound no_wake run in
+    gives_copy g.T.Clone.is_clone g.T.Clone.is_infallible value now slot.0 waker answer new ran.1
+    (holds_value g.T.Clone.is_clone first now (history_after entries []) value ran.2.content put) can did
 
 pub returns-clause-no_wake : goal.returns-clause-no_wake
-returns-clause-no_wake g c first now entries opens run = (c.every_run.ensures.opened tt first entries now opens run).1
-
-pub returns-clause-no_wake_onward : goal.returns-clause-no_wake_onward
-returns-clause-no_wake_onward g c first now entries sound no_wake run = c.every_run.ensures.no_wake_onward first entries now sound no_wake run
-
-pub returns-clause-copies_onward : goal.returns-clause-copies_onward
-returns-clause-copies_onward g c first mid new entries value slot waker answer sound no_wake run put_in can taken =
-    copy_onward g.T.Clone.is_clone first mid new entries value slot waker answer (c.every_run.ensures.no_wake_onward first entries mid sound no_wake run).1 run put_in can taken
-
-pub returns-clause-settled_onward : goal.returns-clause-settled_onward
-returns-clause-settled_onward g c first now entries run = settled_from first.content now.content _ (content_onward g.T.Clone.is_clone first entries now run)
-
-pub returns-clause-left_onward : goal.returns-clause-left_onward
-returns-clause-left_onward g c first now entries run = left_from first.content now.content _ _ (content_onward g.T.Clone.is_clone first entries now run)
-
-pub returns-clause-content_onward : goal.returns-clause-content_onward
-returns-clause-content_onward g c first now entries run = content_onward g.T.Clone.is_clone first entries now run
+returns-clause-no_wake g c first entries now sound no_wake run = let ran = c.every_run.ensures.runs first entries now sound no_wake run in (ran.0, ran.1)
