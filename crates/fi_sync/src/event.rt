@@ -72,7 +72,7 @@ impl HasOutbox for EventState<Waker> {
     ghost use Rattle.fi_channels.specs.Event.{Wakes};
     ghost use Rattle.fi_parts.specs.Pairs.{wakers_of};
 
-    ghost wakers = { λ event. wakers_of event.out };
+    ghost wakers = { λ event. wakers_of event.waiting.out };
 
     fn next_wake(&mut self) -> Option<Waker>
         ensures { Wakes self.old result self.new }
