@@ -8,6 +8,7 @@ pub mod Queues
 pub mod Waiting
 pub mod Tied
 pub mod Stores
+pub mod Told
 pub mod Sound
 pub mod Rings
 pub mod HeapForests

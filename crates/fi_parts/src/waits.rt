@@ -1,12 +1,12 @@
 //! Futures that wait in a queue, and the wakers that are named to be woken.
 ghost use Rattle.std.specs.Prelude.{◌≡◌, ℕ, ◌++◌, ◌∷◌, List, [], Some, None, true, false, Option, IfOk, OnErr, IfErr, IsSome, MatchOption, length, drop, option_copied};
 ghost use Rattle.std.specs.FinMap as map;
-ghost use Rattle.fi_parts.specs.Order.{holds};
+ghost use Rattle.fi_parts.specs.Order.{holds, without};
 ghost use Rattle.fi_parts.specs.Listed.{item, with_live};
 ghost use Rattle.fi_parts.specs.Pairs.{has, waker_of, without_pair, oldest};
 ghost use Rattle.fi_parts.specs.Noticed.{phase_after};
 ghost use Rattle.fi_parts.specs.PairWaker.{waker_in_pair};
-ghost use Rattle.fi_parts.specs.Waiting.{with_phase, phase_of, IsLive, IsOrdered, is_registered, no_futures, made, registered, forgotten, pair, asks_of, waker_in, all_noticed, displaced, waker_or};
+ghost use Rattle.fi_parts.specs.Waiting.{with_phase, phase_of, IsLive, IsOrdered, IsOrderedBy, is_queued, told_one, is_registered, no_futures, made, registered, forgotten, pair, asks_of, waker_in, all_noticed, displaced, waker_or};
 ghost use Rattle.fi_parts.specs.declared.waits.Entry.{Entry};
 
 use crate::errors::{NoRoom, Slot};
@@ -206,6 +206,23 @@ impl<D: Drop, W: Drop> Waits<D, W> {
         Some(slot)
     }
 
+    /// The oldest future of the queue; None if the queue is empty.
+    pub fn oldest(&self) -> Option<Slot>
+        ensures { MatchOption result (self.now.side.queue ≡ []) (λ slot. (others : List ℕ) × (self.now.side.queue ≡ slot.0 ∷ others)) }
+    {
+        match self.list.last_slot() {
+            Some(oldest) => Some(oldest),
+            None => None,
+        }
+    }
+
+    /// Takes a future out of the queue, wherever its place is; it stays live. Does nothing if it isn't queued.
+    pub fn leave(&mut self, slot: Slot)
+        ensures { self.new ≡ record self.old { side = record self.old.side { queue = without slot.0 self.old.side.queue } } }
+    {
+        self.list.remove(slot);
+    }
+
     /// Names a registered future that is not named yet; it then stands so.
     pub fn notice(&mut self, slot: Slot, phase: Phase<W>)
         requires registered { is_registered (phase_of self.old.side slot.0) ≡ true }
@@ -214,6 +231,40 @@ impl<D: Drop, W: Drop> Waits<D, W> {
     {
         let (ticket, waker) = swap_phase(&mut self.list, slot, phase);
         self.outbox.name(ticket, (slot.0, waker.unwrap()));
+    }
+
+    /// True if a live future has this name and is registered.
+    pub fn is_registered(&self, slot: Slot) -> bool
+        ensures { result ≡ is_registered (phase_of self.now.side slot.0) }
+    {
+        match self.phase(slot) {
+            Some(Phase::Registered(_)) => true,
+            None | Some(Phase::Fresh | Phase::Told | Phase::Complete | Phase::Ended) => false,
+        }
+    }
+
+    /// Tells a registered future and names its waker; a told one stays as it is. Its place in the queue stays.
+    pub fn mark_told(&mut self, slot: Slot)
+        requires waits { is_queued true (phase_of self.old.side slot.0) ≡ true }
+        requires no_pair { is_registered (phase_of self.old.side slot.0) ≡ true → has slot.0 self.old.out ≡ false }
+        ensures { self.new ≡ told_one true self.old slot.0 }
+    {
+        if self.is_registered(slot) {
+            self.notice(slot, Phase::Told);
+        }
+    }
+
+    /// Tells a future of the queue, and names its waker if it was registered. It then leaves the queue, unless it keeps
+    /// its place.
+    pub fn tell(&mut self, slot: Slot, keeps_place: bool)
+        requires ordered { IsOrderedBy (is_queued keeps_place) self.old.side self.old.out }
+        requires queued { holds slot.0 self.old.side.queue ≡ true }
+        ensures { self.new ≡ told_one keeps_place self.old slot.0 }
+    {
+        self.mark_told(slot);
+        if !keeps_place {
+            self.leave(slot);
+        }
     }
 
     /// Names the whole queue, the oldest first, with this notice for each.
