@@ -7,6 +7,7 @@ pub mod OutboxList
 pub mod Queues
 pub mod Waiting
 pub mod Tied
+pub mod Lines
 pub mod Stores
 pub mod Told
 pub mod Sound

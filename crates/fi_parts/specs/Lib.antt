@@ -8,11 +8,12 @@ pub mod Lending
 pub mod NodesLending
 pub mod Drain
 pub mod Pairs
-pub mod PairWaker
+pub mod NamedPairs
 pub mod OutboxList
 pub mod Waiting
 pub mod Noticed
 pub mod Codes
+pub mod LineModel
 pub mod Tied
 pub mod Buffer
 pub mod Rings

@@ -81,6 +81,14 @@ module _ {D W : Type 0} where
   unfoldable pub with_phase : map.FinMap nat_cmp (Future D W) → ℕ → Phase W → map.FinMap nat_cmp (Future D W)
   with_phase live name phase = rephased live name phase (map.get live name)
 
+  abbrev pub with_asks_in : map.FinMap nat_cmp (Future D W) → ℕ → D → Option (Future D W) → map.FinMap nat_cmp (Future D W)
+  with_asks_in live name asks None = live
+  with_asks_in live name asks (Some future) = map.insert live name (record future { asks = asks })
+
+  -- the live futures, this one asking for that
+  unfoldable pub with_asks : map.FinMap nat_cmp (Future D W) → ℕ → D → map.FinMap nat_cmp (Future D W)
+  with_asks live name asks = with_asks_in live name asks (map.get live name)
+
   -- nothing lives here
   abbrev pub no_futures : Side D W
   no_futures = record { live = map.empty; queue = [] }

@@ -11,6 +11,7 @@ mod heap_nodes;
 #[cfg(test)]
 mod heap_tests;
 mod heap_trees;
+mod line;
 mod list;
 mod nodes;
 mod outbox;
@@ -24,7 +25,8 @@ pub use clocks::{Clock, MockClock, StdClock, whole_millis};
 pub use drain::{Drain, ReverseDrain};
 pub use errors::{ChannelSendError, CloseStatus, Fault, NoRoom, Slot, StateId};
 pub use heap::PairingHeap;
+pub use line::{Entry, Line};
 pub use list::LinkedList;
 pub use outbox::{Outbox, Ticket};
 pub use phase::{Future, Leftover, Notice, Phase};
-pub use waits::{Entry, Waits};
+pub use waits::Waits;
