@@ -11,6 +11,11 @@ pub mod Lines
 pub mod Stores
 pub mod Told
 pub mod Sound
+pub mod Sides
+pub mod BothTied
+pub mod Oldest
+pub mod OldestSend
+pub mod OldestReceive
 pub mod Rings
 pub mod HeapForests
 pub mod HeapPieces

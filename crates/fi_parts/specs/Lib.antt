@@ -15,6 +15,9 @@ pub mod Noticed
 pub mod Codes
 pub mod LineModel
 pub mod Tied
+pub mod Oldest
+pub mod Waiter
+pub mod TwoSidesModel
 pub mod Buffer
 pub mod Rings
 pub mod Clocks

@@ -89,6 +89,10 @@ module _ {D W : Type 0} where
   unfoldable pub with_asks : map.FinMap nat_cmp (Future D W) → ℕ → D → map.FinMap nat_cmp (Future D W)
   with_asks live name asks = with_asks_in live name asks (map.get live name)
 
+  -- this one asks for that
+  abbrev pub exchange : Side D W → ℕ → D → Side D W
+  exchange side name asks = record side { live = with_asks side.live name asks }
+
   -- nothing lives here
   abbrev pub no_futures : Side D W
   no_futures = record { live = map.empty; queue = [] }

@@ -18,6 +18,7 @@ mod outbox;
 mod phase;
 #[cfg(test)]
 mod tests;
+mod two_sides;
 mod visits;
 mod waits;
 
@@ -29,4 +30,5 @@ pub use line::{Entry, Line};
 pub use list::LinkedList;
 pub use outbox::{Outbox, Ticket};
 pub use phase::{Future, Leftover, Notice, Phase};
+pub use two_sides::{TwoSides, Waiter};
 pub use waits::Waits;

@@ -6,7 +6,7 @@ ghost use Rattle.fi_parts.specs.Order.{holds, without};
 ghost use Rattle.fi_parts.specs.Listed.{item, with_live};
 ghost use Rattle.fi_parts.specs.Pairs.{with_tickets};
 ghost use Rattle.fi_parts.specs.NamedPairs.{waker_in_pair};
-ghost use Rattle.fi_parts.specs.Waiting.{with_phase, with_asks, phase_of, IsLive, made, registered, forgotten, asks_of, waker_in, waker_or};
+ghost use Rattle.fi_parts.specs.Waiting.{with_phase, exchange, phase_of, IsLive, made, registered, forgotten, asks_of, waker_in, waker_or};
 ghost use Rattle.fi_parts.specs.LineModel.{empty_line};
 ghost use Rattle.fi_parts.specs.declared.line.Entry.{Entry};
 
@@ -190,7 +190,7 @@ impl<D: Drop, W: Drop> Line<D, W> {
     pub fn exchange(&mut self, slot: Slot, asks: D) -> D
         requires { IsLive self.old.side slot.0 }
         ensures asked { asks_of self.old.side slot.0 ≡ Some result }
-        ensures rest { self.new ≡ record self.old { side = record self.old.side { live = with_asks self.old.side.live slot.0 asks } } }
+        ensures rest { self.new ≡ record self.old { side = exchange self.old.side slot.0 asks } }
     {
         swap_asks(&mut self.list, slot, asks)
     }

@@ -3,7 +3,7 @@ ghost use Rattle.std.specs.Prelude.{◌≡◌, ℕ, ◌++◌, ◌∷◌, List, [
 ghost use Rattle.fi_parts.specs.Order.{holds, without};
 ghost use Rattle.fi_parts.specs.Pairs.{has, waker_of, without_pair, oldest};
 ghost use Rattle.fi_parts.specs.Noticed.{phase_after};
-ghost use Rattle.fi_parts.specs.Waiting.{with_phase, with_asks, phase_of, IsLive, IsOrdered, IsOrderedBy, is_queued, told_one, is_registered, no_futures, made, registered, forgotten, pair, asks_of, waker_in, all_noticed, displaced};
+ghost use Rattle.fi_parts.specs.Waiting.{with_phase, exchange, phase_of, IsLive, IsOrdered, IsOrderedBy, is_queued, told_one, is_registered, no_futures, made, registered, forgotten, pair, asks_of, waker_in, all_noticed, displaced};
 
 use crate::errors::{NoRoom, Slot};
 use crate::line::{Line, last_waker, waker_from};
@@ -106,7 +106,7 @@ impl<D: Drop, W: Drop> Waits<D, W> {
     pub fn exchange(&mut self, slot: Slot, asks: D) -> D
         requires { IsLive self.old.side slot.0 }
         ensures asked { asks_of self.old.side slot.0 ≡ Some result }
-        ensures rest { self.new ≡ record self.old { side = record self.old.side { live = with_asks self.old.side.live slot.0 asks } } }
+        ensures rest { self.new ≡ record self.old { side = exchange self.old.side slot.0 asks } }
     {
         self.line.exchange(slot, asks)
     }
