@@ -16,6 +16,7 @@ pub mod BothTied
 pub mod Oldest
 pub mod OldestSend
 pub mod OldestReceive
+pub mod BothSound
 pub mod Rings
 pub mod HeapForests
 pub mod HeapPieces

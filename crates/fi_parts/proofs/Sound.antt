@@ -7,10 +7,10 @@ use Rattle.fi_parts.specs.declared.phase.Phase.{Phase}
 use Rattle.fi_parts.specs.declared.phase.Phase.TheVariants.{Fresh, Registered, Told, Complete, Ended}
 use Rattle.fi_parts.specs.Order.{holds}
 use Rattle.fi_parts.specs.Pairs.{without_pair}
-use Rattle.fi_parts.specs.Waiting.{Side, phase_in, phase_of, is_registered, may_be_named, no_futures, made, registered, stays, ended, forgotten, emptied, named_all, AreSound, AreSoundBy, Waiting, without_place, front_told}
+use Rattle.fi_parts.specs.Waiting.{Side, phase_in, phase_of, is_registered, may_be_named, no_futures, made, with_phase, registered, stays, ended, forgotten, emptied, named_all, AreSound, AreSoundBy, Waiting, without_place, front_told}
 use Rattle.fi_parts.proofs.Queues.{has-without_same}
 use Rattle.fi_parts.proofs.Told.{phases-front_told, ordered-front_told}
-use Rattle.fi_parts.proofs.Waiting.{IsPlaceRule, registered_rule, ordered-without_place, Becomes, becomes-made, becomes-with_phase, becomes-forgotten, phase-emptied, noticed_phase, lives_as, ordered-empty, ordered-made, ordered-ended, ordered-registered, ordered-stays, ordered-forgotten, ordered-without_pair, ordered-drop, ordered-all_noticed}
+use Rattle.fi_parts.proofs.Waiting.{IsPlaceRule, registered_rule, ordered-without_place, Becomes, becomes-made, becomes-with_phase, becomes-forgotten, phase-emptied, noticed_phase, lives_as, ordered-empty, ordered-made, ordered-set_phase, ordered-registered, ordered-stays, ordered-forgotten, ordered-without_pair, ordered-drop, ordered-all_noticed}
 
 module _ {D W : Type 0} (place : Option (Phase W) → Bool) (rule : IsPlaceRule place) (allowed : Option (Phase W) → Bool) where
   only-becomes : (old new : Side D W) (name : ℕ) (phase : Option (Phase W)) → ((q : ℕ) → allowed (phase_of old q) ≡ true) → Becomes old new name phase → allowed phase ≡ true → (q : ℕ) → allowed (phase_of new q) ≡ true
@@ -40,13 +40,24 @@ module _ {D W : Type 0} (place : Option (Phase W) → Bool) (rule : IsPlaceRule 
     only = only-becomes side (forgotten side name) name None was.only (becomes-forgotten side name) is;
   }
 
-  -- a poll that ended one that was not registered
-  pub sound_by-ended : (side : Side D W) (out : List (ℕ × W)) (name : ℕ) (before : Phase W) → allowed (Some Ended) ≡ true → AreSoundBy place allowed side out → phase_of side name ≡ Some before → place (Some before) ≡ false →
+  -- a poll that set the phase of one that has no place, to one that has none
+  pub sound_by-set_phase : (phase : Phase W) (side : Side D W) (out : List (ℕ × W)) (name : ℕ) (before : Phase W) →
+      place (Some phase) ≡ false → may_be_named (Some phase) ≡ true → allowed (Some phase) ≡ true →
+      AreSoundBy place allowed side out → phase_of side name ≡ Some before → place (Some before) ≡ false →
+      AreSoundBy place allowed (record side { live = with_phase side.live name phase }) (without_pair name out)
+  sound_by-set_phase phase side out name before off may is was stood apart =
+      let new : Side D W = record side { live = with_phase side.live name phase } in
+      let lives = lives_as side name before stood in
+      record {
+        ordered = ordered-set_phase place rule phase side _ name off may (ordered-without_pair place rule side out name was.ordered) lives (ap place stood ∙ apart);
+        only = only-becomes side new name (Some phase) was.only (becomes-with_phase side name phase side.queue lives) is;
+      }
+
+  -- a poll that ended one that has no place
+  pub sound_by-ended : (side : Side D W) (out : List (ℕ × W)) (name : ℕ) (before : Phase W) → allowed (Some Ended) ≡ true →
+      AreSoundBy place allowed side out → phase_of side name ≡ Some before → place (Some before) ≡ false →
       AreSoundBy place allowed (ended side name) (without_pair name out)
-  sound_by-ended side out name before is was stood apart = record {
-    ordered = ordered-ended place rule side _ name (ordered-without_pair place rule side out name was.ordered) (lives_as side name before stood) (ap place stood ∙ apart);
-    only = only-becomes side (ended side name) name (Some Ended) was.only (becomes-with_phase side name Ended side.queue (lives_as side name before stood)) is;
-  }
+  sound_by-ended side out name before is was stood apart = sound_by-set_phase Ended side out name before rule.ended refl is was stood apart
 
   -- a poll that registered one
   pub sound_by-registered : (side : Side D W) (out : List (ℕ × W)) (name : ℕ) (waker : W) (before : Phase W) → allowed (Some (Registered waker)) ≡ true → AreSoundBy place allowed side out → phase_of side name ≡ Some before → place (Some before) ≡ false →
@@ -98,6 +109,14 @@ module _ {D W : Type 0} (allowed : Option (Phase W) → Bool) where
 
   pub sound-forgotten : (side : Side D W) (out : List (ℕ × W)) (name : ℕ) → allowed None ≡ true → AreSound allowed side out → AreSound allowed (forgotten side name) (without_pair name out)
   sound-forgotten side out name is was = sound_by-forgotten is_registered registered_rule allowed side out name is was
+
+  -- a poll that set the phase of one that was not registered, to one that is not
+  pub sound-set_phase : (phase : Phase W) (side : Side D W) (out : List (ℕ × W)) (name : ℕ) (before : Phase W) →
+      is_registered (Some phase) ≡ false → may_be_named (Some phase) ≡ true → allowed (Some phase) ≡ true →
+      AreSound allowed side out → phase_of side name ≡ Some before → is_registered (Some before) ≡ false →
+      AreSound allowed (record side { live = with_phase side.live name phase }) (without_pair name out)
+  sound-set_phase phase side out name before off may is was stood apart =
+      sound_by-set_phase is_registered registered_rule allowed phase side out name before off may is was stood apart
 
   -- a poll that ended one that was not registered
   pub sound-ended : (side : Side D W) (out : List (ℕ × W)) (name : ℕ) (before : Phase W) → allowed (Some Ended) ≡ true → AreSound allowed side out → phase_of side name ≡ Some before → is_registered (Some before) ≡ false →

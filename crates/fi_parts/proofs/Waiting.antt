@@ -137,11 +137,16 @@ module _ {D W : Type 0} (place : Option (Phase W) → Bool) (rule : IsPlaceRule 
       ordered_by side (made side name asks) out out name was (λ q ne. ap phase_in (get-insert_other side.live name f q ne)) (λ q ne. refl) (λ q ne at. at)
       (not_queued side out name None was free rule.none ∙ sym (ap place now ∙ rule.fresh)) was.once (λ at. ap may_be_named now) was.named_once
 
-  pub ordered-ended : (side : Side D W) (out : List (ℕ × W)) (name : ℕ) → IsOrderedBy place side out → IsLive side name → place (phase_of side name) ≡ false → IsOrderedBy place (ended side name) out
-  ordered-ended side out name was lives apart =
-      let now : phase_of (ended side name) name ≡ Some Ended = phase-with_phase side.live name Ended lives in
-      ordered_by side (ended side name) out out name was (λ q ne. phase-with_phase_other side.live name Ended q ne) (λ q ne. refl) (λ q ne at. at)
-      (not_queued side out name (phase_of side name) was refl apart ∙ sym (ap place now ∙ rule.ended)) was.once (λ at. ap may_be_named now) was.named_once
+  -- one that has no place gets a phase that has none
+  pub ordered-set_phase : (phase : Phase W) (side : Side D W) (out : List (ℕ × W)) (name : ℕ) → place (Some phase) ≡ false →
+      may_be_named (Some phase) ≡ true → IsOrderedBy place side out → IsLive side name → place (phase_of side name) ≡ false →
+      IsOrderedBy place (record side { live = with_phase side.live name phase }) out
+  ordered-set_phase phase side out name off may was lives apart =
+      let new : Side D W = record side { live = with_phase side.live name phase } in
+      let now : phase_of new name ≡ Some phase = phase-with_phase side.live name phase lives in
+      ordered_by side new out out name was (λ q ne. phase-with_phase_other side.live name phase q ne) (λ q ne. refl) (λ q ne at. at)
+      (not_queued side out name (phase_of side name) was refl apart ∙ sym (ap place now ∙ off)) was.once
+      (λ at. ap may_be_named now ∙ may) was.named_once
 
   pub ordered-registered : (side : Side D W) (out : List (ℕ × W)) (name : ℕ) (waker : W) → IsOrderedBy place side out → IsLive side name → place (phase_of side name) ≡ false → has name out ≡ false →
       IsOrderedBy place (registered side name waker) out

@@ -1,12 +1,12 @@
 -- Sends and receives that wait, over one outbox.
-use Rattle.std.specs.Prelude.{◌≡◌, List, [], ◌++◌, refl}
+use Rattle.std.specs.Prelude.{◌≡◌, Bool, Option, List, [], ◌++◌, refl}
 use Rattle.std.specs.Coded.{Coded, code_by, coded×, coded_list}
 use Rattle.fi_parts.specs.Codes.{side_code}
 use Rattle.fi_parts.specs.LineModel.{LineModel}
 use Rattle.fi_parts.specs.Pairs.{Boxed}
 use Rattle.fi_parts.specs.Tied.{out_of, IsTied}
-use Rattle.fi_parts.specs.Waiter.{waiter_code, ticket_of_waiter, of_sends, of_receives}
-use Rattle.fi_parts.specs.Waiting.{Side, no_futures, emptied, named_all}
+use Rattle.fi_parts.specs.Waiter.{waiter_code, ticket_of_waiter, of_sends, of_receives, sends_in, receives_in}
+use Rattle.fi_parts.specs.Waiting.{Side, no_futures, emptied, named_all, AreSound}
 use Rattle.fi_parts.specs.declared.phase.Phase.{Phase}
 use Rattle.fi_parts.specs.declared.two_sides.Waiter.{Waiter}
 
@@ -46,3 +46,8 @@ module _ {D E W : Type 0} where
     receives = emptied phase both.receives;
     out = both.out ++ of_receives (named_all both.receives);
   }
+
+  -- On each side only its phases occur, and its queue and its pairs are in order.
+  pub record AreBothSound (sending receiving : Option (Phase W) → Bool) (both : TwoSidesModel D E W) : Type 0 where
+    pub sends : AreSound sending both.sends (sends_in both.out)
+    pub receives : AreSound receiving both.receives (receives_in both.out)
