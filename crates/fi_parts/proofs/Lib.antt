@@ -7,8 +7,16 @@ pub mod OutboxList
 pub mod Queues
 pub mod Waiting
 pub mod Tied
+pub mod Lines
 pub mod Stores
+pub mod Told
 pub mod Sound
+pub mod Sides
+pub mod BothTied
+pub mod Oldest
+pub mod OldestSend
+pub mod OldestReceive
+pub mod BothSound
 pub mod Rings
 pub mod HeapForests
 pub mod HeapPieces

@@ -1,67 +1,137 @@
 -- What keeps a store of futures sound: its queue and out in order, and only the phases that its primitive knows.
 use Rattle.std.proofs.Common.{◌≡◌, ℕ, Bool, true, false, List, [], ◌++◌, Option, Some, None, drop, refl, sym, ap, ◌∙◌, inl, inr}
-use Rattle.std.proofs.lemmas.Bool.{both_ways, cases_eq}
+use Rattle.std.proofs.lemmas.Bool.{both_ways, cases_eq, cases_Bool}
 use Rattle.std.specs.Ordering.{nat_cmp}
 use Rattle.std.specs.FinMap as map
 use Rattle.fi_parts.specs.declared.phase.Phase.{Phase}
 use Rattle.fi_parts.specs.declared.phase.Phase.TheVariants.{Fresh, Registered, Told, Complete, Ended}
 use Rattle.fi_parts.specs.Order.{holds}
 use Rattle.fi_parts.specs.Pairs.{without_pair}
-use Rattle.fi_parts.specs.Waiting.{Side, phase_in, phase_of, is_registered, may_be_named, no_futures, made, registered, stays, ended, forgotten, emptied, named_all, AreSound}
+use Rattle.fi_parts.specs.Waiting.{Side, phase_in, phase_of, is_registered, may_be_named, no_futures, made, with_phase, registered, stays, ended, forgotten, emptied, named_all, AreSound, AreSoundBy, Waiting, without_place, front_told}
 use Rattle.fi_parts.proofs.Queues.{has-without_same}
-use Rattle.fi_parts.proofs.Waiting.{Becomes, becomes-made, becomes-with_phase, becomes-forgotten, phase-emptied, noticed_phase, lives_as, ordered-empty, ordered-made, ordered-ended, ordered-registered, ordered-stays, ordered-forgotten, ordered-without_pair, ordered-drop, ordered-all_noticed}
+use Rattle.fi_parts.proofs.Told.{phases-front_told, ordered-front_told}
+use Rattle.fi_parts.proofs.Waiting.{IsPlaceRule, registered_rule, ordered-without_place, Becomes, becomes-made, becomes-with_phase, becomes-forgotten, phase-emptied, noticed_phase, lives_as, ordered-empty, ordered-made, ordered-set_phase, ordered-registered, ordered-stays, ordered-forgotten, ordered-without_pair, ordered-drop, ordered-all_noticed}
 
-module _ {D W : Type 0} (allowed : Option (Phase W) → Bool) where
+module _ {D W : Type 0} (place : Option (Phase W) → Bool) (rule : IsPlaceRule place) (allowed : Option (Phase W) → Bool) where
   only-becomes : (old new : Side D W) (name : ℕ) (phase : Option (Phase W)) → ((q : ℕ) → allowed (phase_of old q) ≡ true) → Becomes old new name phase → allowed phase ≡ true → (q : ℕ) → allowed (phase_of new q) ≡ true
   only-becomes old new name phase only b is q = elim (cases_eq q name) [
     | inl same ↦ rw same (ap allowed b.here ∙ is)
     | inr ne ↦ ap allowed (b.others q ne) ∙ only q
   ]
 
-  pub sound-empty : allowed None ≡ true → AreSound allowed (no_futures {D = D}) []
-  sound-empty is = record { ordered = ordered-empty; only = λ q. ap (λ o. allowed (phase_in o)) (map.get-empty nat_cmp q) ∙ is }
+  pub sound_by-empty : allowed None ≡ true → AreSoundBy place allowed (no_futures {D = D}) []
+  sound_by-empty is = record { ordered = ordered-empty place rule; only = λ q. ap (λ o. allowed (phase_in o)) (map.get-empty nat_cmp q) ∙ is }
 
-  pub sound-made : (side : Side D W) (out : List (ℕ × W)) (name : ℕ) (asks : D) → allowed (Some Fresh) ≡ true → AreSound allowed side out → phase_of side name ≡ None → AreSound allowed (made side name asks) out
-  sound-made side out name asks is was free = record {
-    ordered = ordered-made side out name asks was.ordered free;
+  pub sound_by-made : (side : Side D W) (out : List (ℕ × W)) (name : ℕ) (asks : D) → allowed (Some Fresh) ≡ true → AreSoundBy place allowed side out → phase_of side name ≡ None → AreSoundBy place allowed (made side name asks) out
+  sound_by-made side out name asks is was free = record {
+    ordered = ordered-made place rule side out name asks was.ordered free;
     only = only-becomes side (made side name asks) name (Some Fresh) was.only (becomes-made side name asks) is;
   }
 
-  pub sound-without_pair : (side : Side D W) (out : List (ℕ × W)) (name : ℕ) → AreSound allowed side out → AreSound allowed side (without_pair name out)
-  sound-without_pair side out name was = record { ordered = ordered-without_pair side out name was.ordered; only = was.only }
+  pub sound_by-without_pair : (side : Side D W) (out : List (ℕ × W)) (name : ℕ) → AreSoundBy place allowed side out → AreSoundBy place allowed side (without_pair name out)
+  sound_by-without_pair side out name was = record { ordered = ordered-without_pair place rule side out name was.ordered; only = was.only }
 
-  pub sound-drop : (side : Side D W) (out : List (ℕ × W)) → AreSound allowed side out → AreSound allowed side (drop 1 out)
-  sound-drop side out was = record { ordered = ordered-drop side out was.ordered; only = was.only }
+  pub sound_by-drop : (side : Side D W) (out : List (ℕ × W)) → AreSoundBy place allowed side out → AreSoundBy place allowed side (drop 1 out)
+  sound_by-drop side out was = record { ordered = ordered-drop place rule side out was.ordered; only = was.only }
 
-  pub sound-forgotten : (side : Side D W) (out : List (ℕ × W)) (name : ℕ) → allowed None ≡ true → AreSound allowed side out → AreSound allowed (forgotten side name) (without_pair name out)
-  sound-forgotten side out name is was = record {
-    ordered = ordered-forgotten side out name was.ordered;
+  pub sound_by-forgotten : (side : Side D W) (out : List (ℕ × W)) (name : ℕ) → allowed None ≡ true → AreSoundBy place allowed side out → AreSoundBy place allowed (forgotten side name) (without_pair name out)
+  sound_by-forgotten side out name is was = record {
+    ordered = ordered-forgotten place rule side out name was.ordered;
     only = only-becomes side (forgotten side name) name None was.only (becomes-forgotten side name) is;
   }
 
-  -- a poll that ended one that was not registered
-  pub sound-ended : (side : Side D W) (out : List (ℕ × W)) (name : ℕ) (before : Phase W) → allowed (Some Ended) ≡ true → AreSound allowed side out → phase_of side name ≡ Some before → is_registered (Some before) ≡ false →
-      AreSound allowed (ended side name) (without_pair name out)
-  sound-ended side out name before is was stood apart = record {
-    ordered = ordered-ended side _ name (ordered-without_pair side out name was.ordered) (lives_as side name before stood) (ap is_registered stood ∙ apart);
-    only = only-becomes side (ended side name) name (Some Ended) was.only (becomes-with_phase side name Ended side.queue (lives_as side name before stood)) is;
-  }
+  -- a poll that set the phase of one that has no place, to one that has none
+  pub sound_by-set_phase : (phase : Phase W) (side : Side D W) (out : List (ℕ × W)) (name : ℕ) (before : Phase W) →
+      place (Some phase) ≡ false → may_be_named (Some phase) ≡ true → allowed (Some phase) ≡ true →
+      AreSoundBy place allowed side out → phase_of side name ≡ Some before → place (Some before) ≡ false →
+      AreSoundBy place allowed (record side { live = with_phase side.live name phase }) (without_pair name out)
+  sound_by-set_phase phase side out name before off may is was stood apart =
+      let new : Side D W = record side { live = with_phase side.live name phase } in
+      let lives = lives_as side name before stood in
+      record {
+        ordered = ordered-set_phase place rule phase side _ name off may (ordered-without_pair place rule side out name was.ordered) lives (ap place stood ∙ apart);
+        only = only-becomes side new name (Some phase) was.only (becomes-with_phase side name phase side.queue lives) is;
+      }
+
+  -- a poll that ended one that has no place
+  pub sound_by-ended : (side : Side D W) (out : List (ℕ × W)) (name : ℕ) (before : Phase W) → allowed (Some Ended) ≡ true →
+      AreSoundBy place allowed side out → phase_of side name ≡ Some before → place (Some before) ≡ false →
+      AreSoundBy place allowed (ended side name) (without_pair name out)
+  sound_by-ended side out name before is was stood apart = sound_by-set_phase Ended side out name before rule.ended refl is was stood apart
 
   -- a poll that registered one
-  pub sound-registered : (side : Side D W) (out : List (ℕ × W)) (name : ℕ) (waker : W) (before : Phase W) → allowed (Some (Registered waker)) ≡ true → AreSound allowed side out → phase_of side name ≡ Some before → is_registered (Some before) ≡ false →
-      AreSound allowed (registered side name waker) (without_pair name out)
-  sound-registered side out name waker before is was stood apart = record {
-    ordered = ordered-registered side _ name waker (ordered-without_pair side out name was.ordered) (lives_as side name before stood) (ap is_registered stood ∙ apart) (has-without_same name out);
+  pub sound_by-registered : (side : Side D W) (out : List (ℕ × W)) (name : ℕ) (waker : W) (before : Phase W) → allowed (Some (Registered waker)) ≡ true → AreSoundBy place allowed side out → phase_of side name ≡ Some before → place (Some before) ≡ false →
+      AreSoundBy place allowed (registered side name waker) (without_pair name out)
+  sound_by-registered side out name waker before is was stood apart = record {
+    ordered = ordered-registered place rule side _ name waker (ordered-without_pair place rule side out name was.ordered) (lives_as side name before stood) (ap place stood ∙ apart) (has-without_same name out);
     only = only-becomes side (registered side name waker) name (Some (Registered waker)) was.only (becomes-with_phase side name (Registered waker) _ (lives_as side name before stood)) is;
   }
 
   -- a poll that left one registered
-  pub sound-stays : (side : Side D W) (out : List (ℕ × W)) (name : ℕ) (waker before : W) → allowed (Some (Registered waker)) ≡ true → AreSound allowed side out → phase_of side name ≡ Some (Registered before) →
-      AreSound allowed (stays side name waker) (without_pair name out)
-  sound-stays side out name waker before is was stood = record {
-    ordered = ordered-stays side _ name waker (ordered-without_pair side out name was.ordered) (ap is_registered stood);
+  pub sound_by-stays : (side : Side D W) (out : List (ℕ × W)) (name : ℕ) (waker before : W) → allowed (Some (Registered waker)) ≡ true → AreSoundBy place allowed side out → phase_of side name ≡ Some (Registered before) →
+      AreSoundBy place allowed (stays side name waker) (without_pair name out)
+  sound_by-stays side out name waker before is was stood = record {
+    ordered = ordered-stays place rule side _ name waker (ordered-without_pair place rule side out name was.ordered) (ap is_registered stood);
     only = only-becomes side (stays side name waker) name (Some (Registered waker)) was.only (becomes-with_phase side name (Registered waker) side.queue (lives_as side name (Registered before) stood)) is;
   }
+
+  -- a poll that ended one and took it out of the queue, where it had a place
+  pub sound_by-without_place : (side : Side D W) (out : List (ℕ × W)) (name : ℕ) (before : Phase W) → allowed (Some Ended) ≡ true → AreSoundBy place allowed side out → phase_of side name ≡ Some before →
+      AreSoundBy place allowed (without_place Ended side name) (without_pair name out)
+  sound_by-without_place side out name before is was stood = record {
+    ordered = ordered-without_place place rule Ended side _ name rule.ended refl (ordered-without_pair place rule side out name was.ordered) (lives_as side name before stood);
+    only = only-becomes side (without_place Ended side name) name (Some Ended) was.only (becomes-with_phase side name Ended _ (lives_as side name before stood)) is;
+  }
+
+  -- a front of the queue was told
+  pub sound_by-front_told : (keeps : Bool) → place (Some Told) ≡ keeps → allowed (Some Told) ≡ true → (w : Waiting D W) (front rest : List ℕ) → w.side.queue ≡ front ++ rest → AreSoundBy place allowed w.side w.out →
+      AreSoundBy place allowed (front_told keeps w front rest).side (front_told keeps w front rest).out
+  sound_by-front_told keeps told is w front rest split was =
+      let now = phases-front_told place rule keeps w front rest was.ordered split in
+      record {
+        ordered = ordered-front_told place rule keeps told w front rest was.ordered split;
+        only = λ q. elim (cases_Bool (holds q front)) [ inl at ↦ ap allowed (now.told q at) ∙ is | inr off ↦ ap allowed (now.others q off) ∙ was.only q ];
+      }
+
+-- The same where the registered ones alone are queued.
+module _ {D W : Type 0} (allowed : Option (Phase W) → Bool) where
+  pub sound-empty : allowed None ≡ true → AreSound allowed (no_futures {D = D}) []
+  sound-empty is = sound_by-empty is_registered registered_rule allowed is
+
+  pub sound-made : (side : Side D W) (out : List (ℕ × W)) (name : ℕ) (asks : D) → allowed (Some Fresh) ≡ true → AreSound allowed side out → phase_of side name ≡ None → AreSound allowed (made side name asks) out
+  sound-made side out name asks is was free = sound_by-made is_registered registered_rule allowed side out name asks is was free
+
+  pub sound-without_pair : (side : Side D W) (out : List (ℕ × W)) (name : ℕ) → AreSound allowed side out → AreSound allowed side (without_pair name out)
+  sound-without_pair side out name was = sound_by-without_pair is_registered registered_rule allowed side out name was
+
+  pub sound-drop : (side : Side D W) (out : List (ℕ × W)) → AreSound allowed side out → AreSound allowed side (drop 1 out)
+  sound-drop side out was = sound_by-drop is_registered registered_rule allowed side out was
+
+  pub sound-forgotten : (side : Side D W) (out : List (ℕ × W)) (name : ℕ) → allowed None ≡ true → AreSound allowed side out → AreSound allowed (forgotten side name) (without_pair name out)
+  sound-forgotten side out name is was = sound_by-forgotten is_registered registered_rule allowed side out name is was
+
+  -- a poll that set the phase of one that was not registered, to one that is not
+  pub sound-set_phase : (phase : Phase W) (side : Side D W) (out : List (ℕ × W)) (name : ℕ) (before : Phase W) →
+      is_registered (Some phase) ≡ false → may_be_named (Some phase) ≡ true → allowed (Some phase) ≡ true →
+      AreSound allowed side out → phase_of side name ≡ Some before → is_registered (Some before) ≡ false →
+      AreSound allowed (record side { live = with_phase side.live name phase }) (without_pair name out)
+  sound-set_phase phase side out name before off may is was stood apart =
+      sound_by-set_phase is_registered registered_rule allowed phase side out name before off may is was stood apart
+
+  -- a poll that ended one that was not registered
+  pub sound-ended : (side : Side D W) (out : List (ℕ × W)) (name : ℕ) (before : Phase W) → allowed (Some Ended) ≡ true → AreSound allowed side out → phase_of side name ≡ Some before → is_registered (Some before) ≡ false →
+      AreSound allowed (ended side name) (without_pair name out)
+  sound-ended side out name before is was stood apart = sound_by-ended is_registered registered_rule allowed side out name before is was stood apart
+
+  -- a poll that registered one
+  pub sound-registered : (side : Side D W) (out : List (ℕ × W)) (name : ℕ) (waker : W) (before : Phase W) → allowed (Some (Registered waker)) ≡ true → AreSound allowed side out → phase_of side name ≡ Some before → is_registered (Some before) ≡ false →
+      AreSound allowed (registered side name waker) (without_pair name out)
+  sound-registered side out name waker before is was stood apart = sound_by-registered is_registered registered_rule allowed side out name waker before is was stood apart
+
+  -- a poll that left one registered
+  pub sound-stays : (side : Side D W) (out : List (ℕ × W)) (name : ℕ) (waker before : W) → allowed (Some (Registered waker)) ≡ true → AreSound allowed side out → phase_of side name ≡ Some (Registered before) →
+      AreSound allowed (stays side name waker) (without_pair name out)
+  sound-stays side out name waker before is was stood = sound_by-stays is_registered registered_rule allowed side out name waker before is was stood
 
   -- the whole queue was named
   pub sound-emptied : (phase : Phase W) (side : Side D W) (out : List (ℕ × W)) → allowed (Some phase) ≡ true → may_be_named (Some phase) ≡ true → AreSound allowed side out →

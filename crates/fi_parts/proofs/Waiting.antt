@@ -1,5 +1,5 @@
 -- What each word on the futures of a store says of each name, and that it keeps their order.
-use Rattle.std.proofs.Common.{◌≡◌, ◌≢◌, ℕ, true, false, eqb, ◌||◌, List, [], ◌∷◌, ◌++◌, Option, Some, None, is_some, drop, append_assoc, refl, sym, ap, subst, ◌∙◌, inl, inr}
+use Rattle.std.proofs.Common.{◌≡◌, ◌≢◌, ℕ, Bool, true, false, eqb, ◌||◌, List, [], ◌∷◌, ◌++◌, Option, Some, None, is_some, drop, append_assoc, refl, sym, ap, subst, ◌∙◌, inl, inr}
 use Rattle.std.proofs.lemmas.Bool.{eqb-true, eq-eqb, ne_eqb, or_parts, or_left, or_right, or_cases, both_ways, cases_eq, cases_Bool, false_from_ne_true}
 use Rattle.std.specs.Option.{IsSome}
 use Rattle.std.proofs.lemmas.List.{append-nil}
@@ -13,7 +13,7 @@ use Rattle.fi_parts.specs.declared.phase.Notice.TheVariants.{Tell, Renew}
 use Rattle.fi_parts.specs.Noticed.{phase_after}
 use Rattle.fi_parts.specs.Order.{holds, Apart}
 use Rattle.fi_parts.specs.Pairs.{has, without_pair, PairsApart}
-use Rattle.fi_parts.specs.Waiting.{Side, Waiting, phase_in, phase_of, asks_in, is_registered, may_be_named, rephased, with_phase, no_futures, made, registered, stays, ended, forgotten, noticed, pair_of, pair, IsOrdered, IsLive, named, with_phases, emptied, all_noticed}
+use Rattle.fi_parts.specs.Waiting.{Side, Waiting, phase_in, phase_of, asks_in, is_registered, is_queued, may_be_named, rephased, with_phase, no_futures, made, registered, stays, ended, forgotten, noticed, pair_of, pair, IsOrdered, IsLive, named, with_phases, emptied, all_noticed, IsOrderedBy, without_place}
 use Rattle.fi_parts.proofs.Live.{get-insert_same, get-insert_other, get-remove_same, get-remove_other}
 use Rattle.fi_parts.proofs.Queues.{holds-push, Apart-push, holds-without_same, holds-without_other, Apart-without_one, has_pushed, has-without_same, has-drop, PairsApart-drop}
 use Rattle.fi_parts.proofs.Pairs.{has-without, PairsApart-without, PairsApart-push}
@@ -69,16 +69,52 @@ module _ {D W : Type 0} where
   pub phase-with_phase_other : (live : map.FinMap nat_cmp (Future D W)) (name : ℕ) (phase : Phase W) (q : ℕ) → q ≢ name → phase_in (map.get (with_phase live name phase) q) ≡ phase_in (map.get live q)
   phase-with_phase_other live name phase q ne = ap phase_in (get-with_phase_other live name phase q ne)
 
+  -- who is registered lives
+  pub live_if_registered : (side : Side D W) (name : ℕ) → is_registered (phase_of side name) ≡ true → IsLive side name
+  live_if_registered side name is = each (map.get side.live name) is
+    where
+      each : (o : Option (Future D W)) → is_registered (phase_in o) ≡ true → IsSome o
+      each None r = r
+      each (Some f) r = refl
+
+-- A choice of the phases that have a place in the queue: the registered, and perhaps the told.
+pub record IsPlaceRule {W : Type 0} (place : Option (Phase W) → Bool) : Type 0 where
+  pub none : place None ≡ false
+  pub fresh : place (Some Fresh) ≡ false
+  pub registered : (waker : W) → place (Some (Registered waker)) ≡ true
+  pub complete : place (Some Complete) ≡ false
+  pub ended : place (Some Ended) ≡ false
+
+pub registered_rule : {W : Type 0} → IsPlaceRule {W = W} is_registered
+registered_rule = record { none = refl; fresh = refl; registered = λ waker. refl; complete = refl; ended = refl }
+
+pub queued_rule : {W : Type 0} (keeps : Bool) → IsPlaceRule {W = W} (is_queued keeps)
+queued_rule keeps = record { none = refl; fresh = refl; registered = λ waker. refl; complete = refl; ended = refl }
+
+-- who is registered has a place
+pub placed : {W : Type 0} (place : Option (Phase W) → Bool) (rule : IsPlaceRule place) (p : Option (Phase W)) → is_registered p ≡ true → place p ≡ true
+placed place rule p is = let w = registered_is p is in ap place w.1 ∙ rule.registered w.0
+
+-- What keeps a store in order, for any such choice.
+module _ {D W : Type 0} (place : Option (Phase W) → Bool) (rule : IsPlaceRule place) where
+  -- who has a place lives
+  pub live_if_placed : (side : Side D W) (name : ℕ) → place (phase_of side name) ≡ true → IsLive side name
+  live_if_placed side name is = each (map.get side.live name) is
+    where
+      each : (o : Option (Future D W)) → place (phase_in o) ≡ true → IsSome o
+      each None r = absurd (both_ways _ rule.none r)
+      each (Some f) r = refl
+
   -- One name changed, and the others stand as before.
-  pub ordered_by : (old new : Side D W) (out after : List (ℕ × W)) (name : ℕ) → IsOrdered old out →
+  pub ordered_by : (old new : Side D W) (out after : List (ℕ × W)) (name : ℕ) → IsOrderedBy place old out →
       ((q : ℕ) → q ≢ name → phase_of new q ≡ phase_of old q) → ((q : ℕ) → q ≢ name → holds q new.queue ≡ holds q old.queue) →
       ((q : ℕ) → q ≢ name → has q after ≡ true → has q out ≡ true) →
-      holds name new.queue ≡ is_registered (phase_of new name) → Apart new.queue →
-      (has name after ≡ true → may_be_named (phase_of new name) ≡ true) → PairsApart after → IsOrdered new after
+      holds name new.queue ≡ place (phase_of new name) → Apart new.queue →
+      (has name after ≡ true → may_be_named (phase_of new name) ≡ true) → PairsApart after → IsOrderedBy place new after
   ordered_by old new out after name was phases queues outs here once may apart = record {
     queued = λ q. elim (cases_eq q name) [
       | inl same ↦ rw same here
-      | inr ne ↦ queues q ne ∙ was.queued q ∙ ap is_registered (sym (phases q ne))
+      | inr ne ↦ queues q ne ∙ was.queued q ∙ ap place (sym (phases q ne))
     ];
     once = once;
     named = λ q at. elim (cases_eq q name) [
@@ -88,63 +124,69 @@ module _ {D W : Type 0} where
     named_once = apart;
   }
 
-  not_queued : (side : Side D W) (out : List (ℕ × W)) (name : ℕ) (phase : Option (Phase W)) → IsOrdered side out → phase_of side name ≡ phase → is_registered phase ≡ false → holds name side.queue ≡ false
-  not_queued side out name phase was is not_registered = was.queued name ∙ ap is_registered is ∙ not_registered
+  not_queued : (side : Side D W) (out : List (ℕ × W)) (name : ℕ) (phase : Option (Phase W)) → IsOrderedBy place side out → phase_of side name ≡ phase → place phase ≡ false → holds name side.queue ≡ false
+  not_queued side out name phase was is not_registered = was.queued name ∙ ap place is ∙ not_registered
 
-  pub ordered-empty : IsOrdered (no_futures {D = D} {W = W}) []
-  ordered-empty = record { queued = λ q. sym (ap (λ o. is_registered (phase_in o)) (map.get-empty nat_cmp q)); once = tt; named = λ q at. absurd (both_ways false refl at); named_once = tt }
+  pub ordered-empty : IsOrderedBy place (no_futures {D = D} {W = W}) []
+  ordered-empty = record { queued = λ q. sym (ap (λ o. place (phase_in o)) (map.get-empty nat_cmp q) ∙ rule.none); once = tt; named = λ q at. absurd (both_ways false refl at); named_once = tt }
 
-  pub ordered-made : (side : Side D W) (out : List (ℕ × W)) (name : ℕ) (asks : D) → IsOrdered side out → phase_of side name ≡ None → IsOrdered (made side name asks) out
+  pub ordered-made : (side : Side D W) (out : List (ℕ × W)) (name : ℕ) (asks : D) → IsOrderedBy place side out → phase_of side name ≡ None → IsOrderedBy place (made side name asks) out
   ordered-made side out name asks was free =
       let f : Future D W = record { asks = asks; phase = Fresh } in
       let now : phase_of (made side name asks) name ≡ Some Fresh = ap phase_in (get-insert_same side.live name f) in
       ordered_by side (made side name asks) out out name was (λ q ne. ap phase_in (get-insert_other side.live name f q ne)) (λ q ne. refl) (λ q ne at. at)
-      (not_queued side out name None was free refl ∙ sym (ap is_registered now)) was.once (λ at. ap may_be_named now) was.named_once
+      (not_queued side out name None was free rule.none ∙ sym (ap place now ∙ rule.fresh)) was.once (λ at. ap may_be_named now) was.named_once
 
-  pub ordered-ended : (side : Side D W) (out : List (ℕ × W)) (name : ℕ) → IsOrdered side out → IsLive side name → is_registered (phase_of side name) ≡ false → IsOrdered (ended side name) out
-  ordered-ended side out name was lives apart =
-      let now : phase_of (ended side name) name ≡ Some Ended = phase-with_phase side.live name Ended lives in
-      ordered_by side (ended side name) out out name was (λ q ne. phase-with_phase_other side.live name Ended q ne) (λ q ne. refl) (λ q ne at. at)
-      (not_queued side out name (phase_of side name) was refl apart ∙ sym (ap is_registered now)) was.once (λ at. ap may_be_named now) was.named_once
+  -- one that has no place gets a phase that has none
+  pub ordered-set_phase : (phase : Phase W) (side : Side D W) (out : List (ℕ × W)) (name : ℕ) → place (Some phase) ≡ false →
+      may_be_named (Some phase) ≡ true → IsOrderedBy place side out → IsLive side name → place (phase_of side name) ≡ false →
+      IsOrderedBy place (record side { live = with_phase side.live name phase }) out
+  ordered-set_phase phase side out name off may was lives apart =
+      let new : Side D W = record side { live = with_phase side.live name phase } in
+      let now : phase_of new name ≡ Some phase = phase-with_phase side.live name phase lives in
+      ordered_by side new out out name was (λ q ne. phase-with_phase_other side.live name phase q ne) (λ q ne. refl) (λ q ne at. at)
+      (not_queued side out name (phase_of side name) was refl apart ∙ sym (ap place now ∙ off)) was.once
+      (λ at. ap may_be_named now ∙ may) was.named_once
 
-  pub ordered-registered : (side : Side D W) (out : List (ℕ × W)) (name : ℕ) (waker : W) → IsOrdered side out → IsLive side name → is_registered (phase_of side name) ≡ false → has name out ≡ false →
-      IsOrdered (registered side name waker) out
+  pub ordered-registered : (side : Side D W) (out : List (ℕ × W)) (name : ℕ) (waker : W) → IsOrderedBy place side out → IsLive side name → place (phase_of side name) ≡ false → has name out ≡ false →
+      IsOrderedBy place (registered side name waker) out
   ordered-registered side out name waker was lives apart no_pair =
       let now : phase_of (registered side name waker) name ≡ Some (Registered waker) = phase-with_phase side.live name (Registered waker) lives in
       ordered_by side (registered side name waker) out out name was (λ q ne. phase-with_phase_other side.live name (Registered waker) q ne)
       (λ q ne. holds-push q side.queue name ∙ ap (λ b. b || holds q side.queue) (ne_eqb q name ne)) (λ q ne at. at)
-      (holds-push name side.queue name ∙ ap (λ b. b || holds name side.queue) (eqb_same name) ∙ sym (ap is_registered now))
+      (holds-push name side.queue name ∙ ap (λ b. b || holds name side.queue) (eqb_same name) ∙ sym (ap place now ∙ rule.registered waker))
       (Apart-push side.queue name was.once (not_queued side out name (phase_of side name) was refl apart)) (λ at. absurd (both_ways _ no_pair at)) was.named_once
 
   -- who is registered has no pair
-  pub no_pair : (side : Side D W) (out : List (ℕ × W)) (name : ℕ) → IsOrdered side out → is_registered (phase_of side name) ≡ true → has name out ≡ false
+  pub no_pair : (side : Side D W) (out : List (ℕ × W)) (name : ℕ) → IsOrderedBy place side out → is_registered (phase_of side name) ≡ true → has name out ≡ false
   no_pair side out name was is = false_from_ne_true _ (λ at. both_ways _ (unregistered (phase_of side name) (was.named name at)) is)
 
-  pub live_if_registered : (side : Side D W) (name : ℕ) → is_registered (phase_of side name) ≡ true → IsLive side name
-  live_if_registered side name is = each (map.get side.live name) is
-    where
-      each : (o : Option (Future D W)) → is_registered (phase_in o) ≡ true → IsSome o
-      each None r = r
-      each (Some f) r = refl
-
-  pub ordered-stays : (side : Side D W) (out : List (ℕ × W)) (name : ℕ) (waker : W) → IsOrdered side out → is_registered (phase_of side name) ≡ true → IsOrdered (stays side name waker) out
+  pub ordered-stays : (side : Side D W) (out : List (ℕ × W)) (name : ℕ) (waker : W) → IsOrderedBy place side out → is_registered (phase_of side name) ≡ true → IsOrderedBy place (stays side name waker) out
   ordered-stays side out name waker was is =
       let now : phase_of (stays side name waker) name ≡ Some (Registered waker) = phase-with_phase side.live name (Registered waker) (live_if_registered side name is) in
       ordered_by side (stays side name waker) out out name was (λ q ne. phase-with_phase_other side.live name (Registered waker) q ne) (λ q ne. refl) (λ q ne at. at)
-      (was.queued name ∙ is ∙ sym (ap is_registered now)) was.once (λ at. absurd (both_ways _ (no_pair side out name was is) at)) was.named_once
+      (was.queued name ∙ placed place rule (phase_of side name) is ∙ sym (ap place now ∙ rule.registered waker)) was.once (λ at. absurd (both_ways _ (no_pair side out name was is) at)) was.named_once
 
-  pub ordered-without_pair : (side : Side D W) (out : List (ℕ × W)) (name : ℕ) → IsOrdered side out → IsOrdered side (without_pair name out)
+  pub ordered-without_pair : (side : Side D W) (out : List (ℕ × W)) (name : ℕ) → IsOrderedBy place side out → IsOrderedBy place side (without_pair name out)
   ordered-without_pair side out name was = record { queued = was.queued; once = was.once; named = λ q at. was.named q (has-without name q out at); named_once = PairsApart-without name out was.named_once }
 
-  pub ordered-forgotten : (side : Side D W) (out : List (ℕ × W)) (name : ℕ) → IsOrdered side out → IsOrdered (forgotten side name) (without_pair name out)
+  pub ordered-forgotten : (side : Side D W) (out : List (ℕ × W)) (name : ℕ) → IsOrderedBy place side out → IsOrderedBy place (forgotten side name) (without_pair name out)
   ordered-forgotten side out name was =
       let now : phase_of (forgotten side name) name ≡ None = ap phase_in (get-remove_same side.live name) in
       ordered_by side (forgotten side name) out (without_pair name out) name was (λ q ne. ap phase_in (get-remove_other side.live name q ne)) (λ q ne. holds-without_other q name side.queue ne) (λ q ne at. has-without name q out at)
-      (holds-without_same name side.queue ∙ sym (ap is_registered now)) (Apart-without_one name side.queue was.once) (λ at. absurd (both_ways _ (has-without_same name out) at)) (PairsApart-without name out was.named_once)
+      (holds-without_same name side.queue ∙ sym (ap place now ∙ rule.none)) (Apart-without_one name side.queue was.once) (λ at. absurd (both_ways _ (has-without_same name out) at)) (PairsApart-without name out was.named_once)
 
-  pub ordered-drop : (side : Side D W) (out : List (ℕ × W)) → IsOrdered side out → IsOrdered side (drop 1 out)
+  pub ordered-drop : (side : Side D W) (out : List (ℕ × W)) → IsOrderedBy place side out → IsOrderedBy place side (drop 1 out)
   ordered-drop side out was = record { queued = was.queued; once = was.once; named = λ q at. was.named q (has-drop q out at); named_once = PairsApart-drop out was.named_once }
 
+  -- one left the queue, and has this phase
+  pub ordered-without_place : (phase : Phase W) (side : Side D W) (out : List (ℕ × W)) (name : ℕ) → place (Some phase) ≡ false → may_be_named (Some phase) ≡ true → IsOrderedBy place side out → IsLive side name → IsOrderedBy place (without_place phase side name) out
+  ordered-without_place phase side out name off may was lives =
+      let now : phase_of (without_place phase side name) name ≡ Some phase = phase-with_phase side.live name phase lives in
+      ordered_by side (without_place phase side name) out out name was (λ q ne. phase-with_phase_other side.live name phase q ne) (λ q ne. holds-without_other q name side.queue ne) (λ q ne at. at)
+      (holds-without_same name side.queue ∙ sym (ap place now ∙ off)) (Apart-without_one name side.queue was.once) (λ at. ap may_be_named now ∙ may) was.named_once
+
+module _ {D W : Type 0} where
   -- the first of the queue is registered
   pub first_registered : (side : Side D W) (out : List (ℕ × W)) (name : ℕ) (others : List ℕ) → IsOrdered side out → side.queue ≡ name ∷ others → is_registered (phase_of side name) ≡ true
   first_registered side out name others was is = sym (was.queued name) ∙ ap (holds name) is ∙ or_left _ _ (eqb_same name)
@@ -158,13 +200,13 @@ module _ {D W : Type 0} where
       let registered_now : is_registered (phase_of side name) ≡ true = ap is_registered is in
       let now : phase_of (noticed phase side name others) name ≡ Some phase = phase-with_phase side.live name phase (live_if_registered side name registered_now) in
       let once : Apart (name ∷ others) = subst Apart queue was.once in
-      ordered_by side (noticed phase side name others) out (out ++ (name, waker) ∷ []) name was (λ q ne. phase-with_phase_other side.live name phase q ne)
+      ordered_by is_registered registered_rule side (noticed phase side name others) out (out ++ (name, waker) ∷ []) name was (λ q ne. phase-with_phase_other side.live name phase q ne)
       (λ q ne. sym (ap (holds q) queue ∙ ap (λ b. b || holds q others) (ne_eqb q name ne)))
       (λ q ne at. sym (has_pushed q out name waker ∙ ap (λ b. b || has q out) (ne_eqb q name ne)) ∙ at)
-      (once.0 ∙ sym (ap is_registered now ∙ unregistered (Some phase) may)) once.1 (λ at. ap may_be_named now ∙ may) (PairsApart-push out name waker was.named_once (no_pair side out name was registered_now))
+      (once.0 ∙ sym (ap is_registered now ∙ unregistered (Some phase) may)) once.1 (λ at. ap may_be_named now ∙ may) (PairsApart-push out name waker was.named_once (no_pair is_registered registered_rule side out name was registered_now))
 
   -- the pairs of other names are the same
-  named-other : (live : map.FinMap nat_cmp (Future D W)) (n : ℕ) (phase : Phase W) (names : List ℕ) → holds n names ≡ false → named (with_phase live n phase) names ≡ named live names
+  pub named-other : (live : map.FinMap nat_cmp (Future D W)) (n : ℕ) (phase : Phase W) (names : List ℕ) → holds n names ≡ false → named (with_phase live n phase) names ≡ named live names
   unfolding named
   named-other live n phase [] off = refl
   named-other live n phase (x ∷ xs) off =
@@ -247,14 +289,14 @@ module _ {D W : Type 0} where
   becomes-forgotten side name = record { here = ap phase_in (get-remove_same side.live name); others = λ q ne. ap phase_in (get-remove_other side.live name q ne) }
 
   -- the others of the queue are not this one, and those named stand so
-  phase-with_phases : (phase : Phase W) (names : List ℕ) (live : map.FinMap nat_cmp (Future D W)) (q : ℕ) → holds q names ≡ false → phase_in (map.get (with_phases live names phase) q) ≡ phase_in (map.get live q)
+  pub phase-with_phases : (phase : Phase W) (names : List ℕ) (live : map.FinMap nat_cmp (Future D W)) (q : ℕ) → holds q names ≡ false → phase_in (map.get (with_phases live names phase) q) ≡ phase_in (map.get live q)
   unfolding with_phases
   phase-with_phases phase [] live q off = refl
   phase-with_phases phase (n ∷ names) live q off =
       let parts = or_parts (eqb q n) (holds q names) off in
       phase-with_phases phase names (with_phase live n phase) q parts.1 ∙ phase-with_phase_other live n phase q (λ e. both_ways _ parts.0 (eq-eqb q n e))
 
-  phase-held : (phase : Phase W) (names : List ℕ) (live : map.FinMap nat_cmp (Future D W)) (q : ℕ) → ((n : ℕ) → holds n names ≡ true → IsSome (map.get live n)) → Apart names → holds q names ≡ true → phase_in (map.get (with_phases live names phase) q) ≡ Some phase
+  pub phase-held : (phase : Phase W) (names : List ℕ) (live : map.FinMap nat_cmp (Future D W)) (q : ℕ) → ((n : ℕ) → holds n names ≡ true → IsSome (map.get live n)) → Apart names → holds q names ≡ true → phase_in (map.get (with_phases live names phase) q) ≡ Some phase
   unfolding with_phases
   phase-held phase [] live q lives once at = absurd (both_ways false refl at)
   phase-held phase (n ∷ names) live q lives once at =

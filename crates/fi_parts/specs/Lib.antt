@@ -8,12 +8,16 @@ pub mod Lending
 pub mod NodesLending
 pub mod Drain
 pub mod Pairs
-pub mod PairWaker
+pub mod NamedPairs
 pub mod OutboxList
 pub mod Waiting
 pub mod Noticed
 pub mod Codes
+pub mod LineModel
 pub mod Tied
+pub mod Oldest
+pub mod Waiter
+pub mod TwoSidesModel
 pub mod Buffer
 pub mod Rings
 pub mod Clocks

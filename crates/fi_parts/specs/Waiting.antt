@@ -1,5 +1,5 @@
 -- What the states' machines have in common: futures that wait in a queue, and wakers that are named to be woken.
-use Rattle.std.specs.Prelude.{◌≡◌, ℕ, Bool, true, false, Option, Some, None, List, [], ◌∷◌, ◌++◌, IsSome}
+use Rattle.std.specs.Prelude.{◌≡◌, ℕ, Bool, true, false, Option, Some, None, List, [], ◌∷◌, ◌++◌, IsSome, if◌then◌else◌}
 use Rattle.std.specs.Ordering.{nat_cmp}
 use Rattle.std.specs.FinMap as map
 use Rattle.fi_parts.specs.Order.{holds, Apart}
@@ -23,6 +23,12 @@ module _ {W : Type 0} where
   abbrev pub is_registered : Option (Phase W) → Bool
   is_registered (Some (Registered waker)) = true
   is_registered phase = false
+
+  -- It has a place in the queue: it is registered, or it is told and told futures keep their places.
+  abbrev pub is_queued : Bool → Option (Phase W) → Bool
+  is_queued keeps (Some (Registered waker)) = true
+  is_queued keeps (Some Told) = keeps
+  is_queued keeps phase = false
 
   abbrev pub waker_in : Phase W → Option W
   waker_in (Registered waker) = Some waker
@@ -74,6 +80,18 @@ module _ {D W : Type 0} where
   -- the live futures, this one with that phase
   unfoldable pub with_phase : map.FinMap nat_cmp (Future D W) → ℕ → Phase W → map.FinMap nat_cmp (Future D W)
   with_phase live name phase = rephased live name phase (map.get live name)
+
+  abbrev pub with_asks_in : map.FinMap nat_cmp (Future D W) → ℕ → D → Option (Future D W) → map.FinMap nat_cmp (Future D W)
+  with_asks_in live name asks None = live
+  with_asks_in live name asks (Some future) = map.insert live name (record future { asks = asks })
+
+  -- the live futures, this one asking for that
+  unfoldable pub with_asks : map.FinMap nat_cmp (Future D W) → ℕ → D → map.FinMap nat_cmp (Future D W)
+  with_asks live name asks = with_asks_in live name asks (map.get live name)
+
+  -- this one asks for that
+  abbrev pub exchange : Side D W → ℕ → D → Side D W
+  exchange side name asks = record side { live = with_asks side.live name asks }
 
   -- nothing lives here
   abbrev pub no_futures : Side D W
@@ -140,14 +158,42 @@ module _ {D W : Type 0} where
   abbrev pub displaced : Side D W → List (ℕ × W) → ℕ → Option W
   displaced side out name = displaced_from (phase_of side name) (waker_of name out)
 
-  -- The queue holds exactly the registered ones, none twice; a pair is of a live one that is not registered, and none has two.
-  pub record IsOrdered (side : Side D W) (out : List (ℕ × W)) : Type 0 where
-    pub queued : (name : ℕ) → holds name side.queue ≡ is_registered (phase_of side name)
+  -- The queue holds exactly the futures whose phase has a place in it, none twice. Each pair is that of a live future
+  -- that is not registered, and no future has two.
+  pub record IsOrderedBy (place : Option (Phase W) → Bool) (side : Side D W) (out : List (ℕ × W)) : Type 0 where
+    pub queued : (name : ℕ) → holds name side.queue ≡ place (phase_of side name)
     pub once : Apart side.queue
     pub named : (name : ℕ) → has name out ≡ true → may_be_named (phase_of side name) ≡ true
     pub named_once : PairsApart out
 
+  -- The same where the registered futures alone have a place in the queue.
+  abbrev pub IsOrdered : Side D W → List (ℕ × W) → Type 0
+  IsOrdered side out = IsOrderedBy is_registered side out
+
   -- Only these phases occur, and the queue and out are in order.
-  pub record AreSound (allowed : Option (Phase W) → Bool) (side : Side D W) (out : List (ℕ × W)) : Type 0 where
-    pub ordered : IsOrdered side out
+  pub record AreSoundBy (place allowed : Option (Phase W) → Bool) (side : Side D W) (out : List (ℕ × W)) : Type 0 where
+    pub ordered : IsOrderedBy place side out
     pub only : (name : ℕ) → allowed (phase_of side name) ≡ true
+
+  -- The same where the registered futures alone have a place in the queue.
+  abbrev pub AreSound : (Option (Phase W) → Bool) → Side D W → List (ℕ × W) → Type 0
+  AreSound allowed side out = AreSoundBy is_registered allowed side out
+
+  -- it has this phase, and no place in the queue
+  abbrev pub without_place : Phase W → Side D W → ℕ → Side D W
+  without_place phase side name = record { live = with_phase side.live name phase; queue = without name side.queue }
+
+  -- A future of the queue is told, and named if it was registered. It keeps its place, or else leaves the queue.
+  abbrev pub told_one : Bool → Waiting D W → ℕ → Waiting D W
+  told_one keeps w name = record {
+    side = record { live = with_phase w.side.live name Told; queue = if keeps then w.side.queue else without name w.side.queue };
+    out = w.out ++ pair w.side name;
+  }
+
+  -- Each future of this front of the queue is told, and named if it was registered. They keep their places, or else
+  -- leave the queue to the rest.
+  abbrev pub front_told : Bool → Waiting D W → List ℕ → List ℕ → Waiting D W
+  front_told keeps w front rest = record {
+    side = record { live = with_phases w.side.live front Told; queue = if keeps then w.side.queue else rest };
+    out = w.out ++ named w.side.live front;
+  }

@@ -11,12 +11,14 @@ mod heap_nodes;
 #[cfg(test)]
 mod heap_tests;
 mod heap_trees;
+mod line;
 mod list;
 mod nodes;
 mod outbox;
 mod phase;
 #[cfg(test)]
 mod tests;
+mod two_sides;
 mod visits;
 mod waits;
 
@@ -24,7 +26,9 @@ pub use clocks::{Clock, MockClock, StdClock, whole_millis};
 pub use drain::{Drain, ReverseDrain};
 pub use errors::{ChannelSendError, CloseStatus, Fault, NoRoom, Slot, StateId};
 pub use heap::PairingHeap;
+pub use line::{Entry, Line};
 pub use list::LinkedList;
 pub use outbox::{Outbox, Ticket};
 pub use phase::{Future, Leftover, Notice, Phase};
-pub use waits::{Entry, Waits};
+pub use two_sides::{TwoSides, Waiter};
+pub use waits::Waits;

@@ -1,33 +1,21 @@
 //! Futures that wait in a queue, and the wakers that are named to be woken.
 ghost use Rattle.std.specs.Prelude.{◌≡◌, ℕ, ◌++◌, ◌∷◌, List, [], Some, None, true, false, Option, IfOk, OnErr, IfErr, IsSome, MatchOption, length, drop, option_copied};
-ghost use Rattle.std.specs.FinMap as map;
-ghost use Rattle.fi_parts.specs.Order.{holds};
-ghost use Rattle.fi_parts.specs.Listed.{item, with_live};
+ghost use Rattle.fi_parts.specs.Order.{holds, without};
 ghost use Rattle.fi_parts.specs.Pairs.{has, waker_of, without_pair, oldest};
 ghost use Rattle.fi_parts.specs.Noticed.{phase_after};
-ghost use Rattle.fi_parts.specs.PairWaker.{waker_in_pair};
-ghost use Rattle.fi_parts.specs.Waiting.{with_phase, phase_of, IsLive, IsOrdered, is_registered, no_futures, made, registered, forgotten, pair, asks_of, waker_in, all_noticed, displaced, waker_or};
-ghost use Rattle.fi_parts.specs.declared.waits.Entry.{Entry};
+ghost use Rattle.fi_parts.specs.Waiting.{with_phase, exchange, phase_of, IsLive, IsOrdered, IsOrderedBy, is_queued, told_one, is_registered, no_futures, made, registered, forgotten, pair, asks_of, waker_in, all_noticed, displaced};
 
 use crate::errors::{NoRoom, Slot};
-use crate::list::LinkedList;
-use crate::outbox::{Outbox, Ticket};
+use crate::line::{Line, last_waker, waker_from};
+use crate::outbox::Outbox;
 use crate::phase::{Future, Notice, Phase};
 use std::alloc::Global;
 use std::marker::Model;
-use std::mem;
-
-/// A future, and its ticket in the outbox.
-#[derive(Drop)]
-pub struct Entry<D, W> {
-    pub ticket: Ticket,
-    pub future: Future<D, W>,
-}
 
 /// Futures by name, a queue of those that wait, and the wakers to be woken.
 #[derive(Drop)]
 pub struct Waits<D, W> {
-    list: LinkedList<Entry<D, W>>,
+    line: Line<D, W>,
     outbox: Outbox<(usize, W)>,
 }
 
@@ -40,56 +28,9 @@ impl<D, W> Model for Waits<D, W> {
 
     ghost coded = { waiting_code D.code W.code };
 
-    ghost view = { λ s. waiting_of s.list s.outbox };
+    ghost view = { λ s. waiting_of s.line s.outbox };
 
-    ghost invariant = { λ s. AreTied s.list s.outbox };
-}
-
-// The waker of what was taken out.
-fn waker_from<W>(pair: Option<(usize, W)>) -> Option<W>
-    ensures { result ≡ waker_in_pair pair }
-{
-    match pair {
-        Some((_, waker)) => Some(waker),
-        None => None,
-    }
-}
-
-fn into_waker<W: Drop>(phase: Phase<W>) -> Option<W>
-    ensures { result ≡ waker_in phase }
-{
-    match phase {
-        Phase::Registered(waker) => Some(waker),
-        Phase::Fresh | Phase::Told | Phase::Complete | Phase::Ended => None,
-    }
-}
-
-// The waker of a future that stood so, or else that of its pair.
-fn last_waker<W: Drop>(phase: Phase<W>, named: Option<W>) -> Option<W>
-    ensures { result ≡ waker_or phase named }
-{
-    match phase {
-        Phase::Registered(waker) => Some(waker),
-        Phase::Fresh | Phase::Told | Phase::Complete | Phase::Ended => named,
-    }
-}
-
-// Lets a live future stand so, and takes the waker that it had.
-fn swap_phase<D: Drop, W: Drop>(
-    list: &mut LinkedList<Entry<D, W>>,
-    slot: Slot,
-    phase: Phase<W>,
-) -> (Ticket, Option<W>)
-    requires { IsSome (item list.old slot.0) }
-    ensures { (entry : Entry D W) × (item list.old slot.0 ≡ Some entry) × (result ≡ (entry.ticket, waker_in entry.future.phase))
-        × (list.new ≡ with_live list.old (map.insert list.old.live slot.0 (record entry { future = record entry.future { phase = phase } }))) }
-{
-    let entry = list.get_mut(slot).unwrap();
-    let ticket = entry.ticket;
-    (
-        ticket,
-        into_waker(mem::replace(&mut entry.future.phase, phase)),
-    )
+    ghost invariant = { λ s. AreTied s.line s.outbox };
 }
 
 impl<D: Drop, W: Drop> Waits<D, W> {
@@ -98,7 +39,7 @@ impl<D: Drop, W: Drop> Waits<D, W> {
         ensures { result ≡ record { side = no_futures; out = [] } }
     {
         Waits {
-            list: LinkedList::new(alloc),
+            line: Line::new(alloc),
             outbox: Outbox::new(alloc),
         }
     }
@@ -107,20 +48,14 @@ impl<D: Drop, W: Drop> Waits<D, W> {
     pub fn phase(&self, slot: Slot) -> Option<&Phase<W>>
         ensures { option_copied result ≡ phase_of self.now.side slot.0 }
     {
-        match self.list.get(slot) {
-            Some(entry) => Some(&entry.future.phase),
-            None => None,
-        }
+        self.line.phase(slot)
     }
 
     /// What a name asks for; None where no future lives under it.
     pub fn asks(&self, slot: Slot) -> Option<&D>
         ensures { option_copied result ≡ asks_of self.now.side slot.0 }
     {
-        match self.list.get(slot) {
-            Some(entry) => Some(&entry.future.asks),
-            None => None,
-        }
+        self.line.asks(slot)
     }
 
     /// Makes a fresh future under a name that was not live.
@@ -132,24 +67,11 @@ impl<D: Drop, W: Drop> Waits<D, W> {
         ensures refused { OnErr result (self.new ≡ self.old) }
         ensures handed_back { IfErr result (λ failed. failed.0 ≡ asks) }
     {
-        let ticket = match self.outbox.claim() {
-            Ok(ticket) => ticket,
-            Err(_) => return Err(NoRoom(asks)),
+        let back = match self.line.insert(&mut self.outbox, asks) {
+            Ok(slot) => return Ok(slot),
+            Err(back) => back,
         };
-        let entry = Entry {
-            ticket,
-            future: Future {
-                asks,
-                phase: Phase::Fresh,
-            },
-        };
-        match self.list.claim(entry) {
-            Ok(slot) => Ok(slot),
-            Err(NoRoom(entry)) => {
-                self.outbox.free(ticket);
-                Err(NoRoom(entry.future.asks))
-            }
-        }
+        Err(back)
     }
 
     /// Takes out a future's own pair, and gives its waker; None where it was not named, or is not live.
@@ -158,7 +80,7 @@ impl<D: Drop, W: Drop> Waits<D, W> {
         ensures waker { result ≡ waker_of slot.0 self.old.out }
         ensures rest { self.new ≡ record self.old { out = without_pair slot.0 self.old.out } }
     {
-        let ticket = self.list.get(slot).unwrap().ticket;
+        let ticket = self.line.ticket(slot);
         waker_from(self.outbox.take_out(ticket))
     }
 
@@ -168,8 +90,7 @@ impl<D: Drop, W: Drop> Waits<D, W> {
         requires apart { holds slot.0 self.old.side.queue ≡ false }
         ensures { self.new ≡ record self.old { side = registered self.old.side slot.0 waker } }
     {
-        swap_phase(&mut self.list, slot, Phase::Registered(waker));
-        self.list.add_front(slot);
+        self.line.register(slot, waker);
     }
 
     /// Lets a live future stand so, and keep its place. Gives the waker that it was registered with.
@@ -178,8 +99,16 @@ impl<D: Drop, W: Drop> Waits<D, W> {
         ensures waker { MatchOption (phase_of self.old.side slot.0) ⊥ (λ before. result ≡ waker_in before) }
         ensures rest { self.new ≡ record self.old { side = record self.old.side { live = with_phase self.old.side.live slot.0 phase } } }
     {
-        let (_, waker) = swap_phase(&mut self.list, slot, phase);
-        waker
+        self.line.set_phase(slot, phase)
+    }
+
+    /// Sets what a live future asks for, and returns what it asked for.
+    pub fn exchange(&mut self, slot: Slot, asks: D) -> D
+        requires { IsLive self.old.side slot.0 }
+        ensures asked { asks_of self.old.side slot.0 ≡ Some result }
+        ensures rest { self.new ≡ record self.old { side = exchange self.old.side slot.0 asks } }
+    {
+        self.line.exchange(slot, asks)
     }
 
     /// Takes a live future out of everything, and gives back what it asked for and the waker that it had.
@@ -190,8 +119,7 @@ impl<D: Drop, W: Drop> Waits<D, W> {
         ensures forgotten { self.new ≡ record { side = forgotten self.old.side slot.0; out = without_pair slot.0 self.old.out } }
     {
         let named = self.take_out(slot);
-        self.list.remove(slot);
-        let entry = self.list.free(slot);
+        let entry = self.line.remove(slot);
         self.outbox.free(entry.ticket);
         let Future { asks, phase } = entry.future;
         (asks, last_waker(phase, named))
@@ -202,8 +130,22 @@ impl<D: Drop, W: Drop> Waits<D, W> {
         ensures { MatchOption result ((self.old.side.queue ≡ []) × (self.new ≡ self.old))
             (λ slot. (others : List ℕ) × (self.old.side.queue ≡ slot.0 ∷ others) × (self.new ≡ record self.old { side = record self.old.side { queue = others } })) }
     {
-        let slot = self.list.remove_last()?;
+        let slot = self.line.leave_oldest()?;
         Some(slot)
+    }
+
+    /// The oldest future of the queue; None if the queue is empty.
+    pub fn oldest(&self) -> Option<Slot>
+        ensures { MatchOption result (self.now.side.queue ≡ []) (λ slot. (others : List ℕ) × (self.now.side.queue ≡ slot.0 ∷ others)) }
+    {
+        self.line.oldest()
+    }
+
+    /// Takes a future out of the queue, wherever its place is; it stays live. Does nothing if it isn't queued.
+    pub fn leave(&mut self, slot: Slot)
+        ensures { self.new ≡ record self.old { side = record self.old.side { queue = without slot.0 self.old.side.queue } } }
+    {
+        self.line.leave(slot);
     }
 
     /// Names a registered future that is not named yet; it then stands so.
@@ -212,8 +154,43 @@ impl<D: Drop, W: Drop> Waits<D, W> {
         requires no_pair { has slot.0 self.old.out ≡ false }
         ensures { self.new ≡ record { side = record self.old.side { live = with_phase self.old.side.live slot.0 phase }; out = self.old.out ++ pair self.old.side slot.0 } }
     {
-        let (ticket, waker) = swap_phase(&mut self.list, slot, phase);
+        let ticket = self.line.ticket(slot);
+        let waker = self.line.set_phase(slot, phase);
         self.outbox.name(ticket, (slot.0, waker.unwrap()));
+    }
+
+    /// True if a live future has this name and is registered.
+    pub fn is_registered(&self, slot: Slot) -> bool
+        ensures { result ≡ is_registered (phase_of self.now.side slot.0) }
+    {
+        match self.phase(slot) {
+            Some(Phase::Registered(_)) => true,
+            None | Some(Phase::Fresh | Phase::Told | Phase::Complete | Phase::Ended) => false,
+        }
+    }
+
+    /// Tells a registered future and names its waker; a told one stays as it is. Its place in the queue stays.
+    pub fn mark_told(&mut self, slot: Slot)
+        requires waits { is_queued true (phase_of self.old.side slot.0) ≡ true }
+        requires no_pair { is_registered (phase_of self.old.side slot.0) ≡ true → has slot.0 self.old.out ≡ false }
+        ensures { self.new ≡ told_one true self.old slot.0 }
+    {
+        if self.is_registered(slot) {
+            self.notice(slot, Phase::Told);
+        }
+    }
+
+    /// Tells a future of the queue, and names its waker if it was registered. It then leaves the queue, unless it keeps
+    /// its place.
+    pub fn tell(&mut self, slot: Slot, keeps_place: bool)
+        requires ordered { IsOrderedBy (is_queued keeps_place) self.old.side self.old.out }
+        requires queued { holds slot.0 self.old.side.queue ≡ true }
+        ensures { self.new ≡ told_one keeps_place self.old slot.0 }
+    {
+        self.mark_told(slot);
+        if !keeps_place {
+            self.leave(slot);
+        }
     }
 
     /// Names the whole queue, the oldest first, with this notice for each.

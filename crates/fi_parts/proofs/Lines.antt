@@ -1,0 +1,228 @@
+-- The entries of a list, seen as a line of futures with tickets.
+use Rattle.std.proofs.Common.{◌≡◌, ℕ, Bool, true, false, Bor, List, [], ◌∷◌, ◌++◌, Option, Some, None, MatchOption, is_some, option_copied, cond, map, reverse, refl, sym, ap, ◌∙◌, inl, inr}
+use Rattle.std.proofs.lemmas.Bool.{cases_eq, both_ways}
+use Rattle.std.proofs.lemmas.List.{reverse-append}
+use Rattle.std.specs.Option.{IsSome, option_map}
+use Rattle.std.specs.Ordering.{nat_cmp, eq_by_cmp}
+use Rattle.std.specs.Cmp.{nat_cmp_total}
+use Rattle.std.specs.FinMap as finmap
+use Rattle.fi_parts.specs.declared.errors.Slot.{Slot}
+use Rattle.fi_parts.specs.declared.phase.Phase.{Phase}
+use Rattle.fi_parts.specs.declared.phase.Phase.TheVariants.{Fresh, Registered, Told, Complete, Ended}
+use Rattle.fi_parts.specs.declared.phase.Future.{Future}
+use Rattle.fi_parts.specs.declared.outbox.Ticket.{Ticket}
+use Rattle.fi_parts.specs.declared.line.Entry.{Entry}
+use Rattle.fi_parts.specs.Listed.{Listed, with_live}
+use Rattle.fi_parts.specs.Order.{holds, without}
+use Rattle.fi_parts.specs.Waiting.{phase_in, phase_of, asks_in, asks_of, is_registered, waker_in, made, registered, forgotten, rephased, with_phase, with_asks_in, with_asks}
+use Rattle.fi_parts.specs.LineModel.{LineModel, mapped, future_of, ticket_of, line_of, empty_line}
+use Rattle.fi_parts.proofs.Live.{get-insert_same, get-insert_other, get-remove_same, get-remove_other}
+use Rattle.fi_parts.proofs.Queues.{reverse_cons, reverse-without, holds-reverse}
+
+-- A map with a function of each value.
+module _ {A B : Type 0} (f : A → B) where
+  find-mapped : (q : ℕ) (es : List (ℕ × A)) → finmap.find nat_cmp q (map (λ e. (e.0, f e.1)) es) ≡ option_map f (finmap.find nat_cmp q es)
+  find-mapped q [] = refl
+  find-mapped q (e ∷ es) = step (eq_by_cmp nat_cmp q e.0) (find-mapped q es)
+    where
+      step : (b : Bool) → finmap.find nat_cmp q (map (λ e'. (e'.0, f e'.1)) es) ≡ option_map f (finmap.find nat_cmp q es) →
+          cond b (Some (f e.1)) (finmap.find nat_cmp q (map (λ e'. (e'.0, f e'.1)) es)) ≡ option_map f (cond b (Some e.1) (finmap.find nat_cmp q es))
+      step true rest = refl
+      step false rest = rest
+
+  pub get-mapped : (live : finmap.FinMap nat_cmp A) (q : ℕ) → finmap.get (mapped f live) q ≡ option_map f (finmap.get live q)
+  unfolding mapped
+  get-mapped live q =
+      finmap.get-from_entries nat_cmp_total (map (λ e. (e.0, f e.1)) (finmap.entries live)) q
+      ∙ find-mapped q (finmap.entries live) ∙ ap (option_map f) (sym (finmap.get-entries live q))
+
+  same_mapped : (live : finmap.FinMap nat_cmp A) (others : finmap.FinMap nat_cmp B) →
+      ((q : ℕ) → option_map f (finmap.get live q) ≡ finmap.get others q) → mapped f live ≡ others
+  same_mapped live others same =
+      finmap.same_map nat_cmp_total finmap.nat_cmp-IsAntisymmetric _ _ (λ q. get-mapped live q ∙ same q)
+
+  pub mapped-empty : mapped f finmap.empty ≡ finmap.empty
+  mapped-empty = same_mapped _ _ (λ q. ap (option_map f) (finmap.get-empty nat_cmp q) ∙ sym (finmap.get-empty nat_cmp q))
+
+  pub mapped-insert : (live : finmap.FinMap nat_cmp A) (n : ℕ) (a : A) → mapped f (finmap.insert live n a) ≡ finmap.insert (mapped f live) n (f a)
+  mapped-insert live n a = same_mapped _ _ (λ q. elim (cases_eq q n) [
+    | inl same ↦ rw same (ap (option_map f) (get-insert_same live n a) ∙ sym (get-insert_same (mapped f live) n (f a)))
+    | inr ne ↦ ap (option_map f) (get-insert_other live n a q ne) ∙ sym (get-mapped live q) ∙ sym (get-insert_other (mapped f live) n (f a) q ne)
+  ])
+
+  pub mapped-remove : (live : finmap.FinMap nat_cmp A) (n : ℕ) → mapped f (finmap.remove live n) ≡ finmap.remove (mapped f live) n
+  mapped-remove live n = same_mapped _ _ (λ q. elim (cases_eq q n) [
+    | inl same ↦ rw same (ap (option_map f) (get-remove_same live n) ∙ sym (get-remove_same (mapped f live) n))
+    | inr ne ↦ ap (option_map f) (get-remove_other live n q ne) ∙ sym (get-mapped live q) ∙ sym (get-remove_other (mapped f live) n q ne)
+  ])
+
+  -- another value with the same image
+  mapped-kept : (live : finmap.FinMap nat_cmp A) (n : ℕ) (a b : A) → finmap.get live n ≡ Some a → f b ≡ f a → mapped f (finmap.insert live n b) ≡ mapped f live
+  mapped-kept live n a b is kept = same_mapped _ _ (λ q. elim (cases_eq q n) [
+    | inl same ↦ rw same (ap (option_map f) (get-insert_same live n b) ∙ ap Some kept ∙ ap (option_map f) (sym is) ∙ sym (get-mapped live n))
+    | inr ne ↦ ap (option_map f) (get-insert_other live n b q ne) ∙ sym (get-mapped live q)
+  ])
+
+module _ {D W : Type 0} where
+  abbrev pub phase_at : Option (Entry D W) → Option (Phase W)
+  phase_at o = phase_in (option_map future_of o)
+
+  abbrev pub asks_at : Option (Entry D W) → Option D
+  asks_at o = asks_in (option_map future_of o)
+
+  pub phase-seen : (live : finmap.FinMap nat_cmp (Entry D W)) (n : ℕ) → phase_in (finmap.get (mapped future_of live) n) ≡ phase_at (finmap.get live n)
+  phase-seen live n = ap phase_in (get-mapped future_of live n)
+
+  pub asks-seen : (live : finmap.FinMap nat_cmp (Entry D W)) (n : ℕ) → asks_in (finmap.get (mapped future_of live) n) ≡ asks_at (finmap.get live n)
+  asks-seen live n = ap asks_in (get-mapped future_of live n)
+
+  -- what is live to a caller is live in the list
+  pub entry_lives : (live : finmap.FinMap nat_cmp (Entry D W)) (n : ℕ) → IsSome (finmap.get (mapped future_of live) n) → IsSome (finmap.get live n)
+  entry_lives live n lives = step (finmap.get live n) (sym (ap is_some (get-mapped future_of live n)) ∙ lives)
+    where
+      step : (o : Option (Entry D W)) → IsSome (option_map future_of o) → IsSome o
+      step None h = h
+      step (Some e) h = refl
+
+  abbrev fresh : Ticket → D → Entry D W
+  fresh ticket asks = record { ticket = ticket; future = record { asks = asks; phase = Fresh } }
+
+  -- the entry with another phase, or asking for something else
+  abbrev at_phase : Entry D W → Phase W → Entry D W
+  at_phase e phase = record e { future = record e.future { phase = phase } }
+
+  abbrev at_asks : Entry D W → D → Entry D W
+  at_asks e asks = record e { future = record e.future { asks = asks } }
+
+  futures-with_phase : (live : finmap.FinMap nat_cmp (Entry D W)) (n : ℕ) (e : Entry D W) (phase : Phase W) → finmap.get live n ≡ Some e →
+      mapped future_of (finmap.insert live n (at_phase e phase)) ≡ with_phase (mapped future_of live) n phase
+  unfolding with_phase
+  futures-with_phase live n e phase is =
+      mapped-insert future_of live n (at_phase e phase)
+      ∙ sym (ap (rephased (mapped future_of live) n phase) (get-mapped future_of live n ∙ ap (option_map future_of) is))
+
+  futures-with_asks : (live : finmap.FinMap nat_cmp (Entry D W)) (n : ℕ) (e : Entry D W) (asks : D) → finmap.get live n ≡ Some e →
+      mapped future_of (finmap.insert live n (at_asks e asks)) ≡ with_asks (mapped future_of live) n asks
+  unfolding with_asks
+  futures-with_asks live n e asks is =
+      mapped-insert future_of live n (at_asks e asks)
+      ∙ sym (ap (with_asks_in (mapped future_of live) n asks) (get-mapped future_of live n ∙ ap (option_map future_of) is))
+
+  module _ (list : Listed (Entry D W)) where
+    abbrev seen : LineModel D W
+    seen = line_of list
+
+    pub free_name : (n : ℕ) → finmap.get list.live n ≡ None → phase_of seen.side n ≡ None
+    free_name n free = phase-seen list.live n ∙ ap phase_at free
+
+    pub free_ticket : (n : ℕ) → finmap.get list.live n ≡ None → finmap.get seen.tickets n ≡ None
+    free_ticket n free = get-mapped ticket_of list.live n ∙ ap (option_map ticket_of) free
+
+    pub its_ticket : (n : ℕ) (e : Entry D W) → finmap.get list.live n ≡ Some e → finmap.get seen.tickets n ≡ Some e.ticket.0
+    its_ticket n e is = get-mapped ticket_of list.live n ∙ ap (option_map ticket_of) is
+
+    pub its_phase : (n : ℕ) (e : Entry D W) → finmap.get list.live n ≡ Some e → phase_of seen.side n ≡ Some e.future.phase
+    its_phase n e is = phase-seen list.live n ∙ ap phase_at is
+
+    pub its_asks : (n : ℕ) (e : Entry D W) → finmap.get list.live n ≡ Some e → asks_of seen.side n ≡ Some e.future.asks
+    its_asks n e is = asks-seen list.live n ∙ ap asks_at is
+
+    pub seen-inserted : (n : ℕ) (ticket : Ticket) (asks : D) (after : Listed (Entry D W)) →
+        after ≡ with_live list (finmap.insert list.live n (fresh ticket asks)) →
+        line_of after ≡ record { side = made seen.side n asks; tickets = finmap.insert seen.tickets n ticket.0 }
+    seen-inserted n ticket asks after is = rw is (λ i. record {
+      side = record { live = mapped-insert future_of list.live n (fresh ticket asks) i; queue = reverse list.order };
+      tickets = mapped-insert ticket_of list.live n (fresh ticket asks) i;
+    })
+
+    abbrev PhaseAt : ℕ → Phase W → Listed (Entry D W) → Type 0
+    PhaseAt n phase after = (e : Entry D W) × (finmap.get list.live n ≡ Some e) × (after ≡ with_live list (finmap.insert list.live n (at_phase e phase)))
+
+    pub seen-phase : (n : ℕ) (phase : Phase W) (after : Listed (Entry D W)) → PhaseAt n phase after →
+        line_of after ≡ record seen { side = record seen.side { live = with_phase seen.side.live n phase } }
+    seen-phase n phase after is = rw is.2 (λ i. record {
+      side = record { live = futures-with_phase list.live n is.0 phase is.1 i; queue = reverse list.order };
+      tickets = mapped-kept ticket_of list.live n is.0 (at_phase is.0 phase) is.1 refl i;
+    })
+
+    pub seen-asks : (n : ℕ) (asks : D) (e : Entry D W) (after : Listed (Entry D W)) → finmap.get list.live n ≡ Some e →
+        after ≡ with_live list (finmap.insert list.live n (at_asks e asks)) →
+        line_of after ≡ record seen { side = record seen.side { live = with_asks seen.side.live n asks } }
+    seen-asks n asks e after is now = rw now (λ i. record {
+      side = record { live = futures-with_asks list.live n e asks is i; queue = reverse list.order };
+      tickets = mapped-kept ticket_of list.live n e (at_asks e asks) is refl i;
+    })
+
+    pub seen-registered : (n : ℕ) (waker : W) (mid after : Listed (Entry D W)) → PhaseAt n (Registered waker) mid →
+        after.live ≡ mid.live → after.order ≡ n ∷ mid.order → line_of after ≡ record seen { side = registered seen.side n waker }
+    seen-registered n waker mid after is live order =
+        let m : line_of mid ≡ record seen { side = record seen.side { live = with_phase seen.side.live n (Registered waker) } } = seen-phase n (Registered waker) mid is in
+        let lives : mapped future_of after.live ≡ with_phase seen.side.live n (Registered waker) = ap (mapped future_of) live ∙ ap (λ (w : LineModel D W). w.side.live) m in
+        let tickets : mapped ticket_of after.live ≡ seen.tickets = ap (mapped ticket_of) live ∙ ap (λ (w : LineModel D W). w.tickets) m in
+        let queue : reverse after.order ≡ reverse list.order ++ n ∷ [] = ap reverse (order ∙ ap (λ (l : Listed (Entry D W)). n ∷ l.order) is.2) ∙ reverse_cons n list.order in
+        λ i. record { side = record { live = lives i; queue = queue i }; tickets = tickets i }
+
+    pub live-after : (n : ℕ) (phase : Phase W) (after : Listed (Entry D W)) → PhaseAt n phase after → IsSome (finmap.get after.live n)
+    live-after n phase after is = ap (λ (l : Listed (Entry D W)). is_some (finmap.get l.live n)) is.2 ∙ ap is_some (get-insert_same list.live n (at_phase is.0 phase))
+
+    pub apart-after : (n : ℕ) (phase : Phase W) (after : Listed (Entry D W)) → PhaseAt n phase after → holds n seen.side.queue ≡ false → holds n after.order ≡ false
+    apart-after n phase after is apart = ap (λ (l : Listed (Entry D W)). holds n l.order) is.2 ∙ sym (holds-reverse n list.order) ∙ apart
+
+    pub seen-removed : (n : ℕ) (mid after : Listed (Entry D W)) → mid.live ≡ list.live → mid.order ≡ without n list.order →
+        after ≡ with_live mid (finmap.remove mid.live n) →
+        line_of after ≡ record { side = forgotten seen.side n; tickets = finmap.remove seen.tickets n }
+    seen-removed n mid after live order freed =
+        let gone : after.live ≡ finmap.remove list.live n = ap (λ (l : Listed (Entry D W)). l.live) freed ∙ ap (λ l. finmap.remove l n) live in
+        let lives : mapped future_of after.live ≡ finmap.remove seen.side.live n = ap (mapped future_of) gone ∙ mapped-remove future_of list.live n in
+        let tickets : mapped ticket_of after.live ≡ finmap.remove seen.tickets n = ap (mapped ticket_of) gone ∙ mapped-remove ticket_of list.live n in
+        let queue : reverse after.order ≡ without n (reverse list.order) = ap reverse (ap (λ (l : Listed (Entry D W)). l.order) freed ∙ order) ∙ reverse-without n list.order in
+        λ i. record { side = record { live = lives i; queue = queue i }; tickets = tickets i }
+
+    -- the queue's first is the list's last
+    pub oldest-first : (n : ℕ) (front : List ℕ) → list.order ≡ front ++ n ∷ [] → seen.side.queue ≡ n ∷ reverse front
+    oldest-first n front is = ap reverse is ∙ reverse-append front (n ∷ [])
+
+    -- only the queue has changed
+    pub seen-queue : (after : Listed (Entry D W)) (queue : List ℕ) → after.live ≡ list.live → reverse after.order ≡ queue →
+        line_of after ≡ record seen { side = record seen.side { queue = queue } }
+    seen-queue after queue live order =
+        let lives : mapped future_of after.live ≡ mapped future_of list.live = ap (mapped future_of) live in
+        let tickets : mapped ticket_of after.live ≡ seen.tickets = ap (mapped ticket_of) live in
+        λ i. record { side = record { live = lives i; queue = order i }; tickets = tickets i }
+
+pub line-empty : (D W : Type 0) → line_of (record { live = finmap.empty; order = []; visits = 0 }) ≡ empty_line {D = D} {W = W}
+line-empty D W = λ i. record {
+  side = record { live = mapped-empty (future_of {D = D} {W = W}) i; queue = [] };
+  tickets = mapped-empty (ticket_of {D = D} {W = W}) i;
+}
+
+pub some_from_copied : {X : Type 0} (r : Option (Bor X)) → IsSome (option_copied r) → IsSome r
+some_from_copied None h = h
+some_from_copied (Some x) h = refl
+
+module _ {W : Type 0} where
+  -- the waker that a registered one gives when its phase is set
+  pub its_waker : (p : Option (Phase W)) (r : Option W) → is_registered p ≡ true → MatchOption p ⊥ (λ before. r ≡ waker_in before) →
+      (w : W) × (p ≡ Some (Registered w)) × (r ≡ Some w)
+  its_waker None r h e = absurd e
+  its_waker (Some Fresh) r h e = absurd (both_ways false refl h)
+  its_waker (Some (Registered w)) r h e = (w, refl, e)
+  its_waker (Some Told) r h e = absurd (both_ways false refl h)
+  its_waker (Some Complete) r h e = absurd (both_ways false refl h)
+  its_waker (Some Ended) r h e = absurd (both_ways false refl h)
+
+  pub some_is : (r : Option W) (w : W) → r ≡ Some w → IsSome r
+  some_is None w e = cc
+  some_is (Some v) w e = refl
+
+  pub same_waker : (r : Option W) (v w : W) → r ≡ Some w → r ≡ Some v → v ≡ w
+  same_waker r v w e f = cc
+
+module _ {D W : Type 0} where
+  -- the tickets stay, whoever left the queue
+  pub left_tickets : (r : Option Slot) (old new : LineModel D W) →
+      MatchOption r ((old.side.queue ≡ []) × (new ≡ old))
+      (λ slot. (others : List ℕ) × (old.side.queue ≡ slot.0 ∷ others) × (new ≡ record old { side = record old.side { queue = others } })) →
+      new.tickets ≡ old.tickets
+  left_tickets None old new left = ap (λ (l : LineModel D W). l.tickets) left.1
+  left_tickets (Some slot) old new left = ap (λ (l : LineModel D W). l.tickets) left.2

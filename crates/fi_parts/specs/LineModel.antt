@@ -1,0 +1,42 @@
+-- One line of waiting futures, each with a ticket in an outbox that may serve other lines too.
+use Rattle.std.specs.Prelude.{◌≡◌, ℕ, Option, Some, None, List, map, reverse, refl}
+use Rattle.std.specs.Coded.{Coded, code_by, coded×, coded_ℕ}
+use Rattle.std.specs.Ordering.{nat_cmp}
+use Rattle.std.specs.FinMap as finmap
+use Rattle.fi_parts.specs.declared.phase.Future.{Future}
+use Rattle.fi_parts.specs.declared.line.Entry.{Entry}
+use Rattle.fi_parts.specs.Codes.{side_code}
+use Rattle.fi_parts.specs.Listed.{Listed}
+use Rattle.fi_parts.specs.Waiting.{Side, no_futures}
+
+-- The futures and their queue, and the ticket of each.
+pub record LineModel (D W : Type 0) : Type 0 where
+  pub side : Side D W
+  pub tickets : finmap.FinMap nat_cmp ℕ
+
+module _ {A B : Type 0} where
+  -- the map with this function of each value
+  unfoldable pub mapped : (A → B) → finmap.FinMap nat_cmp A → finmap.FinMap nat_cmp B
+  mapped f live = finmap.from_entries (map (λ e. (e.0, f e.1)) (finmap.entries live))
+
+module _ {D W : Type 0} where
+  abbrev pub line_code : Coded D → Coded W → Coded (LineModel D W)
+  line_code d w =
+      code_by (Side D W × finmap.FinMap nat_cmp ℕ) (coded× (side_code d w) (finmap.code coded_ℕ coded_ℕ))
+      (λ l. (l.side, l.tickets)) (λ p. record { side = p.0; tickets = p.1 }) (λ _. refl)
+
+  abbrev pub future_of : Entry D W → Future D W
+  future_of entry = entry.future
+
+  abbrev pub ticket_of : Entry D W → ℕ
+  ticket_of entry = entry.ticket.0
+
+  abbrev pub line_of : Listed (Entry D W) → LineModel D W
+  line_of list = record {
+    side = record { live = mapped future_of list.live; queue = reverse list.order };
+    tickets = mapped ticket_of list.live;
+  }
+
+  -- no future, and so no ticket
+  abbrev pub empty_line : LineModel D W
+  empty_line = record { side = no_futures; tickets = finmap.empty }

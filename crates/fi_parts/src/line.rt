@@ -1,0 +1,235 @@
+//! One line of waiting futures: their phases, their queue, and their tickets in an outbox that may serve other lines too.
+ghost use Rattle.std.specs.Prelude.{◌≡◌, ℕ, ◌∷◌, List, [], Some, None, true, false, Option, IfOk, OnErr, IfErr, IsSome, MatchOption, option_copied};
+ghost use Rattle.std.specs.FinMap as map;
+ghost use Rattle.std.specs.FinSet as set;
+ghost use Rattle.fi_parts.specs.Order.{holds, without};
+ghost use Rattle.fi_parts.specs.Listed.{item, with_live};
+ghost use Rattle.fi_parts.specs.Pairs.{with_tickets};
+ghost use Rattle.fi_parts.specs.NamedPairs.{waker_in_pair};
+ghost use Rattle.fi_parts.specs.Waiting.{with_phase, exchange, phase_of, IsLive, made, registered, forgotten, asks_of, waker_in, waker_or};
+ghost use Rattle.fi_parts.specs.LineModel.{empty_line};
+ghost use Rattle.fi_parts.specs.declared.line.Entry.{Entry};
+
+use crate::errors::{NoRoom, Slot};
+use crate::list::LinkedList;
+use crate::outbox::{Outbox, Ticket};
+use crate::phase::{Future, Phase};
+use std::alloc::Global;
+use std::marker::Model;
+use std::mem;
+
+/// A future, and its ticket in the outbox.
+#[derive(Drop)]
+pub struct Entry<D, W> {
+    pub ticket: Ticket,
+    pub future: Future<D, W>,
+}
+
+/// Futures by slot, a queue of those that wait, and the ticket of each.
+#[derive(Drop)]
+pub struct Line<D, W> {
+    list: LinkedList<Entry<D, W>>,
+}
+
+impl<D, W> Model for Line<D, W> {
+    ghost use Rattle.fi_parts.specs.LineModel.{LineModel, line_code, line_of};
+
+    ghost Value = { LineModel D W };
+
+    ghost coded = { line_code D.code W.code };
+
+    ghost view = { λ s. line_of s.list };
+}
+
+/// The waker of a pair that was taken out of an outbox.
+pub fn waker_from<N: Drop, W>(pair: Option<(N, W)>) -> Option<W>
+    ensures { result ≡ waker_in_pair pair }
+{
+    match pair {
+        Some((_, waker)) => Some(waker),
+        None => None,
+    }
+}
+
+/// The waker that a future was registered with, or else that of its pair.
+pub fn last_waker<W: Drop>(phase: Phase<W>, named: Option<W>) -> Option<W>
+    ensures { result ≡ waker_or phase named }
+{
+    match phase {
+        Phase::Registered(waker) => Some(waker),
+        Phase::Fresh | Phase::Told | Phase::Complete | Phase::Ended => named,
+    }
+}
+
+fn into_waker<W: Drop>(phase: Phase<W>) -> Option<W>
+    ensures { result ≡ waker_in phase }
+{
+    match phase {
+        Phase::Registered(waker) => Some(waker),
+        Phase::Fresh | Phase::Told | Phase::Complete | Phase::Ended => None,
+    }
+}
+
+// Sets the phase of a live future, and takes the phase that it had.
+fn swap_phase<D: Drop, W: Drop>(
+    list: &mut LinkedList<Entry<D, W>>,
+    slot: Slot,
+    phase: Phase<W>,
+) -> Phase<W>
+    requires { IsSome (item list.old slot.0) }
+    ensures { (entry : Entry D W) × (item list.old slot.0 ≡ Some entry) × (result ≡ entry.future.phase)
+        × (list.new ≡ with_live list.old (map.insert list.old.live slot.0 (record entry { future = record entry.future { phase = phase } }))) }
+{
+    let entry = list.get_mut(slot).unwrap();
+    mem::replace(&mut entry.future.phase, phase)
+}
+
+// Sets what a live future asks for, and takes what it asked for.
+fn swap_asks<D: Drop, W: Drop>(list: &mut LinkedList<Entry<D, W>>, slot: Slot, asks: D) -> D
+    requires { IsSome (item list.old slot.0) }
+    ensures { (entry : Entry D W) × (item list.old slot.0 ≡ Some entry) × (result ≡ entry.future.asks)
+        × (list.new ≡ with_live list.old (map.insert list.old.live slot.0 (record entry { future = record entry.future { asks = asks } }))) }
+{
+    let entry = list.get_mut(slot).unwrap();
+    mem::replace(&mut entry.future.asks, asks)
+}
+
+impl<D: Drop, W: Drop> Line<D, W> {
+    /// No future. It takes no memory yet.
+    pub fn new(alloc: Global) -> Self
+        ensures { result ≡ empty_line }
+    {
+        Line {
+            list: LinkedList::new(alloc),
+        }
+    }
+
+    /// The phase of a future; None if none lives in this slot.
+    pub fn phase(&self, slot: Slot) -> Option<&Phase<W>>
+        ensures { option_copied result ≡ phase_of self.now.side slot.0 }
+    {
+        match self.list.get(slot) {
+            Some(entry) => Some(&entry.future.phase),
+            None => None,
+        }
+    }
+
+    /// What a future asks for; None if none lives in this slot.
+    pub fn asks(&self, slot: Slot) -> Option<&D>
+        ensures { option_copied result ≡ asks_of self.now.side slot.0 }
+    {
+        match self.list.get(slot) {
+            Some(entry) => Some(&entry.future.asks),
+            None => None,
+        }
+    }
+
+    /// The ticket of a live future.
+    pub fn ticket(&self, slot: Slot) -> Ticket
+        requires { IsLive self.now.side slot.0 }
+        ensures { map.get self.now.tickets slot.0 ≡ Some result.0 }
+    {
+        self.list.get(slot).unwrap().ticket
+    }
+
+    /// Inserts a fresh future, in a slot and with a ticket that were not live.
+    ///
+    /// Refused if there is no memory for it or its ticket; then what it asks for comes back, and nothing has changed.
+    pub fn insert<N: Drop>(
+        &mut self,
+        outbox: &mut Outbox<(N, W)>,
+        asks: D,
+    ) -> Result<Slot, NoRoom<D>>
+        ensures was_free { IfOk result (λ slot. phase_of self.old.side slot.0 ≡ None) }
+        ensures no_ticket { IfOk result (λ slot. map.get self.old.tickets slot.0 ≡ None) }
+        ensures inserted { IfOk result (λ slot. (ticket : ℕ) × (set.contains outbox.old.tickets ticket ≡ false)
+            × (self.new ≡ record { side = made self.old.side slot.0 asks; tickets = map.insert self.old.tickets slot.0 ticket })
+            × (outbox.new ≡ with_tickets outbox.old (set.insert outbox.old.tickets ticket))) }
+        ensures refused { OnErr result ((self.new ≡ self.old) × (outbox.new ≡ outbox.old)) }
+        ensures handed_back { IfErr result (λ failed. failed.0 ≡ asks) }
+    {
+        let ticket = match outbox.claim() {
+            Ok(ticket) => ticket,
+            Err(_) => return Err(NoRoom(asks)),
+        };
+        let entry = Entry {
+            ticket,
+            future: Future {
+                asks,
+                phase: Phase::Fresh,
+            },
+        };
+        let entry = match self.list.claim(entry) {
+            Ok(slot) => return Ok(slot),
+            Err(NoRoom(entry)) => entry,
+        };
+        outbox.free(ticket);
+        Err(NoRoom(entry.future.asks))
+    }
+
+    /// Registers a future that is not in the queue: it goes to the queue's end.
+    pub fn register(&mut self, slot: Slot, waker: W)
+        requires live { IsLive self.old.side slot.0 }
+        requires apart { holds slot.0 self.old.side.queue ≡ false }
+        ensures { self.new ≡ record self.old { side = registered self.old.side slot.0 waker } }
+    {
+        swap_phase(&mut self.list, slot, Phase::Registered(waker));
+        self.list.add_front(slot);
+    }
+
+    /// Sets the phase of a live future; its place in the queue stays. Returns the waker that it was registered with.
+    pub fn set_phase(&mut self, slot: Slot, phase: Phase<W>) -> Option<W>
+        requires { IsLive self.old.side slot.0 }
+        ensures waker { MatchOption (phase_of self.old.side slot.0) ⊥ (λ before. result ≡ waker_in before) }
+        ensures rest { self.new ≡ record self.old { side = record self.old.side { live = with_phase self.old.side.live slot.0 phase } } }
+    {
+        into_waker(swap_phase(&mut self.list, slot, phase))
+    }
+
+    /// Sets what a live future asks for, and returns what it asked for.
+    pub fn exchange(&mut self, slot: Slot, asks: D) -> D
+        requires { IsLive self.old.side slot.0 }
+        ensures asked { asks_of self.old.side slot.0 ≡ Some result }
+        ensures rest { self.new ≡ record self.old { side = exchange self.old.side slot.0 asks } }
+    {
+        swap_asks(&mut self.list, slot, asks)
+    }
+
+    /// Removes a live future, also from the queue, and returns it with its ticket, which stays live in the outbox.
+    pub fn remove(&mut self, slot: Slot) -> Entry<D, W>
+        requires { IsLive self.old.side slot.0 }
+        ensures ticket { map.get self.old.tickets slot.0 ≡ Some result.ticket.0 }
+        ensures asked { asks_of self.old.side slot.0 ≡ Some result.future.asks }
+        ensures phase { phase_of self.old.side slot.0 ≡ Some result.future.phase }
+        ensures removed { self.new ≡ record { side = forgotten self.old.side slot.0; tickets = map.remove self.old.tickets slot.0 } }
+    {
+        self.list.remove(slot);
+        self.list.free(slot)
+    }
+
+    /// The oldest future of the queue; None if the queue is empty.
+    pub fn oldest(&self) -> Option<Slot>
+        ensures { MatchOption result (self.now.side.queue ≡ []) (λ slot. (others : List ℕ) × (self.now.side.queue ≡ slot.0 ∷ others)) }
+    {
+        match self.list.last_slot() {
+            Some(oldest) => Some(oldest),
+            None => None,
+        }
+    }
+
+    /// Takes the oldest future out of the queue; None if the queue is empty.
+    pub fn leave_oldest(&mut self) -> Option<Slot>
+        ensures { MatchOption result ((self.old.side.queue ≡ []) × (self.new ≡ self.old))
+            (λ slot. (others : List ℕ) × (self.old.side.queue ≡ slot.0 ∷ others) × (self.new ≡ record self.old { side = record self.old.side { queue = others } })) }
+    {
+        let slot = self.list.remove_last()?;
+        Some(slot)
+    }
+
+    /// Takes a future out of the queue, wherever its place is; it stays live. Does nothing if it isn't queued.
+    pub fn leave(&mut self, slot: Slot)
+        ensures { self.new ≡ record self.old { side = record self.old.side { queue = without slot.0 self.old.side.queue } } }
+    {
+        self.list.remove(slot);
+    }
+}
