@@ -2,6 +2,7 @@
 //! futures over both.
 #![tactic(auto)]
 
+mod blocks;
 pub mod buffer;
 mod clocks;
 mod drain;
@@ -12,7 +13,6 @@ mod heap_nodes;
 mod heap_tests;
 mod heap_trees;
 mod list;
-mod nodes;
 mod outbox;
 mod phase;
 #[cfg(test)]

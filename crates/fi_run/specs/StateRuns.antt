@@ -13,7 +13,7 @@ use Rattle.fi_parts.specs.declared.phase.Phase.TheVariants.{Fresh, Registered, E
 use Rattle.fi_parts.specs.declared.phase.Future.{Future}
 use Rattle.fi_parts.specs.Pairs.{without_pair}
 use Rattle.fi_parts.specs.Waiting.{Side, phase_of, asks_in, asks_of, with_phase, made, forgotten, named_all}
-use Rattle.fi_parts.proofs.Live.{get-insert_same, get-insert_other, get-remove_same, get-remove_other}
+use Rattle.fi_parts.proofs.FiniteMaps.{get-insert_same, get-insert_other, get-remove_same, get-remove_other}
 use Rattle.fi_parts.proofs.Waiting.{Becomes, becomes-made, becomes-with_phase, becomes-forgotten, lives_as, asks-with_phase, asks-with_phases}
 use Rattle.fi_channels.specs.StateBroadcast.{StateMachine, opened, newer_than, newer_for, CopyOf, FreshWaits, FreshPolls, PollsAs, Polls, all_named, can_send, IsSound, OwesNoWake}
 use Rattle.fi_channels.specs.StateLaws.{well, opened_well, makes_well, polls_well, cancels_well, sends_well, closes_well, wakes_well}
