@@ -45,22 +45,26 @@ impl<T> LinkedList<T> {
         }
     }
 
-    /// No slot stands in the list.
+    /// No slot is in the list. The slots in the list are live, none is there twice, and there are fewer than 2^64.
     pub fn is_empty(&self) -> bool
-        ensures { result ≡ (length self.now.order == 0) }
+        ensures empty { result ≡ (length self.now.order == 0) }
+        ensures listed { IsListed self.now }
+        ensures fits { length self.now.order < 2 ^ 64 }
     {
+        self.is_listed();
+        self.fits();
         self.blocks.first().is_none()
     }
 
-    /// For proofs: the slots in the list are live, and none stands twice.
-    pub fn is_listed(&self)
+    // For proofs: the slots in the list are live, and none is there twice.
+    pub(crate) fn is_listed(&self)
         ensures { IsListed self.now }
     {
         self.blocks.is_listed();
     }
 
-    /// For proofs: the list is shorter than 2^64.
-    pub fn fits(&self)
+    // For proofs: the list is shorter than 2^64.
+    pub(crate) fn fits(&self)
         ensures { length self.now.order < 2 ^ 64 }
     {
         self.blocks.fits();
@@ -116,6 +120,7 @@ impl<T> LinkedList<T> {
         ensures live { self.new.live ≡ self.old.live }
         ensures order { self.new.order ≡ slot.0 ∷ self.old.order }
         ensures visits { self.new.visits ≤ self.old.visits + 3 }
+        ensures never_fewer { self.old.visits ≤ self.new.visits }
     {
         self.blocks.link(slot.0);
     }
@@ -127,6 +132,7 @@ impl<T> LinkedList<T> {
         ensures live { self.new.live ≡ self.old.live }
         ensures order { self.new.order ≡ without slot.0 self.old.order }
         ensures visits { self.new.visits ≤ self.old.visits + 3 }
+        ensures never_fewer { self.old.visits ≤ self.new.visits }
     {
         self.blocks.is_listed();
         if self.blocks.get(slot.0).is_none() {
@@ -160,6 +166,7 @@ impl<T> LinkedList<T> {
         ensures order { MatchOption result ((self.old.order ≡ []) × (self.new.order ≡ [])) (λ slot. self.old.order ≡ slot.0 ∷ self.new.order) }
         ensures live { self.new.live ≡ self.old.live }
         ensures visits { self.new.visits ≤ self.old.visits + 3 }
+        ensures never_fewer { self.old.visits ≤ self.new.visits }
     {
         self.is_listed();
         let slot = self.first_slot()?;
@@ -172,6 +179,7 @@ impl<T> LinkedList<T> {
         ensures order { MatchOption result ((self.old.order ≡ []) × (self.new.order ≡ [])) (λ slot. self.old.order ≡ self.new.order ++ slot.0 ∷ []) }
         ensures live { self.new.live ≡ self.old.live }
         ensures visits { self.new.visits ≤ self.old.visits + 3 }
+        ensures never_fewer { self.old.visits ≤ self.new.visits }
     {
         self.is_listed();
         let slot = self.last_slot()?;
