@@ -128,8 +128,10 @@ impl<T> Blocks<T> {
             return Err(NoRoom(value));
         }
         let slot = self.slab.vacant_key();
-        let at = self.linked.claim(self.alloc, value, slot)?;
-        Ok(self.slab.insert_reserved(at))
+        match self.linked.claim(self.alloc, value, slot) {
+            Ok(at) => Ok(self.slab.insert_reserved(at)),
+            Err(refused) => Err(refused),
+        }
     }
 
     /// Gives the value of a live slot back that is not linked; the slot is not live afterwards.

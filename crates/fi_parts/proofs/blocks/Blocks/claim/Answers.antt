@@ -21,11 +21,11 @@ sound : (g : Over) (c : goal.After-insert_reserved g) → IsSound c.reserve.new.
 sound g c = sound_slots c.self.inside.slab c.reserve.new.self c.self.inside.linked (slots g c) c.self.invariant
 
 change : (g : Over) (c : goal.After-insert_reserved g)
-    → Change c.reserve.new.self c.insert_reserved.new.self c.self.inside.linked c.claim.new.self c.insert_reserved.result c.in_ok-at.at (Some c.in_ok-at.at)
+    → Change c.reserve.new.self c.insert_reserved.new.self c.self.inside.linked c.claim.new.self c.insert_reserved.result c.in-Ok.at (Some c.in-Ok.at)
 change g c =
     Change-claimed c.reserve.new.self c.insert_reserved.new.self c.self.inside.linked c.claim.new.self
-    c.insert_reserved.result c.in_ok-at.at (loose_block c.args.value c.vacant_key-slot.result) (sound g c)
-    c.insert_reserved.ensures.was_vacant c.insert_reserved.ensures.updates c.in_ok-at.ensures.blocks c.in_ok-at.ensures.fresh
+    c.insert_reserved.result c.in-Ok.at (loose_block c.args.value c.vacant_key-slot.result) (sound g c)
+    c.insert_reserved.ensures.was_vacant c.insert_reserved.ensures.updates c.in-Ok.ensures.blocks c.in-Ok.ensures.fresh
     c.claim.ensures.rest refl (c.vacant_key-slot.ensures.value ∙ sym c.insert_reserved.ensures.key)
 
 item_is : (g : Over) (c : goal.After-insert_reserved g)
@@ -33,32 +33,32 @@ item_is : (g : Over) (c : goal.After-insert_reserved g)
 item_is g c =
     let b = loose_block c.args.value c.vacant_key-slot.result in
     ap (item_by (data_of c.claim.new.self)) c.insert_reserved.ensures.updates.changed
-    ∙ ap (λ bs. item_in (data_in (at_ptr bs c.in_ok-at.at.ptr))) c.in_ok-at.ensures.blocks
-    ∙ ap (λ o. item_in (data_in o)) (at-cons_same c.in_ok-at.at.ptr b c.self.inside.linked.blocks.owner.blocks)
+    ∙ ap (λ bs. item_in (data_in (at_ptr bs c.in-Ok.at.ptr))) c.in-Ok.ensures.blocks
+    ∙ ap (λ o. item_in (data_in o)) (at-cons_same c.in-Ok.at.ptr b c.self.inside.linked.blocks.owner.blocks)
 
-pub invariant_of-self-2 : goal.invariant_of-self-2
-invariant_of-self-2 g c = sound_after _ _ _ _ _ _ _ (sound g c) (change g c)
+pub invariant_of-self-in-Ok : goal.invariant_of-self-in-Ok
+invariant_of-self-in-Ok g c = sound_after _ _ _ _ _ _ _ (sound g c) (change g c)
 
-pub returns-clause-was_free : goal.returns-clause-was_free
-returns-clause-was_free g c =
+pub returns-in-Ok-clause-was_free : goal.returns-in-Ok-clause-was_free
+returns-in-Ok-clause-was_free g c =
     let D = data_of c.self.inside.linked in
     rw (← c.self.view_is)
     (get-live_by D c.self.inside.slab c.insert_reserved.result
     ∙ ap (item_by D) (sym (ap (λ z. get z c.insert_reserved.result) c.reserve.ensures.rest_kept) ∙ c.insert_reserved.ensures.was_vacant))
 
-pub returns-clause-live : goal.returns-clause-live
-returns-clause-live g c =
+pub returns-in-Ok-clause-live : goal.returns-in-Ok-clause-live
+returns-in-Ok-clause-live g c =
     ap is_some (get-live_by (data_of c.claim.new.self) c.insert_reserved.new.self c.insert_reserved.result ∙ item_is g c)
 
-pub returns-clause-apart : goal.returns-clause-apart
-returns-clause-apart g c =
+pub returns-in-Ok-clause-apart : goal.returns-in-Ok-clause-apart
+returns-in-Ok-clause-apart g c =
     let s = c.self.inside.linked in
     let ok = sound g c in
     ap (holds c.insert_reserved.result) (order_after _ _ _ _ _ _ _ ok (change g c))
     ∙ holds_none c.reserve.new.self s ok.stored c.insert_reserved.result (chain_of s) c.insert_reserved.ensures.was_vacant (chain_live c.reserve.new.self s ok.stored ok.chained)
 
-pub returns-clause-claimed : goal.returns-clause-claimed
-returns-clause-claimed g c =
+pub returns-in-Ok-clause-claimed : goal.returns-in-Ok-clause-claimed
+returns-in-Ok-clause-claimed g c =
     let s = c.self.inside.linked in
     let D = data_of s in
     let e = slots g c in
