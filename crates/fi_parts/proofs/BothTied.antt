@@ -9,7 +9,7 @@ use Rattle.fi_parts.specs.Tied.{out_of, IsTied}
 use Rattle.fi_parts.specs.Waiter.{same_waiter, ticket_of_waiter}
 use Rattle.fi_parts.specs.declared.two_sides.Waiter.{Waiter}
 use Rattle.fi_parts.specs.declared.two_sides.Waiter.TheVariants.{Send, Receive}
-use Rattle.fi_parts.proofs.Live.{get-insert_same, get-insert_other, get-remove_same, get-remove_other}
+use Rattle.fi_parts.proofs.FiniteMaps.{get-insert_same, get-insert_other, get-remove_same, get-remove_other}
 use Rattle.fi_parts.proofs.Sides.{waiter_test}
 use Rattle.fi_parts.proofs.Tied.{tied_empty, tied_made, tied_freed, out-without, has-out, waker-out}
 

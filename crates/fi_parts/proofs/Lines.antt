@@ -16,7 +16,7 @@ use Rattle.fi_parts.specs.Listed.{Listed, with_live}
 use Rattle.fi_parts.specs.Order.{holds, without}
 use Rattle.fi_parts.specs.Waiting.{phase_in, phase_of, asks_in, asks_of, is_registered, waker_in, made, registered, forgotten, rephased, with_phase, with_asks_in, with_asks}
 use Rattle.fi_parts.specs.LineModel.{LineModel, mapped, future_of, ticket_of, line_of, empty_line}
-use Rattle.fi_parts.proofs.Live.{get-insert_same, get-insert_other, get-remove_same, get-remove_other}
+use Rattle.fi_parts.proofs.FiniteMaps.{get-insert_same, get-insert_other, get-remove_same, get-remove_other}
 use Rattle.fi_parts.proofs.Queues.{reverse_cons, reverse-without, holds-reverse}
 
 -- A map with a function of each value.

@@ -12,7 +12,7 @@ use Rattle.fi_parts.specs.Noticed.{phase_after}
 use Rattle.fi_parts.specs.Waiting.{Side, Waiting, phase_of, phase_in, asks_of, asks_in, is_registered, may_be_named, no_futures, made, forgotten, AreSound}
 use Rattle.fi_parts.proofs.Waiting.{Becomes, noticed_phase, notices, unregistered, asks-with_phase, asks-with_phases}
 use Rattle.fi_parts.proofs.Sound.{sound-empty}
-use Rattle.fi_parts.proofs.Live.{get-insert_same, get-insert_other, get-remove_same, get-remove_other}
+use Rattle.fi_parts.proofs.FiniteMaps.{get-insert_same, get-insert_other, get-remove_same, get-remove_other}
 use Rattle.fi_parts.specs.WakerHistory.{WakerEffect, gives}
 use Rattle.fi_parts.specs.WakerHistory.WakerEffect.{Leaves, NoEffect}
 use Rattle.fi_parts.proofs.PairsWithin.{if_true, if_false}

@@ -11,7 +11,7 @@ use Rattle.fi_parts.specs.declared.phase.Future.{Future}
 use Rattle.fi_parts.specs.Order.{holds, Apart}
 use Rattle.fi_parts.specs.Pairs.{has}
 use Rattle.fi_parts.specs.Waiting.{Side, Waiting, phase_in, phase_of, asks_in, asks_of, is_registered, may_be_named, with_phase, with_asks_in, with_asks, exchange, noticed, pair, pair_of, emptied, named_all, IsLive, IsOrdered, AreSound}
-use Rattle.fi_parts.proofs.Live.{get-insert_same, get-insert_other}
+use Rattle.fi_parts.proofs.FiniteMaps.{get-insert_same, get-insert_other}
 use Rattle.fi_parts.proofs.Slots.{eqb_same}
 use Rattle.fi_parts.proofs.Waiting.{Becomes, becomes-with_phase, live_if_registered, first_registered, ordered-next, no_pair, all_noticed-step, all_noticed-none}
 use Rattle.fi_parts.specs.Oldest.{pop_first, pair_of_first, asks_of_first, complete_first, pop_oldest, pair_of_oldest, complete_oldest}

@@ -12,7 +12,7 @@ use Rattle.fi_parts.specs.declared.phase.Future.{Future}
 use Rattle.fi_parts.specs.Order.{holds, Apart, without}
 use Rattle.fi_parts.specs.Pairs.{has, PairsApart}
 use Rattle.fi_parts.specs.Waiting.{Side, Waiting, phase_in, phase_of, is_registered, is_queued, may_be_named, rephased, with_phase, pair_of, pair, IsOrderedBy, named, with_phases, told_one, front_told}
-use Rattle.fi_parts.proofs.Live.{get-insert_same, get-insert_other}
+use Rattle.fi_parts.proofs.FiniteMaps.{get-insert_same, get-insert_other}
 use Rattle.fi_parts.proofs.Slots.{eqb_same, holds-append, Apart-front, Apart-back, Apart-disjoint, apart_middle, in_neither, without_first}
 use Rattle.fi_parts.proofs.Waiting.{IsPlaceRule, queued_rule, live_if_placed, no_pair, phase-with_phases, phase-held}
 

@@ -2,6 +2,7 @@
 //! futures over both.
 #![tactic(auto)]
 
+mod blocks;
 pub mod buffer;
 mod clocks;
 mod drain;
@@ -13,7 +14,6 @@ mod heap_tests;
 mod heap_trees;
 mod line;
 mod list;
-mod nodes;
 mod outbox;
 mod phase;
 #[cfg(test)]

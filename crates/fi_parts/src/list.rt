@@ -6,20 +6,20 @@ ghost use Rattle.std.specs.FinMap as map;
 ghost use Rattle.fi_parts.specs.Order.{holds, without, youngest, oldest};
 ghost use Rattle.fi_parts.specs.Listed.{Listed, item, IsLive, with_live, IsListed, item_of};
 
+use crate::blocks::Blocks;
 use crate::drain::{Drain, ReverseDrain};
 use crate::errors::{NoRoom, Slot};
-use crate::nodes::Nodes;
 use std::alloc::Global;
 use std::marker::Model;
 
-/// A doubly linked list with its own store of nodes, named by slots.
+/// A doubly linked list with its own store of blocks, named by slots.
 ///
 /// A slot is claimed for a value, may then be put in front and taken out any number of times, and is freed with its
 /// value. Every call takes constant time; only `claim` takes memory. Keeps `LinkedList` of futures-intrusive's
 /// `intrusive_double_linked_list`, whose nodes are pinned by their owners.
 #[derive(Drop)]
 pub struct LinkedList<T> {
-    nodes: Nodes<T>,
+    blocks: Blocks<T>,
 }
 
 impl<T> Model for LinkedList<T> {
@@ -29,7 +29,7 @@ impl<T> Model for LinkedList<T> {
 
     ghost coded = { listed_code T.code };
 
-    ghost view = { λ l. l.nodes };
+    ghost view = { λ l. l.blocks };
 }
 
 impl<T> LinkedList<T> {
@@ -41,36 +41,40 @@ impl<T> LinkedList<T> {
         ensures { result ≡ record { live = map.empty; order = []; visits = 0 } }
     {
         LinkedList {
-            nodes: Nodes::new(alloc),
+            blocks: Blocks::new(alloc),
         }
     }
 
-    /// No slot stands in the list.
+    /// No slot is in the list. The slots in the list are live, none is there twice, and there are fewer than 2^64.
     pub fn is_empty(&self) -> bool
-        ensures { result ≡ (length self.now.order == 0) }
+        ensures empty { result ≡ (length self.now.order == 0) }
+        ensures listed { IsListed self.now }
+        ensures fits { length self.now.order < 2 ^ 64 }
     {
-        self.nodes.first().is_none()
+        self.is_listed();
+        self.fits();
+        self.blocks.first().is_none()
     }
 
-    /// For proofs: the slots in the list are live, and none stands twice.
-    pub fn is_listed(&self)
+    // For proofs: the slots in the list are live, and none is there twice.
+    pub(crate) fn is_listed(&self)
         ensures { IsListed self.now }
     {
-        self.nodes.is_listed();
+        self.blocks.is_listed();
     }
 
-    /// For proofs: the list is shorter than 2^64.
-    pub fn fits(&self)
+    // For proofs: the list is shorter than 2^64.
+    pub(crate) fn fits(&self)
         ensures { length self.now.order < 2 ^ 64 }
     {
-        self.nodes.fits();
+        self.blocks.fits();
     }
 
     /// The value of a live slot; None for a slot that is not live.
     pub fn get(&self, slot: Slot) -> Option<&T>
         ensures { option_copied result ≡ item self.now slot.0 }
     {
-        self.nodes.get(slot.0)
+        self.blocks.get(slot.0)
     }
 
     /// The value of a live slot, for writing; None for a slot that is not live.
@@ -78,7 +82,7 @@ impl<T> LinkedList<T> {
         ensures* writes_back { sem 𝓛 (LendsItemOf T.row self.entry slot.0 result) }
         ensures value { option_copied_mut result ≡ item self.old slot.0 }
     {
-        self.nodes.get_mut(slot.0)
+        self.blocks.get_mut(slot.0)
     }
 
     /// Takes a value in under a slot that was not live, outside the list.
@@ -94,7 +98,7 @@ impl<T> LinkedList<T> {
         ensures refused { OnErr result (self.new ≡ self.old) }
         ensures handed_back { IfErr result (λ failed. failed.0 ≡ value) }
     {
-        Ok(Slot(self.nodes.claim(value)?))
+        Ok(Slot(self.blocks.claim(value)?))
     }
 
     /// Gives the value of a live slot back, which is not in the list; the slot is not live afterwards.
@@ -106,7 +110,7 @@ impl<T> LinkedList<T> {
         ensures value { item self.old slot.0 ≡ Some result }
         ensures freed { self.new ≡ with_live self.old (map.remove self.old.live slot.0) }
     {
-        self.nodes.free(slot.0)
+        self.blocks.free(slot.0)
     }
 
     /// Puts a live slot that is not in the list at the youngest place. Keeps `LinkedList::add_front`.
@@ -116,8 +120,9 @@ impl<T> LinkedList<T> {
         ensures live { self.new.live ≡ self.old.live }
         ensures order { self.new.order ≡ slot.0 ∷ self.old.order }
         ensures visits { self.new.visits ≤ self.old.visits + 3 }
+        ensures never_fewer { self.old.visits ≤ self.new.visits }
     {
-        self.nodes.link(slot.0);
+        self.blocks.link(slot.0);
     }
 
     /// Takes a slot out of the list; it stays live. False where it was not in the list. Keeps `LinkedList::remove`.
@@ -127,19 +132,20 @@ impl<T> LinkedList<T> {
         ensures live { self.new.live ≡ self.old.live }
         ensures order { self.new.order ≡ without slot.0 self.old.order }
         ensures visits { self.new.visits ≤ self.old.visits + 3 }
+        ensures never_fewer { self.old.visits ≤ self.new.visits }
     {
-        self.nodes.is_listed();
-        if self.nodes.get(slot.0).is_none() {
+        self.blocks.is_listed();
+        if self.blocks.get(slot.0).is_none() {
             return false;
         }
-        self.nodes.unlink(slot.0)
+        self.blocks.unlink(slot.0)
     }
 
     /// The youngest slot of the list; None for an empty list.
     pub fn first_slot(&self) -> Option<Slot>
         ensures { MatchOption result (self.now.order ≡ []) (λ slot. ((rest : List ℕ) × (self.now.order ≡ slot.0 ∷ rest))) }
     {
-        match self.nodes.first() {
+        match self.blocks.first() {
             Some(slot) => Some(Slot(slot)),
             None => None,
         }
@@ -149,7 +155,7 @@ impl<T> LinkedList<T> {
     pub fn last_slot(&self) -> Option<Slot>
         ensures { MatchOption result (self.now.order ≡ []) (λ slot. ((rest : List ℕ) × (self.now.order ≡ rest ++ slot.0 ∷ []))) }
     {
-        match self.nodes.last() {
+        match self.blocks.last() {
             Some(slot) => Some(Slot(slot)),
             None => None,
         }
@@ -160,6 +166,7 @@ impl<T> LinkedList<T> {
         ensures order { MatchOption result ((self.old.order ≡ []) × (self.new.order ≡ [])) (λ slot. self.old.order ≡ slot.0 ∷ self.new.order) }
         ensures live { self.new.live ≡ self.old.live }
         ensures visits { self.new.visits ≤ self.old.visits + 3 }
+        ensures never_fewer { self.old.visits ≤ self.new.visits }
     {
         self.is_listed();
         let slot = self.first_slot()?;
@@ -172,6 +179,7 @@ impl<T> LinkedList<T> {
         ensures order { MatchOption result ((self.old.order ≡ []) × (self.new.order ≡ [])) (λ slot. self.old.order ≡ self.new.order ++ slot.0 ∷ []) }
         ensures live { self.new.live ≡ self.old.live }
         ensures visits { self.new.visits ≤ self.old.visits + 3 }
+        ensures never_fewer { self.old.visits ≤ self.new.visits }
     {
         self.is_listed();
         let slot = self.last_slot()?;
@@ -183,8 +191,8 @@ impl<T> LinkedList<T> {
     pub fn peek_first(&self) -> Option<&T>
         ensures { option_copied result ≡ item_of self.now (youngest self.now.order) }
     {
-        match self.nodes.first() {
-            Some(youngest) => self.nodes.get(youngest),
+        match self.blocks.first() {
+            Some(youngest) => self.blocks.get(youngest),
             None => None,
         }
     }
@@ -193,8 +201,8 @@ impl<T> LinkedList<T> {
     pub fn peek_last(&self) -> Option<&T>
         ensures { option_copied result ≡ item_of self.now (oldest self.now.order) }
     {
-        match self.nodes.last() {
-            Some(oldest) => self.nodes.get(oldest),
+        match self.blocks.last() {
+            Some(oldest) => self.blocks.get(oldest),
             None => None,
         }
     }
@@ -204,7 +212,7 @@ impl<T> LinkedList<T> {
         ensures* writes_back { sem 𝓛 (LendsEnd T.row self.entry (youngest self.old.order) result) }
         ensures value { option_copied_mut result ≡ item_of self.old (youngest self.old.order) }
     {
-        match self.nodes.first() {
+        match self.blocks.first() {
             Some(youngest) => self.get_mut(Slot(youngest)),
             None => None,
         }
@@ -215,7 +223,7 @@ impl<T> LinkedList<T> {
         ensures* writes_back { sem 𝓛 (LendsEnd T.row self.entry (oldest self.old.order) result) }
         ensures value { option_copied_mut result ≡ item_of self.old (oldest self.old.order) }
     {
-        match self.nodes.last() {
+        match self.blocks.last() {
             Some(oldest) => self.get_mut(Slot(oldest)),
             None => None,
         }

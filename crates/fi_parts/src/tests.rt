@@ -3,6 +3,7 @@ ghost use Rattle.std.specs.Prelude.{◌≡◌, ◌∷◌, IfOk};
 
 use crate::{ChannelSendError, CloseStatus, Fault, LinkedList, NoRoom, Outbox, Slot, StateId};
 use std::alloc::Global;
+use std::rc::Rc;
 use std::test::Fail;
 
 // Claims a slot for the value, and puts it in front.
@@ -120,6 +121,29 @@ fn list_values(rt: HostRuntime) -> Result<(), Fail> {
     assert_eq!(rt; list.get(slot).copied(), None);
     assert!(rt; list.get_mut(slot).is_none());
     assert!(rt; !list.remove(slot));
+    Ok(())
+}
+
+// Five live slots under one count of owners; the second and the fourth are linked.
+fn five(counted: &Rc<u64>, alloc: Global) -> Result<LinkedList<Rc<u64>>, Fail> {
+    let mut list = LinkedList::new(alloc);
+    for place in 0..5u64 {
+        let slot = list.claim(counted.clone()?).ok().ok_or("room")?;
+        if place % 2 == 1 {
+            list.add_front(slot);
+        }
+    }
+    Ok(list)
+}
+
+#[test]
+fn the_end_of_a_list_drops_each_value_once(rt: HostRuntime) -> Result<(), Fail> {
+    let counted = Rc::new(rt.alloc(), 7u64)?;
+    let list = five(&counted, rt.alloc())?;
+    assert!(rt; !list.is_empty());
+    assert_eq!(rt; Rc::strong_count(&counted), 6);
+    drop(list);
+    assert_eq!(rt; Rc::strong_count(&counted), 1);
     Ok(())
 }
 

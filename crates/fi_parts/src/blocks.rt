@@ -1,0 +1,190 @@
+//! The store of a list: live slots, each with a block of its own, some of which are linked by raw pointers.
+ghost use Rattle.std.specs.Prelude.{◌≡◌, ◌+◌, ◌≤◌, ◌<◌, ◌^◌, length, ◌∷◌, [], Some, None, false, IfOk, IfErr, OnErr, option_copied};
+ghost use Rattle.std.specs.Option.{option_copied_mut};
+ghost use Rattle.std.specs.Borrow.{sem};
+ghost use Rattle.std.specs.FinMap as map;
+ghost use Rattle.fi_parts.specs.Order.{holds, without, youngest, oldest};
+ghost use Rattle.fi_parts.specs.Listed.{item, IsLive, with_live, IsListed};
+
+mod block;
+mod counted;
+mod linked;
+mod owner;
+mod raw_box;
+#[cfg(test)]
+mod tests;
+
+use crate::errors::NoRoom;
+use block::BlockPtr;
+use linked::LinkedBlocks;
+use slab::Slab;
+use std::alloc::Global;
+use std::marker::Model;
+
+/// Live slots with their items, some of them linked to one list. The slab has the pointer to each live slot's block.
+pub struct Blocks<T> {
+    slab: Slab<BlockPtr<T>>,
+    linked: LinkedBlocks<T>,
+    alloc: Global,
+}
+
+impl<T> Model for Blocks<T> {
+    ghost use Rattle.fi_parts.specs.Listed.{Listed, listed_code};
+
+    ghost Value = { Listed T };
+
+    ghost coded = { listed_code T.code };
+
+    ghost use Rattle.fi_parts.specs.Blocks.{view_of, IsSound};
+
+    ghost view = { λ b. view_of b.slab b.linked };
+
+    ghost invariant = { λ b. IsSound b.slab b.linked };
+}
+
+impl<T> Blocks<T> {
+    ghost use Rattle.fi_parts.specs.BlocksLending.{LendsSlot};
+
+    /// No live slot. It takes no memory yet.
+    pub fn new(alloc: Global) -> Self
+        ensures { result ≡ record { live = map.empty; order = []; visits = 0 } }
+    {
+        Blocks {
+            slab: Slab::new(alloc),
+            linked: LinkedBlocks::new(),
+            alloc,
+        }
+    }
+
+    /// The linked slots are live, and none stands twice.
+    pub fn is_listed(&self)
+        ensures { IsListed self.now }
+    {
+        let _ = &self.slab;
+    }
+
+    /// Fewer than 2^64 slots are linked.
+    pub fn fits(&self)
+        ensures { length self.now.order < 2 ^ 64 }
+    {
+        let _capacity = self.slab.capacity();
+    }
+
+    /// The youngest linked slot.
+    pub fn first(&self) -> Option<usize>
+        ensures { result ≡ youngest self.now.order }
+    {
+        match self.linked.first() {
+            Some(at) => Some(self.linked.slot(at)),
+            None => None,
+        }
+    }
+
+    /// The oldest linked slot.
+    pub fn last(&self) -> Option<usize>
+        ensures { result ≡ oldest self.now.order }
+    {
+        match self.linked.last() {
+            Some(at) => Some(self.linked.slot(at)),
+            None => None,
+        }
+    }
+
+    /// The value of a live slot; None for another.
+    pub fn get(&self, slot: usize) -> Option<&T>
+        ensures { option_copied result ≡ item self.now slot }
+    {
+        match self.slab.get(slot) {
+            Some(at) => Some(self.linked.item(*at)),
+            None => None,
+        }
+    }
+
+    /// The same, to be written.
+    pub fn get_mut(&mut self, slot: usize) -> Option<&mut T>
+        ensures* writes_back { sem 𝓛 (LendsSlot T.row self.entry slot result) }
+        ensures value { option_copied_mut result ≡ item self.old slot }
+    {
+        let at = match self.slab.get(slot) {
+            Some(at) => *at,
+            None => return None,
+        };
+        Some(self.linked.item_mut(at))
+    }
+
+    /// Takes a value in under a slot that was not live, and does not link it. Where there is no memory the value comes
+    /// back, and nothing has changed: room in the slab is made first, then the block.
+    pub fn claim(&mut self, value: T) -> Result<usize, NoRoom<T>>
+    where
+        T: Drop,
+        ensures was_free { IfOk result (λ slot. item self.old slot ≡ None) }
+        ensures live { IfOk result (λ slot. IsLive self.new slot) }
+        ensures apart { IfOk result (λ slot. holds slot self.new.order ≡ false) }
+        ensures claimed { IfOk result (λ slot. self.new ≡ with_live self.old (map.insert self.old.live slot value)) }
+        ensures refused { OnErr result (self.new ≡ self.old) }
+        ensures handed_back { IfErr result (λ failed. failed.0 ≡ value) }
+    {
+        if self.slab.reserve(1).is_err() {
+            return Err(NoRoom(value));
+        }
+        let slot = self.slab.vacant_key();
+        match self.linked.claim(self.alloc, value, slot) {
+            Ok(at) => Ok(self.slab.insert_reserved(at)),
+            Err(refused) => Err(refused),
+        }
+    }
+
+    /// Gives the value of a live slot back that is not linked; the slot is not live afterwards.
+    pub fn free(&mut self, slot: usize) -> T
+    where
+        T: Drop,
+        requires live { IsLive self.old slot }
+        requires apart { holds slot self.old.order ≡ false }
+        ensures value { item self.old slot ≡ Some result }
+        ensures freed { self.new ≡ with_live self.old (map.remove self.old.live slot) }
+    {
+        let at = self.slab.remove(slot);
+        self.linked.free(self.alloc, at)
+    }
+
+    /// Links a slot at the youngest place.
+    pub fn link(&mut self, slot: usize)
+        requires live { IsLive self.old slot }
+        requires apart { holds slot self.old.order ≡ false }
+        ensures live { self.new.live ≡ self.old.live }
+        ensures order { self.new.order ≡ slot ∷ self.old.order }
+        ensures visits { self.new.visits ≤ self.old.visits + 3 }
+        ensures never_fewer { self.old.visits ≤ self.new.visits }
+    {
+        let at = self.slab[slot];
+        self.linked.link(at);
+    }
+
+    /// Takes a slot out of the list; false where it is not linked.
+    pub fn unlink(&mut self, slot: usize) -> bool
+        requires { IsLive self.old slot }
+        ensures found { result ≡ holds slot self.old.order }
+        ensures live { self.new.live ≡ self.old.live }
+        ensures order { self.new.order ≡ without slot self.old.order }
+        ensures visits { self.new.visits ≤ self.old.visits + 3 }
+        ensures never_fewer { self.old.visits ≤ self.new.visits }
+    {
+        let at = self.slab[slot];
+        self.linked.unlink(at)
+    }
+}
+
+// Each live block is freed once, linked or not: `linked` is not `Drop`, and ends only where no block is left.
+impl<T: Drop> Drop for Blocks<T> {
+    fn drop(self) {
+        let Blocks {
+            slab,
+            mut linked,
+            alloc,
+        } = self;
+        for (_slot, at) in slab {
+            drop(linked.free(alloc, at));
+        }
+        linked.end();
+    }
+}
