@@ -7,13 +7,13 @@ use Rattle.fi_parts.specs.declared.phase.Phase.TheVariants.{Fresh, Registered, T
 use Rattle.fi_parts.specs.declared.phase.Notice.{Notice}
 use Rattle.fi_parts.specs.Noticed.{phase_after}
 use Rattle.fi_parts.specs.Waiting.{Side, Waiting, phase_of, is_registered, may_be_named, noticed, IsOrdered, AreSound}
-use Rattle.fi_parts.proofs.Waiting.{ordered_by, Becomes, becomes-made, becomes-with_phase, becomes-forgotten, phase-emptied, noticed_phase, lives_as, notices, live_if_registered, unregistered, first_registered, ordered-next}
-use Rattle.fi_parts.proofs.Sound.{sound-made, sound-ended, sound-registered, sound-stays, sound-forgotten, sound-drop, sound-emptied}
+use Rattle.fi_parts.proofs.Waiting.{ordered_by, Becomes, becomes-made, becomes-with_phase, becomes-forgotten, phase-emptied, noticed_phase, lives_as, notices, live_if_registered, unregistered, first_registered, ordered-next, registered_rule}
+use Rattle.fi_parts.proofs.Sound.{sound-made, sound-ended, sound-registered, sound-stays, sound-forgotten, sound-drop, sound-emptied, sound_by-without_place}
 use Rattle.fi_parts.specs.Order.{without}
 use Rattle.fi_parts.specs.Pairs.{without_pair}
 use Rattle.fi_parts.proofs.Queues.{holds-without_same, holds-without_other, Apart-without_one, has-without_same}
 use Rattle.fi_parts.proofs.Pairs.{has-without, PairsApart-without}
-use Rattle.fi_parts.specs.Effects.{WaiterEffect, TakesEffect, left, oldest_notified}
+use Rattle.fi_parts.specs.Effects.{WaiterEffect, TakesEffect, oldest_notified}
 use Rattle.fi_parts.specs.Effects.WaiterEffect.{NoChange, Inserts, Registers, KeepsWaiting, Ends, EndsRegistered, Removes, NotifiesOldest, NotifiesAll, PopsOldest, AndThen}
 use Rattle.fi_parts.specs.Machine.{AllowsBasics, AllowsEffect}
 
@@ -67,12 +67,6 @@ module _ {D W : Type 0} where
   oldest_ordered notice [] old was queue = was
   oldest_ordered notice (n ∷ others) old was queue = ordered-next (phase_after notice) old n others (notices W notice) was queue
 
-  left_ordered : (side : Side D W) (out : List (ℕ × W)) (name : ℕ) → IsOrdered side out → is_registered (phase_of side name) ≡ true → IsOrdered (left side name) (without_pair name out)
-  left_ordered side out name was is =
-      let b = becomes-with_phase side name Ended (without name side.queue) (live_if_registered side name is) in
-      ordered_by side (left side name) out (without_pair name out) name was b.others (λ q ne. holds-without_other q name side.queue ne) (λ q ne at. has-without name q out at)
-      (holds-without_same name side.queue ∙ sym (ap is_registered b.here)) (Apart-without_one name side.queue was.once) (λ at. absurd (both_ways _ (has-without_same name out) at)) (PairsApart-without name out was.named_once)
-
   module _ (known : Option (Phase W) → Bool) (knows : AllowsBasics known) where
     abbrev IsSound : Waiting D W → Type 0
     IsSound w = AreSound known w.side w.out
@@ -86,15 +80,7 @@ module _ {D W : Type 0} where
       only = λ q. elim (oldest_after notice old.side.queue old new was.ordered refl effect q) [ inl same ↦ ap known same ∙ was.only q | inr now ↦ ap known now ∙ is ];
     }
 
-    left_sound : (old : Waiting D W) (name : ℕ) → IsSound old → is_registered (phase_of old.side name) ≡ true → IsSound (record { side = left old.side name; out = without_pair name old.out })
-    left_sound old name was is =
-        let b = becomes-with_phase old.side name Ended (without name old.side.queue) (live_if_registered old.side name is) in
-        record {
-          ordered = left_ordered old.side old.out name was.ordered is;
-          only = λ q. elim (cases_eq q name) [ inl same ↦ ap known (ap (phase_of (left old.side name)) same ∙ b.here) ∙ knows.ended | inr ne ↦ ap known (b.others q ne) ∙ was.only q ];
-        }
-
-    -- A effect keeps the queue and out in order.
+    -- An effect keeps the queue and out in order.
     pub effect_sound : (effect : WaiterEffect D W) (old new : Waiting D W) → AllowsEffect known effect → IsSound old → TakesEffect effect old new → IsSound new
     effect_sound NoChange old new is was taken = by new old taken was
     effect_sound (Inserts name asks) old new is was taken = by new _ taken.1 (sound-made known old.side old.out name asks knows.fresh was taken.0)
@@ -107,7 +93,9 @@ module _ {D W : Type 0} where
     effect_sound (Ends name) old new is was taken =
         let p = some_phase (phase_of old.side name) taken.0 in
         by new _ taken.1 (sound-ended known old.side old.out name p.0 knows.ended was p.1 (sym (ap is_registered p.1) ∙ unregistered (phase_of old.side name) taken.0))
-    effect_sound (EndsRegistered name) old new is was taken = by new _ taken.1 (left_sound old name was taken.0)
+    effect_sound (EndsRegistered name) old new is was taken =
+        let p = registered_as (phase_of old.side name) taken.0 in
+        by new _ taken.1 (sound_by-without_place is_registered registered_rule known old.side old.out name (Registered p.0) knows.ended was p.1)
     effect_sound (Removes name) old new is was taken = by new _ taken.1 (sound-forgotten known old.side old.out name knows.gone was)
     effect_sound (NotifiesOldest notice) old new is was taken = oldest_sound notice old new is was taken
     effect_sound (NotifiesAll notice) old new is was taken = by new _ taken (sound-emptied known (phase_after notice) old.side old.out is (notices W notice) was)

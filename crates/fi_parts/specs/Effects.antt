@@ -4,9 +4,8 @@ use Rattle.fi_parts.specs.declared.phase.Phase.{Phase}
 use Rattle.fi_parts.specs.declared.phase.Phase.TheVariants.{Ended}
 use Rattle.fi_parts.specs.declared.phase.Notice.{Notice}
 use Rattle.fi_parts.specs.Noticed.{phase_after}
-use Rattle.fi_parts.specs.Order.{without}
 use Rattle.fi_parts.specs.Pairs.{without_pair, oldest}
-use Rattle.fi_parts.specs.Waiting.{Side, Waiting, phase_of, with_phase, is_registered, may_be_named, IsLive, no_futures, made, registered, stays, ended, forgotten, noticed, pair, all_noticed}
+use Rattle.fi_parts.specs.Waiting.{Side, Waiting, phase_of, is_registered, may_be_named, IsLive, no_futures, made, registered, stays, ended, forgotten, noticed, pair, all_noticed, without_place}
 
 -- Names are slots, D is what a future asks for, W a waker.
 pub data WaiterEffect (D W : Type 0) : Type 0 where
@@ -39,10 +38,6 @@ module _ {D W : Type 0} where
   oldest_notified phase [] waiting = waiting
   oldest_notified phase (name ∷ others) waiting = record { side = noticed phase waiting.side name others; out = waiting.out ++ pair waiting.side name }
 
-  -- it has ended, and left the queue
-  abbrev pub left : Side D W → ℕ → Side D W
-  left side name = record { live = with_phase side.live name Ended; queue = without name side.queue }
-
   -- The effect made these of those. A poll or a cancel takes out the future's pair first.
   abbrev pub TakesEffect : WaiterEffect D W → Waiting D W → Waiting D W → Type 0
   TakesEffect NoChange old new = new ≡ old
@@ -50,7 +45,7 @@ module _ {D W : Type 0} where
   TakesEffect (Registers name waker) old new = (may_be_named (phase_of old.side name) ≡ true) × (new ≡ record { side = registered old.side name waker; out = without_pair name old.out })
   TakesEffect (KeepsWaiting name waker) old new = (is_registered (phase_of old.side name) ≡ true) × (new ≡ record { side = stays old.side name waker; out = without_pair name old.out })
   TakesEffect (Ends name) old new = (may_be_named (phase_of old.side name) ≡ true) × (new ≡ record { side = ended old.side name; out = without_pair name old.out })
-  TakesEffect (EndsRegistered name) old new = (is_registered (phase_of old.side name) ≡ true) × (new ≡ record { side = left old.side name; out = without_pair name old.out })
+  TakesEffect (EndsRegistered name) old new = (is_registered (phase_of old.side name) ≡ true) × (new ≡ record { side = without_place Ended old.side name; out = without_pair name old.out })
   TakesEffect (Removes name) old new = IsLive old.side name × (new ≡ record { side = forgotten old.side name; out = without_pair name old.out })
   TakesEffect (NotifiesOldest notice) old new = new ≡ oldest_notified (phase_after notice) old.side.queue old
   TakesEffect (NotifiesAll notice) old new = new ≡ all_noticed (phase_after notice) old
