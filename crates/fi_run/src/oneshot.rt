@@ -19,7 +19,7 @@ use std::alloc::Global;
 pub enum OneshotCall<T, W> {
     /// Makes a receive. Answers `Made`.
     Receive,
-    /// Polls a receive. Answers `Pending`, `Item`, `Nothing`.
+    /// Polls a receive. Answers `Pending`, `Item`, `Nothing`; of a broadcast also `Refused(NoMemory)`.
     Poll(Slot, W),
     /// Cancels a receive. Answers `Done`.
     Cancel(Slot),
