@@ -1,6 +1,6 @@
 -- What becomes of a side whose oldest future is named, and of one whose future asks for something else.
 use Rattle.std.proofs.Common.{◌≡◌, ◌≢◌, ℕ, Bool, true, false, List, [], ◌∷◌, ◌++◌, Option, Some, None, map, refl, sym, ap, subst, append_assoc, ◌∙◌, inl, inr}
-use Rattle.std.proofs.lemmas.Bool.{cases_eq, both_ways, or_left}
+use Rattle.std.proofs.lemmas.Bool.{cases_eq, both_ways}
 use Rattle.std.proofs.lemmas.List.{append-nil, map-append}
 use Rattle.std.specs.Option.{IsSome}
 use Rattle.std.specs.Ordering.{nat_cmp}
@@ -8,13 +8,10 @@ use Rattle.std.specs.FinMap as finmap
 use Rattle.fi_parts.specs.declared.phase.Phase.{Phase}
 use Rattle.fi_parts.specs.declared.phase.Phase.TheVariants.{Complete}
 use Rattle.fi_parts.specs.declared.phase.Future.{Future}
-use Rattle.fi_parts.specs.Order.{holds, Apart}
-use Rattle.fi_parts.specs.Pairs.{has}
-use Rattle.fi_parts.specs.Waiting.{Side, Waiting, phase_in, phase_of, asks_in, asks_of, is_registered, may_be_named, with_phase, with_asks_in, with_asks, exchange, noticed, pair, pair_of, emptied, named_all, IsLive, IsOrdered, AreSound}
+use Rattle.fi_parts.specs.Waiting.{Side, Waiting, phase_in, asks_in, is_registered, may_be_named, with_asks_in, with_asks, exchange, noticed, pair, pair_of, emptied, named_all, IsOrdered, AreSound}
 use Rattle.fi_parts.proofs.Live.{get-insert_same, get-insert_other}
-use Rattle.fi_parts.proofs.Slots.{eqb_same}
-use Rattle.fi_parts.proofs.Waiting.{Becomes, becomes-with_phase, live_if_registered, first_registered, ordered-next, no_pair, all_noticed-step, all_noticed-none}
-use Rattle.fi_parts.specs.Oldest.{pop_first, pair_of_first, asks_of_first, complete_first, pop_oldest, pair_of_oldest, complete_oldest}
+use Rattle.fi_parts.proofs.Waiting.{becomes-with_phase, live_if_registered, first_registered, ordered-next, all_noticed-step, all_noticed-none}
+use Rattle.fi_parts.specs.Oldest.{pop_first, pair_of_first, complete_first, pop_oldest, pair_of_oldest, complete_oldest}
 
 module _ {D W : Type 0} where
   -- only what this name asks for has changed

@@ -1,5 +1,5 @@
 -- The receives of both sides: what becomes of them when they are named, one after another.
-use Rattle.std.proofs.Common.{◌≡◌, ℕ, true, false, List, [], ◌∷◌, ◌++◌, Option, Some, sym, ap, subst, ◌∙◌}
+use Rattle.std.proofs.Common.{◌≡◌, ℕ, true, false, List, [], ◌∷◌, ◌++◌, Some, sym, ap, subst, ◌∙◌}
 use Rattle.fi_parts.specs.NamedPairs.{has_by}
 use Rattle.fi_parts.specs.Oldest.{pop_first, pop_oldest, pair_of_first, pair_of_oldest}
 use Rattle.fi_parts.specs.TwoSidesModel.{TwoSidesModel, notify_receives}

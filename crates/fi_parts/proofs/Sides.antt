@@ -1,6 +1,6 @@
 -- The pairs of one side among those of both.
-use Rattle.std.proofs.Common.{◌≡◌, ◌≢◌, ℕ, Bool, true, false, not, eqb, ◌||◌, List, [], ◌∷◌, ◌++◌, Option, Some, None, cond, drop, refl, sym, ap, ◌∙◌, inl, inr}
-use Rattle.std.proofs.lemmas.Bool.{eqb-true, eq-eqb, or_from}
+use Rattle.std.proofs.Common.{◌≡◌, ℕ, Bool, true, false, not, eqb, ◌||◌, List, [], ◌∷◌, ◌++◌, Some, cond, refl, ap}
+use Rattle.std.proofs.lemmas.Bool.{eqb-true, eq-eqb}
 use Rattle.fi_parts.specs.Pairs.{has, waker_of, without_pair}
 use Rattle.fi_parts.specs.declared.two_sides.Waiter.{Waiter}
 use Rattle.fi_parts.specs.declared.two_sides.Waiter.TheVariants.{Send, Receive}

@@ -13,7 +13,7 @@ use Rattle.fi_parts.specs.declared.phase.Notice.TheVariants.{Tell, Renew}
 use Rattle.fi_parts.specs.Noticed.{phase_after}
 use Rattle.fi_parts.specs.Order.{holds, Apart}
 use Rattle.fi_parts.specs.Pairs.{has, without_pair, PairsApart}
-use Rattle.fi_parts.specs.Waiting.{Side, Waiting, phase_in, phase_of, asks_in, is_registered, is_queued, may_be_named, rephased, with_phase, no_futures, made, registered, stays, ended, forgotten, noticed, pair_of, pair, IsOrdered, IsLive, named, with_phases, emptied, all_noticed, IsOrderedBy, without_place}
+use Rattle.fi_parts.specs.Waiting.{Side, Waiting, phase_in, phase_of, asks_in, is_registered, is_queued, may_be_named, rephased, with_phase, no_futures, made, registered, stays, forgotten, noticed, pair_of, pair, IsOrdered, IsLive, named, with_phases, emptied, all_noticed, IsOrderedBy, without_place}
 use Rattle.fi_parts.proofs.Live.{get-insert_same, get-insert_other, get-remove_same, get-remove_other}
 use Rattle.fi_parts.proofs.Queues.{holds-push, Apart-push, holds-without_same, holds-without_other, Apart-without_one, has_pushed, has-without_same, has-drop, PairsApart-drop}
 use Rattle.fi_parts.proofs.Pairs.{has-without, PairsApart-without, PairsApart-push}
