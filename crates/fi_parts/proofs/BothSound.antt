@@ -16,18 +16,21 @@ use Rattle.fi_parts.proofs.Sound.{sound-empty, sound-made, sound-without_pair, s
 
 module _ {D W : Type 0} (allowed : Option (Phase W) → Bool) (side : Side D W) where
   -- one waker was handed out, of this side or of the other
-  sound-sends_drop : (out : List (Waiter × W)) → AreSound allowed side (sends_in out) → AreSound allowed side (sends_in (drop 1 out))
+  sound-sends_drop : (out : List (Waiter × W)) → AreSound allowed side (sends_in out) →
+      AreSound allowed side (sends_in (drop 1 out))
   sound-sends_drop [] was = was
   sound-sends_drop ((Send n, w) ∷ ps) was = sound-drop allowed side ((n, w) ∷ sends_in ps) was
   sound-sends_drop ((Receive n, w) ∷ ps) was = was
 
-  sound-receives_drop : (out : List (Waiter × W)) → AreSound allowed side (receives_in out) → AreSound allowed side (receives_in (drop 1 out))
+  sound-receives_drop : (out : List (Waiter × W)) → AreSound allowed side (receives_in out) →
+      AreSound allowed side (receives_in (drop 1 out))
   sound-receives_drop [] was = was
   sound-receives_drop ((Send n, w) ∷ ps) was = was
   sound-receives_drop ((Receive n, w) ∷ ps) was = sound-drop allowed side ((n, w) ∷ receives_in ps) was
 
 module _ {D E W : Type 0} (sending receiving : Option (Phase W) → Bool) where
-  pub both_sound-new : sending None ≡ true → receiving None ≡ true → AreBothSound sending receiving (no_waiters {D = D} {E = E})
+  pub both_sound-new : sending None ≡ true → receiving None ≡ true →
+      AreBothSound sending receiving (no_waiters {D = D} {E = E})
   both_sound-new s r = record { sends = sound-empty sending s; receives = sound-empty receiving r }
 
   pub both_sound-next_wake : (both : TwoSidesModel D E W) → AreBothSound sending receiving both →
@@ -66,15 +69,19 @@ module _ {D E W : Type 0} (sending receiving : Option (Phase W) → Bool) where
       (sends-without n both.out) (receives-without_send n both.out)
       (sound-without_pair sending both.sends (sends_in both.out) n was.sends)
 
-  pub both_sound-remove_send : (both : TwoSidesModel D E W) (n : ℕ) → sending None ≡ true → AreBothSound sending receiving both →
-      AreBothSound sending receiving (record both { sends = forgotten both.sends n; out = without_by same_waiter (Send n) both.out })
+  pub both_sound-remove_send : (both : TwoSidesModel D E W) (n : ℕ) → sending None ≡ true →
+      AreBothSound sending receiving both →
+      AreBothSound sending receiving
+      (record both { sends = forgotten both.sends n; out = without_by same_waiter (Send n) both.out })
   both_sound-remove_send both n is was =
-      sends_changed both (forgotten both.sends n) (without_by same_waiter (Send n) both.out) (without_pair n (sends_in both.out)) was
+      sends_changed both (forgotten both.sends n) (without_by same_waiter (Send n) both.out)
+      (without_pair n (sends_in both.out)) was
       (sends-without n both.out) (receives-without_send n both.out)
       (sound-forgotten sending both.sends (sends_in both.out) n is was.sends)
 
   -- a poll that set the phase of a send that was not registered, to one that is not
-  pub both_sound-set_send_phase : (both : TwoSidesModel D E W) (n : ℕ) (phase before : Phase W) → is_registered (Some phase) ≡ false →
+  pub both_sound-set_send_phase : (both : TwoSidesModel D E W) (n : ℕ) (phase before : Phase W) →
+      is_registered (Some phase) ≡ false →
       may_be_named (Some phase) ≡ true → sending (Some phase) ≡ true → AreBothSound sending receiving both →
       phase_of both.sends n ≡ Some before → is_registered (Some before) ≡ false →
       AreBothSound sending receiving (record both {
@@ -82,32 +89,37 @@ module _ {D E W : Type 0} (sending receiving : Option (Phase W) → Bool) where
         out = without_by same_waiter (Send n) both.out;
       })
   both_sound-set_send_phase both n phase before off may is was stood apart =
-      sends_changed both (record both.sends { live = with_phase both.sends.live n phase }) (without_by same_waiter (Send n) both.out)
+      sends_changed both (record both.sends { live = with_phase both.sends.live n phase })
+      (without_by same_waiter (Send n) both.out)
       (without_pair n (sends_in both.out)) was (sends-without n both.out) (receives-without_send n both.out)
       (sound-set_phase sending phase both.sends (sends_in both.out) n before off may is was.sends stood apart)
 
   -- a poll that registered a send
   pub both_sound-register_send : (both : TwoSidesModel D E W) (n : ℕ) (waker : W) (before : Phase W) →
-      sending (Some (Registered waker)) ≡ true → AreBothSound sending receiving both → phase_of both.sends n ≡ Some before →
+      sending (Some (Registered waker)) ≡ true → AreBothSound sending receiving both → phase_of both.sends n ≡ Some
+      before →
       is_registered (Some before) ≡ false →
       AreBothSound sending receiving (record both {
         sends = registered both.sends n waker;
         out = without_by same_waiter (Send n) both.out;
       })
   both_sound-register_send both n waker before is was stood apart =
-      sends_changed both (registered both.sends n waker) (without_by same_waiter (Send n) both.out) (without_pair n (sends_in both.out)) was
+      sends_changed both (registered both.sends n waker) (without_by same_waiter (Send n) both.out)
+      (without_pair n (sends_in both.out)) was
       (sends-without n both.out) (receives-without_send n both.out)
       (sound-registered sending both.sends (sends_in both.out) n waker before is was.sends stood apart)
 
   -- a poll that left a send registered
-  pub both_sound-stay_send : (both : TwoSidesModel D E W) (n : ℕ) (waker before : W) → sending (Some (Registered waker)) ≡ true →
+  pub both_sound-stay_send : (both : TwoSidesModel D E W) (n : ℕ) (waker before : W) →
+      sending (Some (Registered waker)) ≡ true →
       AreBothSound sending receiving both → phase_of both.sends n ≡ Some (Registered before) →
       AreBothSound sending receiving (record both {
         sends = stays both.sends n waker;
         out = without_by same_waiter (Send n) both.out;
       })
   both_sound-stay_send both n waker before is was stood =
-      sends_changed both (stays both.sends n waker) (without_by same_waiter (Send n) both.out) (without_pair n (sends_in both.out)) was
+      sends_changed both (stays both.sends n waker) (without_by same_waiter (Send n) both.out)
+      (without_pair n (sends_in both.out)) was
       (sends-without n both.out) (receives-without_send n both.out)
       (sound-stays sending both.sends (sends_in both.out) n waker before is was.sends stood)
 
@@ -148,9 +160,11 @@ module _ {D E W : Type 0} (sending receiving : Option (Phase W) → Bool) where
       (sound-complete_oldest sending left both.sends (sends_in both.out) is was.sends)
 
   -- Receives.
-  receives_changed : (both : TwoSidesModel D E W) (receives : Side E W) (out : List (Waiter × W)) (pairs : List (ℕ × W)) →
+  receives_changed : (both : TwoSidesModel D E W) (receives : Side E W) (out : List (Waiter × W))
+      (pairs : List (ℕ × W)) →
       AreBothSound sending receiving both → receives_in out ≡ pairs → sends_in out ≡ sends_in both.out →
-      AreSound receiving receives pairs → AreBothSound sending receiving (record both { receives = receives; out = out })
+      AreSound receiving receives pairs → AreBothSound sending receiving
+      (record both { receives = receives; out = out })
   receives_changed both receives out pairs was own other now = record {
     sends = subst (λ (ps : List (ℕ × W)). AreSound sending both.sends ps) (sym other) was.sends;
     receives = subst (λ (ps : List (ℕ × W)). AreSound receiving receives ps) (sym own) now;
@@ -163,7 +177,8 @@ module _ {D E W : Type 0} (sending receiving : Option (Phase W) → Bool) where
       receives_changed both (made both.receives n asks) both.out (receives_in both.out) was refl refl
       (sound-made receiving both.receives (receives_in both.out) n asks is was.receives free)
 
-  pub both_sound-exchange_receive : (both : TwoSidesModel D E W) (n : ℕ) (asks : E) → AreBothSound sending receiving both →
+  pub both_sound-exchange_receive : (both : TwoSidesModel D E W) (n : ℕ) (asks : E) →
+      AreBothSound sending receiving both →
       AreBothSound sending receiving (record both { receives = exchange both.receives n asks })
   both_sound-exchange_receive both n asks was =
       receives_changed both (exchange both.receives n asks) both.out (receives_in both.out) was refl refl
@@ -172,19 +187,24 @@ module _ {D E W : Type 0} (sending receiving : Option (Phase W) → Bool) where
   pub both_sound-take_out_receive : (both : TwoSidesModel D E W) (n : ℕ) → AreBothSound sending receiving both →
       AreBothSound sending receiving (record both { out = without_by same_waiter (Receive n) both.out })
   both_sound-take_out_receive both n was =
-      receives_changed both both.receives (without_by same_waiter (Receive n) both.out) (without_pair n (receives_in both.out)) was
+      receives_changed both both.receives (without_by same_waiter (Receive n) both.out)
+      (without_pair n (receives_in both.out)) was
       (receives-without n both.out) (sends-without_receive n both.out)
       (sound-without_pair receiving both.receives (receives_in both.out) n was.receives)
 
-  pub both_sound-remove_receive : (both : TwoSidesModel D E W) (n : ℕ) → receiving None ≡ true → AreBothSound sending receiving both →
-      AreBothSound sending receiving (record both { receives = forgotten both.receives n; out = without_by same_waiter (Receive n) both.out })
+  pub both_sound-remove_receive : (both : TwoSidesModel D E W) (n : ℕ) → receiving None ≡ true →
+      AreBothSound sending receiving both →
+      AreBothSound sending receiving
+      (record both { receives = forgotten both.receives n; out = without_by same_waiter (Receive n) both.out })
   both_sound-remove_receive both n is was =
-      receives_changed both (forgotten both.receives n) (without_by same_waiter (Receive n) both.out) (without_pair n (receives_in both.out)) was
+      receives_changed both (forgotten both.receives n) (without_by same_waiter (Receive n) both.out)
+      (without_pair n (receives_in both.out)) was
       (receives-without n both.out) (sends-without_receive n both.out)
       (sound-forgotten receiving both.receives (receives_in both.out) n is was.receives)
 
   -- a poll that set the phase of a receive that was not registered, to one that is not
-  pub both_sound-set_receive_phase : (both : TwoSidesModel D E W) (n : ℕ) (phase before : Phase W) → is_registered (Some phase) ≡ false →
+  pub both_sound-set_receive_phase : (both : TwoSidesModel D E W) (n : ℕ) (phase before : Phase W) →
+      is_registered (Some phase) ≡ false →
       may_be_named (Some phase) ≡ true → receiving (Some phase) ≡ true → AreBothSound sending receiving both →
       phase_of both.receives n ≡ Some before → is_registered (Some before) ≡ false →
       AreBothSound sending receiving (record both {
@@ -192,32 +212,38 @@ module _ {D E W : Type 0} (sending receiving : Option (Phase W) → Bool) where
         out = without_by same_waiter (Receive n) both.out;
       })
   both_sound-set_receive_phase both n phase before off may is was stood apart =
-      receives_changed both (record both.receives { live = with_phase both.receives.live n phase }) (without_by same_waiter (Receive n) both.out)
+      receives_changed both (record both.receives { live = with_phase both.receives.live n phase })
+      (without_by same_waiter (Receive n) both.out)
       (without_pair n (receives_in both.out)) was (receives-without n both.out) (sends-without_receive n both.out)
-      (sound-set_phase receiving phase both.receives (receives_in both.out) n before off may is was.receives stood apart)
+      (sound-set_phase receiving phase both.receives
+      (receives_in both.out) n before off may is was.receives stood apart)
 
   -- a poll that registered a receive
   pub both_sound-register_receive : (both : TwoSidesModel D E W) (n : ℕ) (waker : W) (before : Phase W) →
-      receiving (Some (Registered waker)) ≡ true → AreBothSound sending receiving both → phase_of both.receives n ≡ Some before →
+      receiving (Some (Registered waker)) ≡ true → AreBothSound sending receiving both → phase_of both.receives n ≡ Some
+      before →
       is_registered (Some before) ≡ false →
       AreBothSound sending receiving (record both {
         receives = registered both.receives n waker;
         out = without_by same_waiter (Receive n) both.out;
       })
   both_sound-register_receive both n waker before is was stood apart =
-      receives_changed both (registered both.receives n waker) (without_by same_waiter (Receive n) both.out) (without_pair n (receives_in both.out)) was
+      receives_changed both (registered both.receives n waker) (without_by same_waiter (Receive n) both.out)
+      (without_pair n (receives_in both.out)) was
       (receives-without n both.out) (sends-without_receive n both.out)
       (sound-registered receiving both.receives (receives_in both.out) n waker before is was.receives stood apart)
 
   -- a poll that left a receive registered
-  pub both_sound-stay_receive : (both : TwoSidesModel D E W) (n : ℕ) (waker before : W) → receiving (Some (Registered waker)) ≡ true →
+  pub both_sound-stay_receive : (both : TwoSidesModel D E W) (n : ℕ) (waker before : W) →
+      receiving (Some (Registered waker)) ≡ true →
       AreBothSound sending receiving both → phase_of both.receives n ≡ Some (Registered before) →
       AreBothSound sending receiving (record both {
         receives = stays both.receives n waker;
         out = without_by same_waiter (Receive n) both.out;
       })
   both_sound-stay_receive both n waker before is was stood =
-      receives_changed both (stays both.receives n waker) (without_by same_waiter (Receive n) both.out) (without_pair n (receives_in both.out)) was
+      receives_changed both (stays both.receives n waker) (without_by same_waiter (Receive n) both.out)
+      (without_pair n (receives_in both.out)) was
       (receives-without n both.out) (sends-without_receive n both.out)
       (sound-stays receiving both.receives (receives_in both.out) n waker before is was.receives stood)
 
@@ -230,7 +256,8 @@ module _ {D E W : Type 0} (sending receiving : Option (Phase W) → Bool) where
       })
   both_sound-pop_oldest_receive both phase is may was =
       let named = pair_of_oldest both.receives in
-      receives_changed both (pop_oldest phase both.receives) (both.out ++ of_receives named) (receives_in both.out ++ named) was
+      receives_changed both (pop_oldest phase both.receives) (both.out ++ of_receives named)
+      (receives_in both.out ++ named) was
       (receives-and_receives both.out named) (sends-and_receives both.out named)
       (sound-pop_oldest receiving phase both.receives (receives_in both.out) is may was.receives)
 
@@ -240,6 +267,7 @@ module _ {D E W : Type 0} (sending receiving : Option (Phase W) → Bool) where
       AreBothSound sending receiving (notify_receives phase both)
   both_sound-notify_receives both phase is may was =
       let named = named_all both.receives in
-      receives_changed both (emptied phase both.receives) (both.out ++ of_receives named) (receives_in both.out ++ named) was
+      receives_changed both (emptied phase both.receives) (both.out ++ of_receives named)
+      (receives_in both.out ++ named) was
       (receives-and_receives both.out named) (sends-and_receives both.out named)
       (sound-emptied receiving phase both.receives (receives_in both.out) is may was.receives)

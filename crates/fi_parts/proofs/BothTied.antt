@@ -1,5 +1,5 @@
 -- Two lines of futures and their outbox go together after each change. The names are those of both sides.
-use Rattle.std.proofs.Common.{◌≡◌, ◌≢◌, ℕ, false, List, [], Option, Some, None, refl, ap}
+use Rattle.std.proofs.Common.{◌≡◌, ◌≢◌, ℕ, false, [], Some, None, refl, ap}
 use Rattle.std.specs.Ordering.{nat_cmp}
 use Rattle.std.specs.FinMap as finmap
 use Rattle.std.specs.FinSet as set
@@ -54,7 +54,8 @@ module _ (s r : Tickets) where
     pub receive-inserted : (n t : ℕ) → finmap.get r n ≡ None → set.contains box.tickets t ≡ false →
         IsTied (ticket_of_waiter s (finmap.insert r n t)) (set.insert box.tickets t) box.pairs
     receive-inserted n t free unused =
-        tied_made same_waiter waiter_test (ticket_of_waiter s r) (ticket_of_waiter s (finmap.insert r n t)) (Receive n) t
+        tied_made same_waiter waiter_test (ticket_of_waiter s r) (ticket_of_waiter s (finmap.insert r n t)) (Receive n)
+        t
         box.tickets box.pairs was free unused (get-insert_same r n t) (others_of_insert_receive n t)
 
     pub send-removed : (n t : ℕ) → finmap.get s n ≡ Some t → has t box.pairs ≡ false →

@@ -9,7 +9,6 @@ use Rattle.std.specs.FinMap as finmap
 use Rattle.fi_parts.specs.declared.errors.Slot.{Slot}
 use Rattle.fi_parts.specs.declared.phase.Phase.{Phase}
 use Rattle.fi_parts.specs.declared.phase.Phase.TheVariants.{Fresh, Registered, Told, Complete, Ended}
-use Rattle.fi_parts.specs.declared.phase.Future.{Future}
 use Rattle.fi_parts.specs.declared.outbox.Ticket.{Ticket}
 use Rattle.fi_parts.specs.declared.line.Entry.{Entry}
 use Rattle.fi_parts.specs.Listed.{Listed, with_live}
@@ -21,16 +20,20 @@ use Rattle.fi_parts.proofs.Queues.{reverse_cons, reverse-without, holds-reverse}
 
 -- A map with a function of each value.
 module _ {A B : Type 0} (f : A → B) where
-  find-mapped : (q : ℕ) (es : List (ℕ × A)) → finmap.find nat_cmp q (map (λ e. (e.0, f e.1)) es) ≡ option_map f (finmap.find nat_cmp q es)
+  find-mapped : (q : ℕ) (es : List (ℕ × A)) →
+      finmap.find nat_cmp q (map (λ e. (e.0, f e.1)) es) ≡ option_map f (finmap.find nat_cmp q es)
   find-mapped q [] = refl
   find-mapped q (e ∷ es) = step (eq_by_cmp nat_cmp q e.0) (find-mapped q es)
     where
-      step : (b : Bool) → finmap.find nat_cmp q (map (λ e'. (e'.0, f e'.1)) es) ≡ option_map f (finmap.find nat_cmp q es) →
-          cond b (Some (f e.1)) (finmap.find nat_cmp q (map (λ e'. (e'.0, f e'.1)) es)) ≡ option_map f (cond b (Some e.1) (finmap.find nat_cmp q es))
+      step : (b : Bool) →
+          finmap.find nat_cmp q (map (λ e'. (e'.0, f e'.1)) es) ≡ option_map f (finmap.find nat_cmp q es) →
+          cond b (Some (f e.1)) (finmap.find nat_cmp q (map (λ e'. (e'.0, f e'.1)) es)) ≡ option_map f
+          (cond b (Some e.1) (finmap.find nat_cmp q es))
       step true rest = refl
       step false rest = rest
 
-  pub get-mapped : (live : finmap.FinMap nat_cmp A) (q : ℕ) → finmap.get (mapped f live) q ≡ option_map f (finmap.get live q)
+  pub get-mapped : (live : finmap.FinMap nat_cmp A) (q : ℕ) →
+      finmap.get (mapped f live) q ≡ option_map f (finmap.get live q)
   unfolding mapped
   get-mapped live q =
       finmap.get-from_entries nat_cmp_total (map (λ e. (e.0, f e.1)) (finmap.entries live)) q
@@ -42,24 +45,32 @@ module _ {A B : Type 0} (f : A → B) where
       finmap.same_map nat_cmp_total finmap.nat_cmp-IsAntisymmetric _ _ (λ q. get-mapped live q ∙ same q)
 
   pub mapped-empty : mapped f finmap.empty ≡ finmap.empty
-  mapped-empty = same_mapped _ _ (λ q. ap (option_map f) (finmap.get-empty nat_cmp q) ∙ sym (finmap.get-empty nat_cmp q))
+  mapped-empty =
+      same_mapped _ _ (λ q. ap (option_map f) (finmap.get-empty nat_cmp q) ∙ sym (finmap.get-empty nat_cmp q))
 
-  pub mapped-insert : (live : finmap.FinMap nat_cmp A) (n : ℕ) (a : A) → mapped f (finmap.insert live n a) ≡ finmap.insert (mapped f live) n (f a)
+  pub mapped-insert : (live : finmap.FinMap nat_cmp A) (n : ℕ) (a : A) →
+      mapped f (finmap.insert live n a) ≡ finmap.insert (mapped f live) n (f a)
   mapped-insert live n a = same_mapped _ _ (λ q. elim (cases_eq q n) [
     | inl same ↦ rw same (ap (option_map f) (get-insert_same live n a) ∙ sym (get-insert_same (mapped f live) n (f a)))
-    | inr ne ↦ ap (option_map f) (get-insert_other live n a q ne) ∙ sym (get-mapped live q) ∙ sym (get-insert_other (mapped f live) n (f a) q ne)
+    | inr ne ↦ ap (option_map f) (get-insert_other live n a q ne) ∙ sym (get-mapped live q)
+        ∙ sym (get-insert_other (mapped f live) n (f a) q ne)
   ])
 
-  pub mapped-remove : (live : finmap.FinMap nat_cmp A) (n : ℕ) → mapped f (finmap.remove live n) ≡ finmap.remove (mapped f live) n
+  pub mapped-remove : (live : finmap.FinMap nat_cmp A) (n : ℕ) →
+      mapped f (finmap.remove live n) ≡ finmap.remove (mapped f live) n
   mapped-remove live n = same_mapped _ _ (λ q. elim (cases_eq q n) [
     | inl same ↦ rw same (ap (option_map f) (get-remove_same live n) ∙ sym (get-remove_same (mapped f live) n))
-    | inr ne ↦ ap (option_map f) (get-remove_other live n q ne) ∙ sym (get-mapped live q) ∙ sym (get-remove_other (mapped f live) n q ne)
+    | inr ne ↦ ap (option_map f) (get-remove_other live n q ne) ∙ sym (get-mapped live q)
+        ∙ sym (get-remove_other (mapped f live) n q ne)
   ])
 
   -- another value with the same image
-  mapped-kept : (live : finmap.FinMap nat_cmp A) (n : ℕ) (a b : A) → finmap.get live n ≡ Some a → f b ≡ f a → mapped f (finmap.insert live n b) ≡ mapped f live
+  mapped-kept : (live : finmap.FinMap nat_cmp A) (n : ℕ) (a b : A) → finmap.get live n ≡ Some a → f b ≡ f a →
+      mapped f (finmap.insert live n b) ≡ mapped f live
   mapped-kept live n a b is kept = same_mapped _ _ (λ q. elim (cases_eq q n) [
-    | inl same ↦ rw same (ap (option_map f) (get-insert_same live n b) ∙ ap Some kept ∙ ap (option_map f) (sym is) ∙ sym (get-mapped live n))
+    | inl same ↦ rw same
+        (ap (option_map f) (get-insert_same live n b) ∙ ap Some kept ∙ ap (option_map f) (sym is)
+        ∙ sym (get-mapped live n))
     | inr ne ↦ ap (option_map f) (get-insert_other live n b q ne) ∙ sym (get-mapped live q)
   ])
 
@@ -70,14 +81,17 @@ module _ {D W : Type 0} where
   abbrev pub asks_at : Option (Entry D W) → Option D
   asks_at o = asks_in (option_map future_of o)
 
-  pub phase-seen : (live : finmap.FinMap nat_cmp (Entry D W)) (n : ℕ) → phase_in (finmap.get (mapped future_of live) n) ≡ phase_at (finmap.get live n)
+  pub phase-seen : (live : finmap.FinMap nat_cmp (Entry D W)) (n : ℕ) →
+      phase_in (finmap.get (mapped future_of live) n) ≡ phase_at (finmap.get live n)
   phase-seen live n = ap phase_in (get-mapped future_of live n)
 
-  pub asks-seen : (live : finmap.FinMap nat_cmp (Entry D W)) (n : ℕ) → asks_in (finmap.get (mapped future_of live) n) ≡ asks_at (finmap.get live n)
+  pub asks-seen : (live : finmap.FinMap nat_cmp (Entry D W)) (n : ℕ) →
+      asks_in (finmap.get (mapped future_of live) n) ≡ asks_at (finmap.get live n)
   asks-seen live n = ap asks_in (get-mapped future_of live n)
 
   -- what is live to a caller is live in the list
-  pub entry_lives : (live : finmap.FinMap nat_cmp (Entry D W)) (n : ℕ) → IsSome (finmap.get (mapped future_of live) n) → IsSome (finmap.get live n)
+  pub entry_lives : (live : finmap.FinMap nat_cmp (Entry D W)) (n : ℕ) → IsSome (finmap.get (mapped future_of live) n) →
+      IsSome (finmap.get live n)
   entry_lives live n lives = step (finmap.get live n) (sym (ap is_some (get-mapped future_of live n)) ∙ lives)
     where
       step : (o : Option (Entry D W)) → IsSome (option_map future_of o) → IsSome o
@@ -94,19 +108,22 @@ module _ {D W : Type 0} where
   abbrev at_asks : Entry D W → D → Entry D W
   at_asks e asks = record e { future = record e.future { asks = asks } }
 
-  futures-with_phase : (live : finmap.FinMap nat_cmp (Entry D W)) (n : ℕ) (e : Entry D W) (phase : Phase W) → finmap.get live n ≡ Some e →
+  futures-with_phase : (live : finmap.FinMap nat_cmp (Entry D W)) (n : ℕ) (e : Entry D W) (phase : Phase W) →
+      finmap.get live n ≡ Some e →
       mapped future_of (finmap.insert live n (at_phase e phase)) ≡ with_phase (mapped future_of live) n phase
   unfolding with_phase
   futures-with_phase live n e phase is =
       mapped-insert future_of live n (at_phase e phase)
       ∙ sym (ap (rephased (mapped future_of live) n phase) (get-mapped future_of live n ∙ ap (option_map future_of) is))
 
-  futures-with_asks : (live : finmap.FinMap nat_cmp (Entry D W)) (n : ℕ) (e : Entry D W) (asks : D) → finmap.get live n ≡ Some e →
+  futures-with_asks : (live : finmap.FinMap nat_cmp (Entry D W)) (n : ℕ) (e : Entry D W) (asks : D) →
+      finmap.get live n ≡ Some e →
       mapped future_of (finmap.insert live n (at_asks e asks)) ≡ with_asks (mapped future_of live) n asks
   unfolding with_asks
   futures-with_asks live n e asks is =
       mapped-insert future_of live n (at_asks e asks)
-      ∙ sym (ap (with_asks_in (mapped future_of live) n asks) (get-mapped future_of live n ∙ ap (option_map future_of) is))
+      ∙ sym
+      (ap (with_asks_in (mapped future_of live) n asks) (get-mapped future_of live n ∙ ap (option_map future_of) is))
 
   module _ (list : Listed (Entry D W)) where
     abbrev seen : LineModel D W
@@ -118,10 +135,12 @@ module _ {D W : Type 0} where
     pub free_ticket : (n : ℕ) → finmap.get list.live n ≡ None → finmap.get seen.tickets n ≡ None
     free_ticket n free = get-mapped ticket_of list.live n ∙ ap (option_map ticket_of) free
 
-    pub its_ticket : (n : ℕ) (e : Entry D W) → finmap.get list.live n ≡ Some e → finmap.get seen.tickets n ≡ Some e.ticket.0
+    pub its_ticket : (n : ℕ) (e : Entry D W) → finmap.get list.live n ≡ Some e →
+        finmap.get seen.tickets n ≡ Some e.ticket.0
     its_ticket n e is = get-mapped ticket_of list.live n ∙ ap (option_map ticket_of) is
 
-    pub its_phase : (n : ℕ) (e : Entry D W) → finmap.get list.live n ≡ Some e → phase_of seen.side n ≡ Some e.future.phase
+    pub its_phase : (n : ℕ) (e : Entry D W) → finmap.get list.live n ≡ Some e →
+        phase_of seen.side n ≡ Some e.future.phase
     its_phase n e is = phase-seen list.live n ∙ ap phase_at is
 
     pub its_asks : (n : ℕ) (e : Entry D W) → finmap.get list.live n ≡ Some e → asks_of seen.side n ≡ Some e.future.asks
@@ -136,7 +155,9 @@ module _ {D W : Type 0} where
     })
 
     abbrev PhaseAt : ℕ → Phase W → Listed (Entry D W) → Type 0
-    PhaseAt n phase after = (e : Entry D W) × (finmap.get list.live n ≡ Some e) × (after ≡ with_live list (finmap.insert list.live n (at_phase e phase)))
+    PhaseAt n phase after =
+        (e : Entry D W) × (finmap.get list.live n ≡ Some e) ×
+        (after ≡ with_live list (finmap.insert list.live n (at_phase e phase)))
 
     pub seen-phase : (n : ℕ) (phase : Phase W) (after : Listed (Entry D W)) → PhaseAt n phase after →
         line_of after ≡ record seen { side = record seen.side { live = with_phase seen.side.live n phase } }
@@ -154,28 +175,44 @@ module _ {D W : Type 0} where
     })
 
     pub seen-registered : (n : ℕ) (waker : W) (mid after : Listed (Entry D W)) → PhaseAt n (Registered waker) mid →
-        after.live ≡ mid.live → after.order ≡ n ∷ mid.order → line_of after ≡ record seen { side = registered seen.side n waker }
+        after.live ≡ mid.live → after.order ≡ n ∷ mid.order → line_of
+        after ≡ record seen { side = registered seen.side n waker }
     seen-registered n waker mid after is live order =
-        let m : line_of mid ≡ record seen { side = record seen.side { live = with_phase seen.side.live n (Registered waker) } } = seen-phase n (Registered waker) mid is in
-        let lives : mapped future_of after.live ≡ with_phase seen.side.live n (Registered waker) = ap (mapped future_of) live ∙ ap (λ (w : LineModel D W). w.side.live) m in
-        let tickets : mapped ticket_of after.live ≡ seen.tickets = ap (mapped ticket_of) live ∙ ap (λ (w : LineModel D W). w.tickets) m in
-        let queue : reverse after.order ≡ reverse list.order ++ n ∷ [] = ap reverse (order ∙ ap (λ (l : Listed (Entry D W)). n ∷ l.order) is.2) ∙ reverse_cons n list.order in
+        let m : line_of mid
+        ≡ record seen { side = record seen.side { live = with_phase seen.side.live n (Registered waker) } } =
+        seen-phase n (Registered waker) mid is in
+        let lives : mapped future_of after.live ≡ with_phase seen.side.live n (Registered waker) =
+        ap (mapped future_of) live ∙ ap (λ (w : LineModel D W). w.side.live) m in
+        let tickets : mapped ticket_of after.live ≡ seen.tickets =
+        ap (mapped ticket_of) live ∙ ap (λ (w : LineModel D W). w.tickets) m in
+        let queue : reverse after.order ≡ reverse list.order ++ n ∷ [] =
+        ap reverse (order ∙ ap (λ (l : Listed (Entry D W)). n ∷ l.order) is.2) ∙ reverse_cons n list.order in
         λ i. record { side = record { live = lives i; queue = queue i }; tickets = tickets i }
 
-    pub live-after : (n : ℕ) (phase : Phase W) (after : Listed (Entry D W)) → PhaseAt n phase after → IsSome (finmap.get after.live n)
-    live-after n phase after is = ap (λ (l : Listed (Entry D W)). is_some (finmap.get l.live n)) is.2 ∙ ap is_some (get-insert_same list.live n (at_phase is.0 phase))
+    pub live-after : (n : ℕ) (phase : Phase W) (after : Listed (Entry D W)) → PhaseAt n phase after →
+        IsSome (finmap.get after.live n)
+    live-after n phase after is =
+        ap (λ (l : Listed (Entry D W)). is_some (finmap.get l.live n)) is.2
+        ∙ ap is_some (get-insert_same list.live n (at_phase is.0 phase))
 
-    pub apart-after : (n : ℕ) (phase : Phase W) (after : Listed (Entry D W)) → PhaseAt n phase after → holds n seen.side.queue ≡ false → holds n after.order ≡ false
-    apart-after n phase after is apart = ap (λ (l : Listed (Entry D W)). holds n l.order) is.2 ∙ sym (holds-reverse n list.order) ∙ apart
+    pub apart-after : (n : ℕ) (phase : Phase W) (after : Listed (Entry D W)) → PhaseAt n phase after →
+        holds n seen.side.queue ≡ false → holds n after.order ≡ false
+    apart-after n phase after is apart =
+        ap (λ (l : Listed (Entry D W)). holds n l.order) is.2 ∙ sym (holds-reverse n list.order) ∙ apart
 
-    pub seen-removed : (n : ℕ) (mid after : Listed (Entry D W)) → mid.live ≡ list.live → mid.order ≡ without n list.order →
+    pub seen-removed : (n : ℕ) (mid after : Listed (Entry D W)) → mid.live ≡ list.live →
+        mid.order ≡ without n list.order →
         after ≡ with_live mid (finmap.remove mid.live n) →
         line_of after ≡ record { side = forgotten seen.side n; tickets = finmap.remove seen.tickets n }
     seen-removed n mid after live order freed =
-        let gone : after.live ≡ finmap.remove list.live n = ap (λ (l : Listed (Entry D W)). l.live) freed ∙ ap (λ l. finmap.remove l n) live in
-        let lives : mapped future_of after.live ≡ finmap.remove seen.side.live n = ap (mapped future_of) gone ∙ mapped-remove future_of list.live n in
-        let tickets : mapped ticket_of after.live ≡ finmap.remove seen.tickets n = ap (mapped ticket_of) gone ∙ mapped-remove ticket_of list.live n in
-        let queue : reverse after.order ≡ without n (reverse list.order) = ap reverse (ap (λ (l : Listed (Entry D W)). l.order) freed ∙ order) ∙ reverse-without n list.order in
+        let gone : after.live ≡ finmap.remove list.live n =
+        ap (λ (l : Listed (Entry D W)). l.live) freed ∙ ap (λ l. finmap.remove l n) live in
+        let lives : mapped future_of after.live ≡ finmap.remove seen.side.live n =
+        ap (mapped future_of) gone ∙ mapped-remove future_of list.live n in
+        let tickets : mapped ticket_of after.live ≡ finmap.remove seen.tickets n =
+        ap (mapped ticket_of) gone ∙ mapped-remove ticket_of list.live n in
+        let queue : reverse after.order ≡ without n (reverse list.order) =
+        ap reverse (ap (λ (l : Listed (Entry D W)). l.order) freed ∙ order) ∙ reverse-without n list.order in
         λ i. record { side = record { live = lives i; queue = queue i }; tickets = tickets i }
 
     -- the queue's first is the list's last
@@ -183,14 +220,16 @@ module _ {D W : Type 0} where
     oldest-first n front is = ap reverse is ∙ reverse-append front (n ∷ [])
 
     -- only the queue has changed
-    pub seen-queue : (after : Listed (Entry D W)) (queue : List ℕ) → after.live ≡ list.live → reverse after.order ≡ queue →
+    pub seen-queue : (after : Listed (Entry D W)) (queue : List ℕ) → after.live ≡ list.live →
+        reverse after.order ≡ queue →
         line_of after ≡ record seen { side = record seen.side { queue = queue } }
     seen-queue after queue live order =
         let lives : mapped future_of after.live ≡ mapped future_of list.live = ap (mapped future_of) live in
         let tickets : mapped ticket_of after.live ≡ seen.tickets = ap (mapped ticket_of) live in
         λ i. record { side = record { live = lives i; queue = order i }; tickets = tickets i }
 
-pub line-empty : (D W : Type 0) → line_of (record { live = finmap.empty; order = []; visits = 0 }) ≡ empty_line {D = D} {W = W}
+pub line-empty : (D W : Type 0) →
+    line_of (record { live = finmap.empty; order = []; visits = 0 }) ≡ empty_line {D = D} {W = W}
 line-empty D W = λ i. record {
   side = record { live = mapped-empty (future_of {D = D} {W = W}) i; queue = [] };
   tickets = mapped-empty (ticket_of {D = D} {W = W}) i;
@@ -202,7 +241,8 @@ some_from_copied (Some x) h = refl
 
 module _ {W : Type 0} where
   -- the waker that a registered one gives when its phase is set
-  pub its_waker : (p : Option (Phase W)) (r : Option W) → is_registered p ≡ true → MatchOption p ⊥ (λ before. r ≡ waker_in before) →
+  pub its_waker : (p : Option (Phase W)) (r : Option W) → is_registered p ≡ true →
+      MatchOption p ⊥ (λ before. r ≡ waker_in before) →
       (w : W) × (p ≡ Some (Registered w)) × (r ≡ Some w)
   its_waker None r h e = absurd e
   its_waker (Some Fresh) r h e = absurd (both_ways false refl h)
@@ -222,7 +262,8 @@ module _ {D W : Type 0} where
   -- the tickets stay, whoever left the queue
   pub left_tickets : (r : Option Slot) (old new : LineModel D W) →
       MatchOption r ((old.side.queue ≡ []) × (new ≡ old))
-      (λ slot. (others : List ℕ) × (old.side.queue ≡ slot.0 ∷ others) × (new ≡ record old { side = record old.side { queue = others } })) →
+      (λ slot. (others : List ℕ) × (old.side.queue ≡ slot.0 ∷ others) ×
+      (new ≡ record old { side = record old.side { queue = others } })) →
       new.tickets ≡ old.tickets
   left_tickets None old new left = ap (λ (l : LineModel D W). l.tickets) left.1
   left_tickets (Some slot) old new left = ap (λ (l : LineModel D W). l.tickets) left.2

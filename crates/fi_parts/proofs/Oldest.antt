@@ -1,6 +1,6 @@
 -- What becomes of a side whose oldest future is named, and of one whose future asks for something else.
 use Rattle.std.proofs.Common.{◌≡◌, ◌≢◌, ℕ, Bool, true, false, List, [], ◌∷◌, ◌++◌, Option, Some, None, map, refl, sym, ap, subst, append_assoc, ◌∙◌, inl, inr}
-use Rattle.std.proofs.lemmas.Bool.{cases_eq, both_ways, or_left}
+use Rattle.std.proofs.lemmas.Bool.{cases_eq, both_ways}
 use Rattle.std.proofs.lemmas.List.{append-nil, map-append}
 use Rattle.std.specs.Option.{IsSome}
 use Rattle.std.specs.Ordering.{nat_cmp}
@@ -8,21 +8,21 @@ use Rattle.std.specs.FinMap as finmap
 use Rattle.fi_parts.specs.declared.phase.Phase.{Phase}
 use Rattle.fi_parts.specs.declared.phase.Phase.TheVariants.{Complete}
 use Rattle.fi_parts.specs.declared.phase.Future.{Future}
-use Rattle.fi_parts.specs.Order.{holds, Apart}
-use Rattle.fi_parts.specs.Pairs.{has}
-use Rattle.fi_parts.specs.Waiting.{Side, Waiting, phase_in, phase_of, asks_in, asks_of, is_registered, may_be_named, with_phase, with_asks_in, with_asks, exchange, noticed, pair, pair_of, emptied, named_all, IsLive, IsOrdered, AreSound}
+use Rattle.fi_parts.specs.Waiting.{Side, Waiting, phase_in, asks_in, is_registered, may_be_named, with_asks_in, with_asks, exchange, noticed, pair, pair_of, emptied, named_all, IsOrdered, AreSound}
 use Rattle.fi_parts.proofs.FiniteMaps.{get-insert_same, get-insert_other}
-use Rattle.fi_parts.proofs.Slots.{eqb_same}
-use Rattle.fi_parts.proofs.Waiting.{Becomes, becomes-with_phase, live_if_registered, first_registered, ordered-next, no_pair, all_noticed-step, all_noticed-none}
-use Rattle.fi_parts.specs.Oldest.{pop_first, pair_of_first, asks_of_first, complete_first, pop_oldest, pair_of_oldest, complete_oldest}
+use Rattle.fi_parts.proofs.Waiting.{becomes-with_phase, live_if_registered, first_registered, ordered-next, all_noticed-step, all_noticed-none}
+use Rattle.fi_parts.specs.Oldest.{pop_first, pair_of_first, complete_first, pop_oldest, pair_of_oldest, complete_oldest}
 
 module _ {D W : Type 0} where
   -- only what this name asks for has changed
-  pub get-with_asks : (live : finmap.FinMap nat_cmp (Future D W)) (n : ℕ) (d : D) (f : Future D W) → finmap.get live n ≡ Some f → finmap.get (with_asks live n d) n ≡ Some (record f { asks = d })
+  pub get-with_asks : (live : finmap.FinMap nat_cmp (Future D W)) (n : ℕ) (d : D) (f : Future D W) →
+      finmap.get live n ≡ Some f → finmap.get (with_asks live n d) n ≡ Some (record f { asks = d })
   unfolding with_asks
-  get-with_asks live n d f is = ap (λ o. finmap.get (with_asks_in live n d o) n) is ∙ get-insert_same live n (record f { asks = d })
+  get-with_asks live n d f is =
+      ap (λ o. finmap.get (with_asks_in live n d o) n) is ∙ get-insert_same live n (record f { asks = d })
 
-  pub get-with_asks_other : (live : finmap.FinMap nat_cmp (Future D W)) (n : ℕ) (d : D) (q : ℕ) → q ≢ n → finmap.get (with_asks live n d) q ≡ finmap.get live q
+  pub get-with_asks_other : (live : finmap.FinMap nat_cmp (Future D W)) (n : ℕ) (d : D) (q : ℕ) → q ≢ n →
+      finmap.get (with_asks live n d) q ≡ finmap.get live q
   unfolding with_asks
   get-with_asks_other live n d q ne = each (finmap.get live n)
     where
@@ -30,25 +30,30 @@ module _ {D W : Type 0} where
       each None = refl
       each (Some f) = get-insert_other live n (record f { asks = d }) q ne
 
-  pub phase-with_asks : (live : finmap.FinMap nat_cmp (Future D W)) (n : ℕ) (d : D) (q : ℕ) → phase_in (finmap.get (with_asks live n d) q) ≡ phase_in (finmap.get live q)
+  pub phase-with_asks : (live : finmap.FinMap nat_cmp (Future D W)) (n : ℕ) (d : D) (q : ℕ) →
+      phase_in (finmap.get (with_asks live n d) q) ≡ phase_in (finmap.get live q)
   unfolding with_asks
   phase-with_asks live n d q = each (finmap.get live n) refl
     where
-      each : (o : Option (Future D W)) → finmap.get live n ≡ o → phase_in (finmap.get (with_asks_in live n d o) q) ≡ phase_in (finmap.get live q)
+      each : (o : Option (Future D W)) → finmap.get live n ≡ o →
+          phase_in (finmap.get (with_asks_in live n d o) q) ≡ phase_in (finmap.get live q)
       each None is = refl
       each (Some f) is = elim (cases_eq q n) [
         | inl same ↦ rw same (ap phase_in (get-insert_same live n (record f { asks = d })) ∙ sym (ap phase_in is))
         | inr ne ↦ ap phase_in (get-insert_other live n (record f { asks = d }) q ne)
       ]
 
-  pub asks-with_asks : (live : finmap.FinMap nat_cmp (Future D W)) (n : ℕ) (d : D) → IsSome (finmap.get live n) → asks_in (finmap.get (with_asks live n d) n) ≡ Some d
+  pub asks-with_asks : (live : finmap.FinMap nat_cmp (Future D W)) (n : ℕ) (d : D) → IsSome (finmap.get live n) →
+      asks_in (finmap.get (with_asks live n d) n) ≡ Some d
   asks-with_asks live n d lives = each (finmap.get live n) refl lives
     where
-      each : (o : Option (Future D W)) → finmap.get live n ≡ o → IsSome o → asks_in (finmap.get (with_asks live n d) n) ≡ Some d
+      each : (o : Option (Future D W)) → finmap.get live n ≡ o → IsSome o →
+          asks_in (finmap.get (with_asks live n d) n) ≡ Some d
       each None is h = absurd (both_ways false refl h)
       each (Some f) is h = ap asks_in (get-with_asks live n d f is)
 
-  pub sound-exchange : (allowed : Option (Phase W) → Bool) (side : Side D W) (out : List (ℕ × W)) (n : ℕ) (d : D) → AreSound allowed side out → AreSound allowed (exchange side n d) out
+  pub sound-exchange : (allowed : Option (Phase W) → Bool) (side : Side D W) (out : List (ℕ × W)) (n : ℕ) (d : D) →
+      AreSound allowed side out → AreSound allowed (exchange side n d) out
   sound-exchange allowed side out n d was = record {
     ordered = record {
       queued = λ q. was.ordered.queued q ∙ ap is_registered (sym (phase-with_asks side.live n d q));
@@ -59,9 +64,13 @@ module _ {D W : Type 0} where
     only = λ q. ap allowed (phase-with_asks side.live n d q) ∙ was.only q;
   }
 
-  sound-pop_first : (allowed : Option (Phase W) → Bool) (phase : Phase W) (side : Side D W) (out : List (ℕ × W)) (queue : List ℕ) → allowed (Some phase) ≡ true → may_be_named (Some phase) ≡ true →
-      AreSound allowed side out → side.queue ≡ queue → AreSound allowed (pop_first phase side queue) (out ++ pair_of_first side queue)
-  sound-pop_first allowed phase side out [] is may was queue = subst (λ (o : List (ℕ × W)). AreSound allowed side o) (sym (append-nil out)) was
+  sound-pop_first : (allowed : Option (Phase W) → Bool) (phase : Phase W) (side : Side D W) (out : List (ℕ × W))
+      (queue : List ℕ) →
+      allowed (Some phase) ≡ true → may_be_named (Some phase) ≡ true →
+      AreSound allowed side out → side.queue ≡ queue → AreSound allowed (pop_first phase side queue)
+      (out ++ pair_of_first side queue)
+  sound-pop_first allowed phase side out [] is may was queue =
+      subst (λ (o : List (ℕ × W)). AreSound allowed side o) (sym (append-nil out)) was
   sound-pop_first allowed phase side out (n ∷ others) is may was queue =
       let registered_now = first_registered side out n others was.ordered queue in
       let becomes = becomes-with_phase side n phase others (live_if_registered side n registered_now) in
@@ -74,37 +83,55 @@ module _ {D W : Type 0} where
       }
 
   -- the oldest was named, and stands so
-  pub sound-pop_oldest : (allowed : Option (Phase W) → Bool) (phase : Phase W) (side : Side D W) (out : List (ℕ × W)) → allowed (Some phase) ≡ true → may_be_named (Some phase) ≡ true →
+  pub sound-pop_oldest : (allowed : Option (Phase W) → Bool) (phase : Phase W) (side : Side D W) (out : List (ℕ × W)) →
+      allowed (Some phase) ≡ true → may_be_named (Some phase) ≡ true →
       AreSound allowed side out → AreSound allowed (pop_oldest phase side) (out ++ pair_of_oldest side)
   sound-pop_oldest allowed phase side out is may was = sound-pop_first allowed phase side out side.queue is may was refl
 
-  sound-complete_first : (allowed : Option (Phase W) → Bool) (left : D) (side : Side D W) (out : List (ℕ × W)) (queue : List ℕ) → allowed (Some Complete) ≡ true →
-      AreSound allowed side out → side.queue ≡ queue → AreSound allowed (complete_first left side queue) (out ++ pair_of_first side queue)
-  sound-complete_first allowed left side out [] is was queue = subst (λ (o : List (ℕ × W)). AreSound allowed side o) (sym (append-nil out)) was
+  sound-complete_first : (allowed : Option (Phase W) → Bool) (left : D) (side : Side D W) (out : List (ℕ × W))
+      (queue : List ℕ) →
+      allowed (Some Complete) ≡ true →
+      AreSound allowed side out → side.queue ≡ queue → AreSound allowed (complete_first left side queue)
+      (out ++ pair_of_first side queue)
+  sound-complete_first allowed left side out [] is was queue =
+      subst (λ (o : List (ℕ × W)). AreSound allowed side o) (sym (append-nil out)) was
   sound-complete_first allowed left side out (n ∷ others) is was queue =
       let asked = exchange side n left in
-      let sound = sound-pop_first allowed Complete asked out (n ∷ others) is refl (sound-exchange allowed side out n left was) queue in
-      subst (λ (ps : List (ℕ × W)). AreSound allowed (complete_first left side (n ∷ others)) (out ++ ps)) (ap (pair_of n) (phase-with_asks side.live n left n)) sound
+      let sound =
+      sound-pop_first allowed Complete asked out (n ∷ others) is refl (sound-exchange allowed side out n left was)
+      queue in
+      subst (λ (ps : List (ℕ × W)). AreSound allowed (complete_first left side (n ∷ others)) (out ++ ps))
+      (ap (pair_of n) (phase-with_asks side.live n left n)) sound
 
   -- the oldest was named, and is complete
-  pub sound-complete_oldest : (allowed : Option (Phase W) → Bool) (left : D) (side : Side D W) (out : List (ℕ × W)) → allowed (Some Complete) ≡ true →
+  pub sound-complete_oldest : (allowed : Option (Phase W) → Bool) (left : D) (side : Side D W) (out : List (ℕ × W)) →
+      allowed (Some Complete) ≡ true →
       AreSound allowed side out → AreSound allowed (complete_oldest left side) (out ++ pair_of_oldest side)
   sound-complete_oldest allowed left side out is was = sound-complete_first allowed left side out side.queue is was refl
 
   -- the same queue, with nobody named
   unnamed : (side : Side D W) (out : List (ℕ × W)) → IsOrdered side out → IsOrdered side []
-  unnamed side out was = record { queued = was.queued; once = was.once; named = λ q at. absurd (both_ways false refl at); named_once = tt }
+  unnamed side out was = record {
+    queued = was.queued;
+    once = was.once;
+    named = λ q at. absurd (both_ways false refl at);
+    named_once = tt;
+  }
 
   -- to name the oldest and then the rest is to name all: the side, and its pairs
-  pub emptied-step : (phase : Phase W) (side : Side D W) (out : List (ℕ × W)) (n : ℕ) (others : List ℕ) → IsOrdered side out →
+  pub emptied-step : (phase : Phase W) (side : Side D W) (out : List (ℕ × W)) (n : ℕ) (others : List ℕ) →
+      IsOrdered side out →
       side.queue ≡ n ∷ others → emptied phase (noticed phase side n others) ≡ emptied phase side
   emptied-step phase side out n others was queue =
-      ap (λ (v : Waiting D W). v.side) (all_noticed-step phase (record { side = side; out = [] }) n others (unnamed side out was) queue)
+      ap (λ (v : Waiting D W). v.side)
+      (all_noticed-step phase (record { side = side; out = [] }) n others (unnamed side out was) queue)
 
-  named_all-step : (phase : Phase W) (side : Side D W) (out : List (ℕ × W)) (n : ℕ) (others : List ℕ) → IsOrdered side out →
+  named_all-step : (phase : Phase W) (side : Side D W) (out : List (ℕ × W)) (n : ℕ) (others : List ℕ) →
+      IsOrdered side out →
       side.queue ≡ n ∷ others → pair side n ++ named_all (noticed phase side n others) ≡ named_all side
   named_all-step phase side out n others was queue =
-      ap (λ (v : Waiting D W). v.out) (all_noticed-step phase (record { side = side; out = [] }) n others (unnamed side out was) queue)
+      ap (λ (v : Waiting D W). v.out)
+      (all_noticed-step phase (record { side = side; out = [] }) n others (unnamed side out was) queue)
 
   pub emptied-none : (phase : Phase W) (side : Side D W) → side.queue ≡ [] → emptied phase side ≡ side
   emptied-none phase side none =
@@ -116,13 +143,16 @@ module _ {D W : Type 0} where
 
 -- The same for an outbox of pairs that are marked with their side.
 module _ {D W X : Type 0} (mark : ℕ × W → X) where
-  pub marked-step : (phase : Phase W) (side : Side D W) (pairs : List (ℕ × W)) (out : List X) (n : ℕ) (others : List ℕ) →
+  pub marked-step : (phase : Phase W) (side : Side D W) (pairs : List (ℕ × W)) (out : List X) (n : ℕ)
+      (others : List ℕ) →
       IsOrdered side pairs → side.queue ≡ n ∷ others →
-      (out ++ map mark (pair side n)) ++ map mark (named_all (noticed phase side n others)) ≡ out ++ map mark (named_all side)
+      (out ++ map mark (pair side n)) ++ map mark (named_all (noticed phase side n others)) ≡ out ++ map mark
+      (named_all side)
   marked-step phase side pairs out n others was queue =
       append_assoc out (map mark (pair side n)) (map mark (named_all (noticed phase side n others)))
       ∙ ap (λ ps. out ++ ps) (sym (map-append mark (pair side n) (named_all (noticed phase side n others)))
       ∙ ap (map mark) (named_all-step phase side pairs n others was queue))
 
-  pub marked-none : (phase : Phase W) (side : Side D W) (out : List X) → side.queue ≡ [] → out ++ map mark (named_all side) ≡ out
+  pub marked-none : (phase : Phase W) (side : Side D W) (out : List X) → side.queue ≡ [] →
+      out ++ map mark (named_all side) ≡ out
   marked-none phase side out none = ap (λ ps. out ++ map mark ps) (named_all-none phase side none) ∙ append-nil out

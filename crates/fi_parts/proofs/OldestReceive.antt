@@ -1,5 +1,5 @@
 -- The receives of both sides: what becomes of them when they are named, one after another.
-use Rattle.std.proofs.Common.{◌≡◌, ℕ, true, false, List, [], ◌∷◌, ◌++◌, Option, Some, sym, ap, subst, ◌∙◌}
+use Rattle.std.proofs.Common.{◌≡◌, ℕ, true, false, List, [], ◌∷◌, ◌++◌, Some, sym, ap, subst, ◌∙◌}
 use Rattle.fi_parts.specs.NamedPairs.{has_by}
 use Rattle.fi_parts.specs.Oldest.{pop_first, pop_oldest, pair_of_first, pair_of_oldest}
 use Rattle.fi_parts.specs.TwoSidesModel.{TwoSidesModel, notify_receives}
@@ -36,31 +36,38 @@ module _ {D E W : Type 0} where
       notify_receives phase (notify_receive phase both n others) ≡ notify_receives phase both
   notify_receives-step phase both n others was queue =
       let side = emptied-step phase both.receives (receives_in both.out) n others was queue in
-      let out = marked-step (λ (p : ℕ × W). (Receive p.0, p.1)) phase both.receives (receives_in both.out) both.out n others was queue in
+      let out =
+      marked-step (λ (p : ℕ × W). (Receive p.0, p.1)) phase both.receives (receives_in both.out) both.out n others was
+      queue in
       λ i. record both { receives = side i; out = out i }
 
-  pub notify_receives-none : (phase : Phase W) (both : TwoSidesModel D E W) → both.receives.queue ≡ [] → notify_receives phase both ≡ both
+  pub notify_receives-none : (phase : Phase W) (both : TwoSidesModel D E W) → both.receives.queue ≡ [] →
+      notify_receives phase both ≡ both
   notify_receives-none phase both none =
       let side = emptied-none phase both.receives none in
       let out = marked-none (λ (p : ℕ × W). (Receive p.0, p.1)) phase both.receives both.out none in
       λ i. record both { receives = side i; out = out i }
 
-  pub receive-ordered : (phase : Phase W) (both : TwoSidesModel D E W) (n : ℕ) (others : List ℕ) → may_be_named (Some phase) ≡ true →
+  pub receive-ordered : (phase : Phase W) (both : TwoSidesModel D E W) (n : ℕ) (others : List ℕ) →
+      may_be_named (Some phase) ≡ true →
       IsOrdered both.receives (receives_in both.out) → both.receives.queue ≡ n ∷ others →
       IsOrdered (notify_receive phase both n others).receives (receives_in (notify_receive phase both n others).out)
   receive-ordered phase both n others may was queue =
-      subst (λ (ps : List (ℕ × W)). IsOrdered (noticed phase both.receives n others) ps) (sym (receives-and_receives both.out (pair both.receives n)))
+      subst (λ (ps : List (ℕ × W)). IsOrdered (noticed phase both.receives n others) ps)
+      (sym (receives-and_receives both.out (pair both.receives n)))
       (ordered-next phase (record { side = both.receives; out = receives_in both.out }) n others may was queue)
 
   -- the first of the queue is registered, and has no pair
-  pub receive-waits : (both mid : TwoSidesModel D E W) (n : ℕ) (others : List ℕ) → IsOrdered both.receives (receives_in both.out) →
+  pub receive-waits : (both mid : TwoSidesModel D E W) (n : ℕ) (others : List ℕ) →
+      IsOrdered both.receives (receives_in both.out) →
       both.receives.queue ≡ n ∷ others → mid ≡ record both { receives = record both.receives { queue = others } } →
       is_registered (phase_of mid.receives n) ≡ true
   receive-waits both mid n others was queue left =
       ap (λ (m : TwoSidesModel D E W). is_registered (phase_of m.receives n)) left
       ∙ first_registered both.receives (receives_in both.out) n others was queue
 
-  pub receive-unpaired : (both mid : TwoSidesModel D E W) (n : ℕ) (others : List ℕ) → IsOrdered both.receives (receives_in both.out) →
+  pub receive-unpaired : (both mid : TwoSidesModel D E W) (n : ℕ) (others : List ℕ) →
+      IsOrdered both.receives (receives_in both.out) →
       both.receives.queue ≡ n ∷ others → mid ≡ record both { receives = record both.receives { queue = others } } →
       has_by same_waiter (Receive n) mid.out ≡ false
   receive-unpaired both mid n others was queue left =
@@ -70,7 +77,10 @@ module _ {D E W : Type 0} where
 
   pub receive-told : (phase : Phase W) (both new : TwoSidesModel D E W) (n : ℕ) (others : List ℕ) →
       both.receives.queue ≡ n ∷ others → new ≡ notify_receive phase both n others →
-      new ≡ record both { receives = pop_oldest phase both.receives; out = both.out ++ of_receives (pair_of_oldest both.receives) }
+      new ≡ record both {
+        receives = pop_oldest phase both.receives;
+        out = both.out ++ of_receives (pair_of_oldest both.receives);
+      }
   receive-told phase both new n others queue now = now ∙ ap (λ (names : List ℕ).
       let v : TwoSidesModel D E W = record both {
         receives = pop_first phase both.receives names;

@@ -1,5 +1,5 @@
 -- The sends of both sides: what becomes of them when they are named, one after another.
-use Rattle.std.proofs.Common.{◌≡◌, ℕ, true, false, List, [], ◌∷◌, ◌++◌, Option, Some, sym, ap, subst, ◌∙◌}
+use Rattle.std.proofs.Common.{◌≡◌, ℕ, true, false, List, [], ◌∷◌, ◌++◌, Some, sym, ap, subst, ◌∙◌}
 use Rattle.fi_parts.specs.NamedPairs.{has_by}
 use Rattle.fi_parts.specs.Oldest.{complete_first, complete_oldest, pair_of_first, pair_of_oldest}
 use Rattle.fi_parts.specs.TwoSidesModel.{TwoSidesModel, notify_sends}
@@ -37,31 +37,37 @@ module _ {D E W : Type 0} where
       notify_sends phase (notify_send phase both n others) ≡ notify_sends phase both
   notify_sends-step phase both n others was queue =
       let side = emptied-step phase both.sends (sends_in both.out) n others was queue in
-      let out = marked-step (λ (p : ℕ × W). (Send p.0, p.1)) phase both.sends (sends_in both.out) both.out n others was queue in
+      let out =
+      marked-step (λ (p : ℕ × W). (Send p.0, p.1)) phase both.sends (sends_in both.out) both.out n others was queue in
       λ i. record both { sends = side i; out = out i }
 
-  pub notify_sends-none : (phase : Phase W) (both : TwoSidesModel D E W) → both.sends.queue ≡ [] → notify_sends phase both ≡ both
+  pub notify_sends-none : (phase : Phase W) (both : TwoSidesModel D E W) → both.sends.queue ≡ [] →
+      notify_sends phase both ≡ both
   notify_sends-none phase both none =
       let side = emptied-none phase both.sends none in
       let out = marked-none (λ (p : ℕ × W). (Send p.0, p.1)) phase both.sends both.out none in
       λ i. record both { sends = side i; out = out i }
 
-  pub send-ordered : (phase : Phase W) (both : TwoSidesModel D E W) (n : ℕ) (others : List ℕ) → may_be_named (Some phase) ≡ true →
+  pub send-ordered : (phase : Phase W) (both : TwoSidesModel D E W) (n : ℕ) (others : List ℕ) →
+      may_be_named (Some phase) ≡ true →
       IsOrdered both.sends (sends_in both.out) → both.sends.queue ≡ n ∷ others →
       IsOrdered (notify_send phase both n others).sends (sends_in (notify_send phase both n others).out)
   send-ordered phase both n others may was queue =
-      subst (λ (ps : List (ℕ × W)). IsOrdered (noticed phase both.sends n others) ps) (sym (sends-and_sends both.out (pair both.sends n)))
+      subst (λ (ps : List (ℕ × W)). IsOrdered (noticed phase both.sends n others) ps)
+      (sym (sends-and_sends both.out (pair both.sends n)))
       (ordered-next phase (record { side = both.sends; out = sends_in both.out }) n others may was queue)
 
   -- the first of the queue is registered, and has no pair
-  pub send-waits : (both mid : TwoSidesModel D E W) (n : ℕ) (others : List ℕ) → IsOrdered both.sends (sends_in both.out) →
+  pub send-waits : (both mid : TwoSidesModel D E W) (n : ℕ) (others : List ℕ) →
+      IsOrdered both.sends (sends_in both.out) →
       both.sends.queue ≡ n ∷ others → mid ≡ record both { sends = record both.sends { queue = others } } →
       is_registered (phase_of mid.sends n) ≡ true
   send-waits both mid n others was queue left =
       ap (λ (m : TwoSidesModel D E W). is_registered (phase_of m.sends n)) left
       ∙ first_registered both.sends (sends_in both.out) n others was queue
 
-  pub send-unpaired : (both mid : TwoSidesModel D E W) (n : ℕ) (others : List ℕ) → IsOrdered both.sends (sends_in both.out) →
+  pub send-unpaired : (both mid : TwoSidesModel D E W) (n : ℕ) (others : List ℕ) →
+      IsOrdered both.sends (sends_in both.out) →
       both.sends.queue ≡ n ∷ others → mid ≡ record both { sends = record both.sends { queue = others } } →
       has_by same_waiter (Send n) mid.out ≡ false
   send-unpaired both mid n others was queue left =
@@ -76,7 +82,11 @@ module _ {D E W : Type 0} where
       new ≡ record asked {
         sends = record asked.sends { live = with_phase asked.sends.live n Complete };
         out = asked.out ++ of_sends (pair asked.sends n);
-      } → new ≡ record both { sends = complete_oldest left both.sends; out = both.out ++ of_sends (pair_of_oldest both.sends) }
+      } → new ≡ record both {
+        sends =
+            complete_oldest left both.sends;
+        out = both.out ++ of_sends (pair_of_oldest both.sends);
+      }
   send-completed left both mid asked new n others queue gone is now =
       now
       ∙ ap (λ (m : TwoSidesModel D E W).
@@ -84,7 +94,9 @@ module _ {D E W : Type 0} where
         sends = record m.sends { live = with_phase m.sends.live n Complete };
         out = m.out ++ of_sends (pair m.sends n);
       } in v)
-      (is ∙ ap (λ (m : TwoSidesModel D E W). let v : TwoSidesModel D E W = record m { sends = exchange m.sends n left } in v) gone)
+      (is
+      ∙ ap (λ (m : TwoSidesModel D E W).
+      let v : TwoSidesModel D E W = record m { sends = exchange m.sends n left } in v) gone)
       ∙ (λ i. record both {
         sends = noticed Complete (exchange both.sends n left) n others;
         out = both.out ++ of_sends (pair_of n (phase-with_asks both.sends.live n left n i));

@@ -1,6 +1,6 @@
 -- The pairs of one side among those of both.
-use Rattle.std.proofs.Common.{◌≡◌, ◌≢◌, ℕ, Bool, true, false, not, eqb, ◌||◌, List, [], ◌∷◌, ◌++◌, Option, Some, None, cond, drop, refl, sym, ap, ◌∙◌, inl, inr}
-use Rattle.std.proofs.lemmas.Bool.{eqb-true, eq-eqb, or_from}
+use Rattle.std.proofs.Common.{◌≡◌, ℕ, Bool, true, false, not, eqb, ◌||◌, List, [], ◌∷◌, ◌++◌, Some, cond, refl, ap}
+use Rattle.std.proofs.lemmas.Bool.{eqb-true, eq-eqb}
 use Rattle.fi_parts.specs.Pairs.{has, waker_of, without_pair}
 use Rattle.fi_parts.specs.declared.two_sides.Waiter.{Waiter}
 use Rattle.fi_parts.specs.declared.two_sides.Waiter.TheVariants.{Send, Receive}
@@ -36,70 +36,85 @@ module _ {W : Type 0} where
   waker-sends n ((Send m, w) ∷ ps) = ap (λ o. cond (eqb n m) (Some w) o) (waker-sends n ps)
   waker-sends n ((Receive m, w) ∷ ps) = waker-sends n ps
 
-  pub waker-receives : (n : ℕ) (out : List (Waiter × W)) → waker_by same_waiter (Receive n) out ≡ waker_of n (receives_in out)
+  pub waker-receives : (n : ℕ) (out : List (Waiter × W)) →
+      waker_by same_waiter (Receive n) out ≡ waker_of n (receives_in out)
   waker-receives n [] = refl
   waker-receives n ((Send m, w) ∷ ps) = waker-receives n ps
   waker-receives n ((Receive m, w) ∷ ps) = ap (λ o. cond (eqb n m) (Some w) o) (waker-receives n ps)
 
-  pub sends-without : (n : ℕ) (out : List (Waiter × W)) → sends_in (without_by same_waiter (Send n) out) ≡ without_pair n (sends_in out)
+  pub sends-without : (n : ℕ) (out : List (Waiter × W)) →
+      sends_in (without_by same_waiter (Send n) out) ≡ without_pair n (sends_in out)
   sends-without n [] = refl
   sends-without n ((Send m, w) ∷ ps) = step (eqb n m) (sends-without n ps)
     where
       step : (b : Bool) → sends_in (without_by same_waiter (Send n) ps) ≡ without_pair n (sends_in ps) →
-          sends_in (cond (not b) ((Send m, w) ∷ without_by same_waiter (Send n) ps) (without_by same_waiter (Send n) ps)) ≡ cond (not b) ((m, w) ∷ without_pair n (sends_in ps)) (without_pair n (sends_in ps))
+          sends_in (cond (not b) ((Send m, w) ∷ without_by same_waiter (Send n) ps)
+          (without_by same_waiter (Send n) ps))
+          ≡ cond (not b) ((m, w) ∷ without_pair n (sends_in ps)) (without_pair n (sends_in ps))
       step true rest = rest
       step false rest = ap (λ qs. (m, w) ∷ qs) rest
   sends-without n ((Receive m, w) ∷ ps) = sends-without n ps
 
-  pub receives-without : (n : ℕ) (out : List (Waiter × W)) → receives_in (without_by same_waiter (Receive n) out) ≡ without_pair n (receives_in out)
+  pub receives-without : (n : ℕ) (out : List (Waiter × W)) →
+      receives_in (without_by same_waiter (Receive n) out) ≡ without_pair n (receives_in out)
   receives-without n [] = refl
   receives-without n ((Receive m, w) ∷ ps) = step (eqb n m) (receives-without n ps)
     where
       step : (b : Bool) → receives_in (without_by same_waiter (Receive n) ps) ≡ without_pair n (receives_in ps) →
-          receives_in (cond (not b) ((Receive m, w) ∷ without_by same_waiter (Receive n) ps) (without_by same_waiter (Receive n) ps)) ≡ cond (not b) ((m, w) ∷ without_pair n (receives_in ps)) (without_pair n (receives_in ps))
+          receives_in (cond (not b) ((Receive m, w) ∷ without_by same_waiter (Receive n) ps)
+          (without_by same_waiter (Receive n) ps))
+          ≡ cond (not b) ((m, w) ∷ without_pair n (receives_in ps)) (without_pair n (receives_in ps))
       step true rest = rest
       step false rest = ap (λ qs. (m, w) ∷ qs) rest
   receives-without n ((Send m, w) ∷ ps) = receives-without n ps
 
-  pub receives-without_send : (n : ℕ) (out : List (Waiter × W)) → receives_in (without_by same_waiter (Send n) out) ≡ receives_in out
+  pub receives-without_send : (n : ℕ) (out : List (Waiter × W)) →
+      receives_in (without_by same_waiter (Send n) out) ≡ receives_in out
   receives-without_send n [] = refl
   receives-without_send n ((Send m, w) ∷ ps) = step (eqb n m) (receives-without_send n ps)
     where
       step : (b : Bool) → receives_in (without_by same_waiter (Send n) ps) ≡ receives_in ps →
-          receives_in (cond (not b) ((Send m, w) ∷ without_by same_waiter (Send n) ps) (without_by same_waiter (Send n) ps)) ≡ receives_in ps
+          receives_in (cond (not b) ((Send m, w) ∷ without_by same_waiter (Send n) ps)
+          (without_by same_waiter (Send n) ps)) ≡ receives_in ps
       step true rest = rest
       step false rest = rest
   receives-without_send n ((Receive m, w) ∷ ps) = ap (λ qs. (m, w) ∷ qs) (receives-without_send n ps)
 
-  pub sends-without_receive : (n : ℕ) (out : List (Waiter × W)) → sends_in (without_by same_waiter (Receive n) out) ≡ sends_in out
+  pub sends-without_receive : (n : ℕ) (out : List (Waiter × W)) →
+      sends_in (without_by same_waiter (Receive n) out) ≡ sends_in out
   sends-without_receive n [] = refl
   sends-without_receive n ((Receive m, w) ∷ ps) = step (eqb n m) (sends-without_receive n ps)
     where
       step : (b : Bool) → sends_in (without_by same_waiter (Receive n) ps) ≡ sends_in ps →
-          sends_in (cond (not b) ((Receive m, w) ∷ without_by same_waiter (Receive n) ps) (without_by same_waiter (Receive n) ps)) ≡ sends_in ps
+          sends_in (cond (not b) ((Receive m, w) ∷ without_by same_waiter (Receive n) ps)
+          (without_by same_waiter (Receive n) ps)) ≡ sends_in ps
       step true rest = rest
       step false rest = rest
   sends-without_receive n ((Send m, w) ∷ ps) = ap (λ qs. (m, w) ∷ qs) (sends-without_receive n ps)
 
-  pub sends-and_sends : (out : List (Waiter × W)) (ps : List (ℕ × W)) → sends_in (out ++ of_sends ps) ≡ sends_in out ++ ps
+  pub sends-and_sends : (out : List (Waiter × W)) (ps : List (ℕ × W)) →
+      sends_in (out ++ of_sends ps) ≡ sends_in out ++ ps
   sends-and_sends [] [] = refl
   sends-and_sends [] (p ∷ ps) = ap (λ qs. p ∷ qs) (sends-and_sends [] ps)
   sends-and_sends ((Send m, w) ∷ out) ps = ap (λ qs. (m, w) ∷ qs) (sends-and_sends out ps)
   sends-and_sends ((Receive m, w) ∷ out) ps = sends-and_sends out ps
 
-  pub receives-and_receives : (out : List (Waiter × W)) (ps : List (ℕ × W)) → receives_in (out ++ of_receives ps) ≡ receives_in out ++ ps
+  pub receives-and_receives : (out : List (Waiter × W)) (ps : List (ℕ × W)) →
+      receives_in (out ++ of_receives ps) ≡ receives_in out ++ ps
   receives-and_receives [] [] = refl
   receives-and_receives [] (p ∷ ps) = ap (λ qs. p ∷ qs) (receives-and_receives [] ps)
   receives-and_receives ((Receive m, w) ∷ out) ps = ap (λ qs. (m, w) ∷ qs) (receives-and_receives out ps)
   receives-and_receives ((Send m, w) ∷ out) ps = receives-and_receives out ps
 
-  pub receives-and_sends : (out : List (Waiter × W)) (ps : List (ℕ × W)) → receives_in (out ++ of_sends ps) ≡ receives_in out
+  pub receives-and_sends : (out : List (Waiter × W)) (ps : List (ℕ × W)) →
+      receives_in (out ++ of_sends ps) ≡ receives_in out
   receives-and_sends [] [] = refl
   receives-and_sends [] (p ∷ ps) = receives-and_sends [] ps
   receives-and_sends ((Receive m, w) ∷ out) ps = ap (λ qs. (m, w) ∷ qs) (receives-and_sends out ps)
   receives-and_sends ((Send m, w) ∷ out) ps = receives-and_sends out ps
 
-  pub sends-and_receives : (out : List (Waiter × W)) (ps : List (ℕ × W)) → sends_in (out ++ of_receives ps) ≡ sends_in out
+  pub sends-and_receives : (out : List (Waiter × W)) (ps : List (ℕ × W)) →
+      sends_in (out ++ of_receives ps) ≡ sends_in out
   sends-and_receives [] [] = refl
   sends-and_receives [] (p ∷ ps) = sends-and_receives [] ps
   sends-and_receives ((Send m, w) ∷ out) ps = ap (λ qs. (m, w) ∷ qs) (sends-and_receives out ps)

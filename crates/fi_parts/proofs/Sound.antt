@@ -12,29 +12,42 @@ use Rattle.fi_parts.proofs.Queues.{has-without_same}
 use Rattle.fi_parts.proofs.Told.{phases-front_told, ordered-front_told}
 use Rattle.fi_parts.proofs.Waiting.{IsPlaceRule, registered_rule, ordered-without_place, Becomes, becomes-made, becomes-with_phase, becomes-forgotten, phase-emptied, noticed_phase, lives_as, ordered-empty, ordered-made, ordered-set_phase, ordered-registered, ordered-stays, ordered-forgotten, ordered-without_pair, ordered-drop, ordered-all_noticed}
 
-module _ {D W : Type 0} (place : Option (Phase W) → Bool) (rule : IsPlaceRule place) (allowed : Option (Phase W) → Bool) where
-  only-becomes : (old new : Side D W) (name : ℕ) (phase : Option (Phase W)) → ((q : ℕ) → allowed (phase_of old q) ≡ true) → Becomes old new name phase → allowed phase ≡ true → (q : ℕ) → allowed (phase_of new q) ≡ true
+module _ {D W : Type 0} (place : Option (Phase W) → Bool) (rule : IsPlaceRule place)
+    (allowed : Option (Phase W) → Bool) where
+  only-becomes : (old new : Side D W) (name : ℕ) (phase : Option (Phase W)) →
+      ((q : ℕ) → allowed (phase_of old q) ≡ true) → Becomes old new name phase → allowed phase ≡ true → (q : ℕ) →
+      allowed (phase_of new q) ≡ true
   only-becomes old new name phase only b is q = elim (cases_eq q name) [
     | inl same ↦ rw same (ap allowed b.here ∙ is)
     | inr ne ↦ ap allowed (b.others q ne) ∙ only q
   ]
 
   pub sound_by-empty : allowed None ≡ true → AreSoundBy place allowed (no_futures {D = D}) []
-  sound_by-empty is = record { ordered = ordered-empty place rule; only = λ q. ap (λ o. allowed (phase_in o)) (map.get-empty nat_cmp q) ∙ is }
+  sound_by-empty is = record {
+    ordered = ordered-empty place rule;
+    only = λ q. ap (λ o. allowed (phase_in o)) (map.get-empty nat_cmp q) ∙ is;
+  }
 
-  pub sound_by-made : (side : Side D W) (out : List (ℕ × W)) (name : ℕ) (asks : D) → allowed (Some Fresh) ≡ true → AreSoundBy place allowed side out → phase_of side name ≡ None → AreSoundBy place allowed (made side name asks) out
+  pub sound_by-made : (side : Side D W) (out : List (ℕ × W)) (name : ℕ) (asks : D) → allowed (Some Fresh) ≡ true →
+      AreSoundBy place allowed side out → phase_of side name ≡ None → AreSoundBy place allowed (made side name asks) out
   sound_by-made side out name asks is was free = record {
     ordered = ordered-made place rule side out name asks was.ordered free;
     only = only-becomes side (made side name asks) name (Some Fresh) was.only (becomes-made side name asks) is;
   }
 
-  pub sound_by-without_pair : (side : Side D W) (out : List (ℕ × W)) (name : ℕ) → AreSoundBy place allowed side out → AreSoundBy place allowed side (without_pair name out)
-  sound_by-without_pair side out name was = record { ordered = ordered-without_pair place rule side out name was.ordered; only = was.only }
+  pub sound_by-without_pair : (side : Side D W) (out : List (ℕ × W)) (name : ℕ) → AreSoundBy place allowed side out →
+      AreSoundBy place allowed side (without_pair name out)
+  sound_by-without_pair side out name was = record {
+    ordered = ordered-without_pair place rule side out name was.ordered;
+    only = was.only;
+  }
 
-  pub sound_by-drop : (side : Side D W) (out : List (ℕ × W)) → AreSoundBy place allowed side out → AreSoundBy place allowed side (drop 1 out)
+  pub sound_by-drop : (side : Side D W) (out : List (ℕ × W)) → AreSoundBy place allowed side out →
+      AreSoundBy place allowed side (drop 1 out)
   sound_by-drop side out was = record { ordered = ordered-drop place rule side out was.ordered; only = was.only }
 
-  pub sound_by-forgotten : (side : Side D W) (out : List (ℕ × W)) (name : ℕ) → allowed None ≡ true → AreSoundBy place allowed side out → AreSoundBy place allowed (forgotten side name) (without_pair name out)
+  pub sound_by-forgotten : (side : Side D W) (out : List (ℕ × W)) (name : ℕ) → allowed None ≡ true →
+      AreSoundBy place allowed side out → AreSoundBy place allowed (forgotten side name) (without_pair name out)
   sound_by-forgotten side out name is was = record {
     ordered = ordered-forgotten place rule side out name was.ordered;
     only = only-becomes side (forgotten side name) name None was.only (becomes-forgotten side name) is;
@@ -49,48 +62,69 @@ module _ {D W : Type 0} (place : Option (Phase W) → Bool) (rule : IsPlaceRule 
       let new : Side D W = record side { live = with_phase side.live name phase } in
       let lives = lives_as side name before stood in
       record {
-        ordered = ordered-set_phase place rule phase side _ name off may (ordered-without_pair place rule side out name was.ordered) lives (ap place stood ∙ apart);
-        only = only-becomes side new name (Some phase) was.only (becomes-with_phase side name phase side.queue lives) is;
+        ordered = ordered-set_phase place rule phase side _ name off may
+            (ordered-without_pair place rule side out name was.ordered) lives (ap place stood ∙ apart);
+        only = only-becomes side new name (Some phase) was.only (becomes-with_phase side name phase side.queue lives)
+            is;
       }
 
   -- a poll that ended one that has no place
-  pub sound_by-ended : (side : Side D W) (out : List (ℕ × W)) (name : ℕ) (before : Phase W) → allowed (Some Ended) ≡ true →
+  pub sound_by-ended : (side : Side D W) (out : List (ℕ × W)) (name : ℕ) (before : Phase W) →
+      allowed (Some Ended) ≡ true →
       AreSoundBy place allowed side out → phase_of side name ≡ Some before → place (Some before) ≡ false →
       AreSoundBy place allowed (ended side name) (without_pair name out)
-  sound_by-ended side out name before is was stood apart = sound_by-set_phase Ended side out name before rule.ended refl is was stood apart
+  sound_by-ended side out name before is was stood apart =
+      sound_by-set_phase Ended side out name before rule.ended refl is was stood apart
 
   -- a poll that registered one
-  pub sound_by-registered : (side : Side D W) (out : List (ℕ × W)) (name : ℕ) (waker : W) (before : Phase W) → allowed (Some (Registered waker)) ≡ true → AreSoundBy place allowed side out → phase_of side name ≡ Some before → place (Some before) ≡ false →
+  pub sound_by-registered : (side : Side D W) (out : List (ℕ × W)) (name : ℕ) (waker : W) (before : Phase W) →
+      allowed (Some (Registered waker)) ≡ true → AreSoundBy place allowed side out → phase_of side name ≡ Some before →
+      place (Some before) ≡ false →
       AreSoundBy place allowed (registered side name waker) (without_pair name out)
   sound_by-registered side out name waker before is was stood apart = record {
-    ordered = ordered-registered place rule side _ name waker (ordered-without_pair place rule side out name was.ordered) (lives_as side name before stood) (ap place stood ∙ apart) (has-without_same name out);
-    only = only-becomes side (registered side name waker) name (Some (Registered waker)) was.only (becomes-with_phase side name (Registered waker) _ (lives_as side name before stood)) is;
+    ordered = ordered-registered place rule side _ name waker
+        (ordered-without_pair place rule side out name was.ordered) (lives_as side name before stood)
+        (ap place stood ∙ apart) (has-without_same name out);
+    only = only-becomes side (registered side name waker) name (Some (Registered waker)) was.only
+        (becomes-with_phase side name (Registered waker) _ (lives_as side name before stood)) is;
   }
 
   -- a poll that left one registered
-  pub sound_by-stays : (side : Side D W) (out : List (ℕ × W)) (name : ℕ) (waker before : W) → allowed (Some (Registered waker)) ≡ true → AreSoundBy place allowed side out → phase_of side name ≡ Some (Registered before) →
+  pub sound_by-stays : (side : Side D W) (out : List (ℕ × W)) (name : ℕ) (waker before : W) →
+      allowed (Some (Registered waker)) ≡ true → AreSoundBy place allowed side out →
+      phase_of side name ≡ Some (Registered before) →
       AreSoundBy place allowed (stays side name waker) (without_pair name out)
   sound_by-stays side out name waker before is was stood = record {
-    ordered = ordered-stays place rule side _ name waker (ordered-without_pair place rule side out name was.ordered) (ap is_registered stood);
-    only = only-becomes side (stays side name waker) name (Some (Registered waker)) was.only (becomes-with_phase side name (Registered waker) side.queue (lives_as side name (Registered before) stood)) is;
+    ordered = ordered-stays place rule side _ name waker (ordered-without_pair place rule side out name was.ordered)
+        (ap is_registered stood);
+    only = only-becomes side (stays side name waker) name (Some (Registered waker)) was.only
+        (becomes-with_phase side name (Registered waker) side.queue (lives_as side name (Registered before) stood)) is;
   }
 
   -- a poll that ended one and took it out of the queue, where it had a place
-  pub sound_by-without_place : (side : Side D W) (out : List (ℕ × W)) (name : ℕ) (before : Phase W) → allowed (Some Ended) ≡ true → AreSoundBy place allowed side out → phase_of side name ≡ Some before →
+  pub sound_by-without_place : (side : Side D W) (out : List (ℕ × W)) (name : ℕ) (before : Phase W) →
+      allowed (Some Ended) ≡ true → AreSoundBy place allowed side out → phase_of side name ≡ Some before →
       AreSoundBy place allowed (without_place Ended side name) (without_pair name out)
   sound_by-without_place side out name before is was stood = record {
-    ordered = ordered-without_place place rule Ended side _ name rule.ended refl (ordered-without_pair place rule side out name was.ordered) (lives_as side name before stood);
-    only = only-becomes side (without_place Ended side name) name (Some Ended) was.only (becomes-with_phase side name Ended _ (lives_as side name before stood)) is;
+    ordered = ordered-without_place place rule Ended side _ name rule.ended refl
+        (ordered-without_pair place rule side out name was.ordered) (lives_as side name before stood);
+    only = only-becomes side (without_place Ended side name) name (Some Ended) was.only
+        (becomes-with_phase side name Ended _ (lives_as side name before stood)) is;
   }
 
   -- a front of the queue was told
-  pub sound_by-front_told : (keeps : Bool) → place (Some Told) ≡ keeps → allowed (Some Told) ≡ true → (w : Waiting D W) (front rest : List ℕ) → w.side.queue ≡ front ++ rest → AreSoundBy place allowed w.side w.out →
+  pub sound_by-front_told : (keeps : Bool) → place (Some Told) ≡ keeps → allowed (Some Told) ≡ true →
+      (w : Waiting D W) (front rest : List ℕ) → w.side.queue ≡ front ++ rest → AreSoundBy place allowed w.side w.out →
       AreSoundBy place allowed (front_told keeps w front rest).side (front_told keeps w front rest).out
   sound_by-front_told keeps told is w front rest split was =
       let now = phases-front_told place rule keeps w front rest was.ordered split in
       record {
         ordered = ordered-front_told place rule keeps told w front rest was.ordered split;
-        only = λ q. elim (cases_Bool (holds q front)) [ inl at ↦ ap allowed (now.told q at) ∙ is | inr off ↦ ap allowed (now.others q off) ∙ was.only q ];
+        only = λ q.
+            elim (cases_Bool (holds q front)) [
+              | inl at ↦ ap allowed (now.told q at) ∙ is
+              | inr off ↦ ap allowed (now.others q off) ∙ was.only q
+            ];
       }
 
 -- The same where the registered ones alone are queued.
@@ -98,16 +132,21 @@ module _ {D W : Type 0} (allowed : Option (Phase W) → Bool) where
   pub sound-empty : allowed None ≡ true → AreSound allowed (no_futures {D = D}) []
   sound-empty is = sound_by-empty is_registered registered_rule allowed is
 
-  pub sound-made : (side : Side D W) (out : List (ℕ × W)) (name : ℕ) (asks : D) → allowed (Some Fresh) ≡ true → AreSound allowed side out → phase_of side name ≡ None → AreSound allowed (made side name asks) out
-  sound-made side out name asks is was free = sound_by-made is_registered registered_rule allowed side out name asks is was free
+  pub sound-made : (side : Side D W) (out : List (ℕ × W)) (name : ℕ) (asks : D) → allowed (Some Fresh) ≡ true →
+      AreSound allowed side out → phase_of side name ≡ None → AreSound allowed (made side name asks) out
+  sound-made side out name asks is was free =
+      sound_by-made is_registered registered_rule allowed side out name asks is was free
 
-  pub sound-without_pair : (side : Side D W) (out : List (ℕ × W)) (name : ℕ) → AreSound allowed side out → AreSound allowed side (without_pair name out)
+  pub sound-without_pair : (side : Side D W) (out : List (ℕ × W)) (name : ℕ) → AreSound allowed side out →
+      AreSound allowed side (without_pair name out)
   sound-without_pair side out name was = sound_by-without_pair is_registered registered_rule allowed side out name was
 
-  pub sound-drop : (side : Side D W) (out : List (ℕ × W)) → AreSound allowed side out → AreSound allowed side (drop 1 out)
+  pub sound-drop : (side : Side D W) (out : List (ℕ × W)) → AreSound allowed side out →
+      AreSound allowed side (drop 1 out)
   sound-drop side out was = sound_by-drop is_registered registered_rule allowed side out was
 
-  pub sound-forgotten : (side : Side D W) (out : List (ℕ × W)) (name : ℕ) → allowed None ≡ true → AreSound allowed side out → AreSound allowed (forgotten side name) (without_pair name out)
+  pub sound-forgotten : (side : Side D W) (out : List (ℕ × W)) (name : ℕ) → allowed None ≡ true →
+      AreSound allowed side out → AreSound allowed (forgotten side name) (without_pair name out)
   sound-forgotten side out name is was = sound_by-forgotten is_registered registered_rule allowed side out name is was
 
   -- a poll that set the phase of one that was not registered, to one that is not
@@ -119,22 +158,31 @@ module _ {D W : Type 0} (allowed : Option (Phase W) → Bool) where
       sound_by-set_phase is_registered registered_rule allowed phase side out name before off may is was stood apart
 
   -- a poll that ended one that was not registered
-  pub sound-ended : (side : Side D W) (out : List (ℕ × W)) (name : ℕ) (before : Phase W) → allowed (Some Ended) ≡ true → AreSound allowed side out → phase_of side name ≡ Some before → is_registered (Some before) ≡ false →
+  pub sound-ended : (side : Side D W) (out : List (ℕ × W)) (name : ℕ) (before : Phase W) → allowed (Some Ended) ≡ true →
+      AreSound allowed side out → phase_of side name ≡ Some before → is_registered (Some before) ≡ false →
       AreSound allowed (ended side name) (without_pair name out)
-  sound-ended side out name before is was stood apart = sound_by-ended is_registered registered_rule allowed side out name before is was stood apart
+  sound-ended side out name before is was stood apart =
+      sound_by-ended is_registered registered_rule allowed side out name before is was stood apart
 
   -- a poll that registered one
-  pub sound-registered : (side : Side D W) (out : List (ℕ × W)) (name : ℕ) (waker : W) (before : Phase W) → allowed (Some (Registered waker)) ≡ true → AreSound allowed side out → phase_of side name ≡ Some before → is_registered (Some before) ≡ false →
+  pub sound-registered : (side : Side D W) (out : List (ℕ × W)) (name : ℕ) (waker : W) (before : Phase W) →
+      allowed (Some (Registered waker)) ≡ true → AreSound allowed side out → phase_of side name ≡ Some before →
+      is_registered (Some before) ≡ false →
       AreSound allowed (registered side name waker) (without_pair name out)
-  sound-registered side out name waker before is was stood apart = sound_by-registered is_registered registered_rule allowed side out name waker before is was stood apart
+  sound-registered side out name waker before is was stood apart =
+      sound_by-registered is_registered registered_rule allowed side out name waker before is was stood apart
 
   -- a poll that left one registered
-  pub sound-stays : (side : Side D W) (out : List (ℕ × W)) (name : ℕ) (waker before : W) → allowed (Some (Registered waker)) ≡ true → AreSound allowed side out → phase_of side name ≡ Some (Registered before) →
+  pub sound-stays : (side : Side D W) (out : List (ℕ × W)) (name : ℕ) (waker before : W) →
+      allowed (Some (Registered waker)) ≡ true → AreSound allowed side out →
+      phase_of side name ≡ Some (Registered before) →
       AreSound allowed (stays side name waker) (without_pair name out)
-  sound-stays side out name waker before is was stood = sound_by-stays is_registered registered_rule allowed side out name waker before is was stood
+  sound-stays side out name waker before is was stood =
+      sound_by-stays is_registered registered_rule allowed side out name waker before is was stood
 
   -- the whole queue was named
-  pub sound-emptied : (phase : Phase W) (side : Side D W) (out : List (ℕ × W)) → allowed (Some phase) ≡ true → may_be_named (Some phase) ≡ true → AreSound allowed side out →
+  pub sound-emptied : (phase : Phase W) (side : Side D W) (out : List (ℕ × W)) → allowed (Some phase) ≡ true →
+      may_be_named (Some phase) ≡ true → AreSound allowed side out →
       AreSound allowed (emptied phase side) (out ++ named_all side)
   sound-emptied phase side out is may was = record {
     ordered = ordered-all_noticed phase side.queue (record { side = side; out = out }) may refl was.ordered;
@@ -150,10 +198,14 @@ module _ {D W : Type 0} (allowed : Option (Phase W) → Bool) where
       each (Some Ended) h = h
 
   -- who is registered now was registered before, where nobody joined the queue
-  pub was_registered : (old new : Side D W) (out after : List (ℕ × W)) → AreSound allowed old out → AreSound allowed new after → ((q : ℕ) → holds q new.queue ≡ true → holds q old.queue ≡ true) →
+  pub was_registered : (old new : Side D W) (out after : List (ℕ × W)) → AreSound allowed old out →
+      AreSound allowed new after → ((q : ℕ) → holds q new.queue ≡ true → holds q old.queue ≡ true) →
       (q : ℕ) → is_registered (phase_of new q) ≡ true → is_registered (phase_of old q) ≡ true
-  was_registered old new out after was is queues q now = sym (was.ordered.queued q) ∙ queues q (is.ordered.queued q ∙ now)
+  was_registered old new out after was is queues q now =
+      sym (was.ordered.queued q) ∙ queues q (is.ordered.queued q ∙ now)
 
   -- in an empty queue nobody is registered
-  pub none_registered : (side : Side D W) (out : List (ℕ × W)) → AreSound allowed side out → side.queue ≡ [] → (q : ℕ) → is_registered (phase_of side q) ≡ true → ⊥
-  none_registered side out was empty q now = both_ways (holds q side.queue) (ap (holds q) empty) (was.ordered.queued q ∙ now)
+  pub none_registered : (side : Side D W) (out : List (ℕ × W)) → AreSound allowed side out → side.queue ≡ [] → (q : ℕ) →
+      is_registered (phase_of side q) ≡ true → ⊥
+  none_registered side out was empty q now =
+      both_ways (holds q side.queue) (ap (holds q) empty) (was.ordered.queued q ∙ now)

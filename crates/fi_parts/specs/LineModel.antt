@@ -1,5 +1,5 @@
 -- One line of waiting futures, each with a ticket in an outbox that may serve other lines too.
-use Rattle.std.specs.Prelude.{◌≡◌, ℕ, Option, Some, None, List, map, reverse, refl}
+use Rattle.std.specs.Prelude.{ℕ, map, reverse, refl}
 use Rattle.std.specs.Coded.{Coded, code_by, coded×, coded_ℕ}
 use Rattle.std.specs.Ordering.{nat_cmp}
 use Rattle.std.specs.FinMap as finmap

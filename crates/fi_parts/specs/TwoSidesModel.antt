@@ -1,5 +1,5 @@
 -- Sends and receives that wait, over one outbox.
-use Rattle.std.specs.Prelude.{◌≡◌, Bool, Option, List, [], ◌++◌, refl}
+use Rattle.std.specs.Prelude.{Bool, Option, List, [], ◌++◌, refl}
 use Rattle.std.specs.Coded.{Coded, code_by, coded×, coded_list}
 use Rattle.fi_parts.specs.Codes.{side_code}
 use Rattle.fi_parts.specs.LineModel.{LineModel}

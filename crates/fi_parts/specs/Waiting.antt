@@ -73,7 +73,8 @@ module _ {D W : Type 0} where
   abbrev pub IsLive : Side D W → ℕ → Type 0
   IsLive side name = IsSome (map.get side.live name)
 
-  abbrev pub rephased : map.FinMap nat_cmp (Future D W) → ℕ → Phase W → Option (Future D W) → map.FinMap nat_cmp (Future D W)
+  abbrev pub rephased : map.FinMap nat_cmp (Future D W) → ℕ → Phase W → Option (Future D W) →
+      map.FinMap nat_cmp (Future D W)
   rephased live name phase None = live
   rephased live name phase (Some future) = map.insert live name (record future { phase = phase })
 
@@ -81,7 +82,8 @@ module _ {D W : Type 0} where
   unfoldable pub with_phase : map.FinMap nat_cmp (Future D W) → ℕ → Phase W → map.FinMap nat_cmp (Future D W)
   with_phase live name phase = rephased live name phase (map.get live name)
 
-  abbrev pub with_asks_in : map.FinMap nat_cmp (Future D W) → ℕ → D → Option (Future D W) → map.FinMap nat_cmp (Future D W)
+  abbrev pub with_asks_in : map.FinMap nat_cmp (Future D W) → ℕ → D → Option (Future D W) →
+      map.FinMap nat_cmp (Future D W)
   with_asks_in live name asks None = live
   with_asks_in live name asks (Some future) = map.insert live name (record future { asks = asks })
 
@@ -103,7 +105,10 @@ module _ {D W : Type 0} where
 
   -- it has this waker, and goes to the end of the queue
   abbrev pub registered : Side D W → ℕ → W → Side D W
-  registered side name waker = record { live = with_phase side.live name (Registered waker); queue = side.queue ++ name ∷ [] }
+  registered side name waker = record {
+    live = with_phase side.live name (Registered waker);
+    queue = side.queue ++ name ∷ [];
+  }
 
   -- it has this waker, and keeps its place
   abbrev pub stays : Side D W → ℕ → W → Side D W
@@ -186,7 +191,10 @@ module _ {D W : Type 0} where
   -- A future of the queue is told, and named if it was registered. It keeps its place, or else leaves the queue.
   abbrev pub told_one : Bool → Waiting D W → ℕ → Waiting D W
   told_one keeps w name = record {
-    side = record { live = with_phase w.side.live name Told; queue = if keeps then w.side.queue else without name w.side.queue };
+    side = record {
+      live = with_phase w.side.live name Told;
+      queue = if keeps then w.side.queue else without name w.side.queue;
+    };
     out = w.out ++ pair w.side name;
   }
 

@@ -14,13 +14,25 @@ pub free-requires-clause-apart : goal.free-requires-clause-apart
 free-requires-clause-apart g c = rw c.remove.ensures.order (holds-without_same c.args.slot.0 c.self.inside.list.order)
 
 pub returns-clause-ticket : goal.returns-clause-ticket
-returns-clause-ticket g c = rw (← c.self.view_is) (its_ticket c.self.inside.list c.args.slot.0 c.free.result (ap (λ l. map.get l c.args.slot.0) (sym c.remove.ensures.live) ∙ c.free.ensures.value))
+returns-clause-ticket g c =
+    rw (← c.self.view_is)
+    (its_ticket c.self.inside.list c.args.slot.0 c.free.result
+    (ap (λ l. map.get l c.args.slot.0) (sym c.remove.ensures.live) ∙ c.free.ensures.value))
 
 pub returns-clause-asked : goal.returns-clause-asked
-returns-clause-asked g c = rw (← c.self.view_is) (its_asks c.self.inside.list c.args.slot.0 c.free.result (ap (λ l. map.get l c.args.slot.0) (sym c.remove.ensures.live) ∙ c.free.ensures.value))
+returns-clause-asked g c =
+    rw (← c.self.view_is)
+    (its_asks c.self.inside.list c.args.slot.0 c.free.result
+    (ap (λ l. map.get l c.args.slot.0) (sym c.remove.ensures.live) ∙ c.free.ensures.value))
 
 pub returns-clause-phase : goal.returns-clause-phase
-returns-clause-phase g c = rw (← c.self.view_is) (its_phase c.self.inside.list c.args.slot.0 c.free.result (ap (λ l. map.get l c.args.slot.0) (sym c.remove.ensures.live) ∙ c.free.ensures.value))
+returns-clause-phase g c =
+    rw (← c.self.view_is)
+    (its_phase c.self.inside.list c.args.slot.0 c.free.result
+    (ap (λ l. map.get l c.args.slot.0) (sym c.remove.ensures.live) ∙ c.free.ensures.value))
 
 pub returns-clause-removed : goal.returns-clause-removed
-returns-clause-removed g c = rw (← c.self.view_is) (seen-removed c.self.inside.list c.args.slot.0 c.remove.new.self c.free.new.self c.remove.ensures.live c.remove.ensures.order c.free.ensures.freed)
+returns-clause-removed g c =
+    rw (← c.self.view_is)
+    (seen-removed c.self.inside.list c.args.slot.0 c.remove.new.self c.free.new.self c.remove.ensures.live
+    c.remove.ensures.order c.free.ensures.freed)

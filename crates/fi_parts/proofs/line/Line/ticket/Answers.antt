@@ -4,7 +4,12 @@ use Rattle.fi_parts.proofs.Lines.{its_ticket}
 use Rattle.fi_parts.proofs.line.Line.ticket.Goals as goal
 
 pub unwrap-requires : goal.unwrap-requires
-unwrap-requires g c = some_from_copied c.get.result (ap is_some c.get.ensures ∙ entry_lives c.self.inside.list.live c.args.slot.0 (rw (← c.self.view_is) at c.requires))
+unwrap-requires g c =
+    some_from_copied c.get.result
+    (ap is_some c.get.ensures ∙ entry_lives c.self.inside.list.live c.args.slot.0 (rw (← c.self.view_is) at c.requires))
 
 pub returns : goal.returns
-returns g c = rw (← c.self.view_is) (its_ticket c.self.inside.list c.args.slot.0 c.unwrap.result.now (sym c.get.ensures ∙ ap option_copied c.unwrap.ensures))
+returns g c =
+    rw (← c.self.view_is)
+    (its_ticket c.self.inside.list c.args.slot.0 c.unwrap.result.now
+    (sym c.get.ensures ∙ ap option_copied c.unwrap.ensures))

@@ -28,4 +28,5 @@ pub returns-clause-rest : goal.returns-clause-rest
 returns-clause-rest g c =
     let one = c.in_ok-slot.ensures in
     send-completed c.args.left c.args.self.now c.leave_oldest_send.new.self c.exchange_send-asked.new.self
-    c.notice_send.new.self c.in_ok-slot.slot.0 one.0 one.1 one.2 c.exchange_send-asked.ensures.rest c.notice_send.ensures
+    c.notice_send.new.self c.in_ok-slot.slot.0 one.0 one.1 one.2 c.exchange_send-asked.ensures.rest
+    c.notice_send.ensures

@@ -6,7 +6,8 @@ pub invariant_of-self : goal.invariant_of-self
 invariant_of-self g c =
     let now = c.in-Ok.ensures.inserted in
     let s = c.self.inside in
-    rw (now.2, now.3) (receive-inserted s.sends.tickets s.receives.tickets s.outbox c.self.invariant c.in-Ok.slot.0 now.0
+    rw (now.2, now.3)
+    (receive-inserted s.sends.tickets s.receives.tickets s.outbox c.self.invariant c.in-Ok.slot.0 now.0
     c.in-Ok.ensures.no_ticket now.1)
 
 pub invariant_of-self-2 : goal.invariant_of-self-2

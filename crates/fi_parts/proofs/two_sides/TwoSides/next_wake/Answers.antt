@@ -13,7 +13,8 @@ invariant_of-self g c =
 
 pub returns-clause-value : goal.returns-clause-value
 returns-clause-value g c =
-    rw (← c.self.view_is) (c.waker_from.ensures ∙ ap waker_in_pair c.pop.ensures.value ∙ first-out c.self.inside.outbox.pairs)
+    rw (← c.self.view_is)
+    (c.waker_from.ensures ∙ ap waker_in_pair c.pop.ensures.value ∙ first-out c.self.inside.outbox.pairs)
 
 pub returns-clause-rest : goal.returns-clause-rest
 returns-clause-rest g c =

@@ -8,12 +8,14 @@ use Rattle.fi_parts.proofs.two_sides.TwoSides.notice_all_receives.Goals as goal
 pub notice_receive-requires-clause-registered : goal.notice_receive-requires-clause-registered
 notice_receive-requires-clause-registered g c =
     let one = c.in-Some.ensures in
-    receive-waits c.loop-slot.self c.leave_oldest_receive.new.self c.in-Some.slot.0 one.0 c.loop-slot.invariant.ordered one.1 one.2
+    receive-waits c.loop-slot.self c.leave_oldest_receive.new.self c.in-Some.slot.0 one.0 c.loop-slot.invariant.ordered
+    one.1 one.2
 
 pub notice_receive-requires-clause-no_pair : goal.notice_receive-requires-clause-no_pair
 notice_receive-requires-clause-no_pair g c =
     let one = c.in-Some.ensures in
-    receive-unpaired c.loop-slot.self c.leave_oldest_receive.new.self c.in-Some.slot.0 one.0 c.loop-slot.invariant.ordered one.1 one.2
+    receive-unpaired c.loop-slot.self c.leave_oldest_receive.new.self c.in-Some.slot.0 one.0
+    c.loop-slot.invariant.ordered one.1 one.2
 
 pub returns : goal.returns
 returns g c =
@@ -31,6 +33,7 @@ loop-slot-preserved g c =
     (rw (← c.phase.ensures) c.notice_receive.ensures) in
     let was = c.loop-slot.invariant.ordered in
     record {
-      all = ap (notify_receives phase) is ∙ notify_receives-step phase now slot one.0 was one.1 ∙ c.loop-slot.invariant.all;
+      all = ap (notify_receives phase) is ∙ notify_receives-step phase now slot one.0 was one.1
+          ∙ c.loop-slot.invariant.all;
       ordered = rw is (receive-ordered phase now slot one.0 (notices _ c.args.notice) was one.1);
     }

@@ -8,12 +8,14 @@ use Rattle.fi_parts.proofs.two_sides.TwoSides.notice_all_sends.Goals as goal
 pub notice_send-requires-clause-registered : goal.notice_send-requires-clause-registered
 notice_send-requires-clause-registered g c =
     let one = c.in-Some.ensures in
-    send-waits c.loop-slot.self c.leave_oldest_send.new.self c.in-Some.slot.0 one.0 c.loop-slot.invariant.ordered one.1 one.2
+    send-waits c.loop-slot.self c.leave_oldest_send.new.self c.in-Some.slot.0 one.0 c.loop-slot.invariant.ordered one.1
+    one.2
 
 pub notice_send-requires-clause-no_pair : goal.notice_send-requires-clause-no_pair
 notice_send-requires-clause-no_pair g c =
     let one = c.in-Some.ensures in
-    send-unpaired c.loop-slot.self c.leave_oldest_send.new.self c.in-Some.slot.0 one.0 c.loop-slot.invariant.ordered one.1 one.2
+    send-unpaired c.loop-slot.self c.leave_oldest_send.new.self c.in-Some.slot.0 one.0 c.loop-slot.invariant.ordered
+    one.1 one.2
 
 pub returns : goal.returns
 returns g c =

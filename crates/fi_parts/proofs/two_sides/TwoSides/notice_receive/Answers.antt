@@ -10,7 +10,8 @@ use Rattle.fi_parts.proofs.Waiting.{live_if_registered}
 use Rattle.fi_parts.proofs.two_sides.TwoSides.notice_receive.Goals as goal
 
 pub ticket-ticket-requires : goal.ticket-ticket-requires
-ticket-ticket-requires g c = rw (← c.self.view_is) at (live_if_registered c.args.self.now.receives c.args.slot.0 c.requires.registered)
+ticket-ticket-requires g c =
+    rw (← c.self.view_is) at (live_if_registered c.args.self.now.receives c.args.slot.0 c.requires.registered)
 
 pub set_phase-waker-requires : goal.set_phase-waker-requires
 set_phase-waker-requires g c =
@@ -24,19 +25,23 @@ unwrap-requires g c =
     some_is c.set_phase-waker.result its.0 its.2
 
 pub name-requires-clause-live : goal.name-requires-clause-live
-name-requires-clause-live g c = c.self.invariant.claimed (Receive c.args.slot.0) c.ticket-ticket.result.0 c.ticket-ticket.ensures
+name-requires-clause-live g c =
+    c.self.invariant.claimed (Receive c.args.slot.0) c.ticket-ticket.result.0 c.ticket-ticket.ensures
 
 pub name-requires-clause-no_pair : goal.name-requires-clause-no_pair
 name-requires-clause-no_pair g c =
     let s = c.self.inside in
-    sym (has_out s.sends.tickets s.receives.tickets s.outbox c.self.invariant (Receive c.args.slot.0) c.ticket-ticket.result.0
+    sym
+    (has_out s.sends.tickets s.receives.tickets s.outbox c.self.invariant (Receive c.args.slot.0)
+    c.ticket-ticket.result.0
     c.ticket-ticket.ensures) ∙ (rw (← c.self.view_is) at c.requires.no_pair)
 
 pub invariant_of-self : goal.invariant_of-self
 invariant_of-self g c =
     let s = c.self.inside in
     rw c.set_phase-waker.ensures.rest (tied_after_name (ticket_of_waiter s.sends.tickets s.receives.tickets) s.outbox
-    c.self.invariant (Receive c.args.slot.0) c.ticket-ticket.result.0 c.unwrap.result c.name.new.self c.ticket-ticket.ensures
+    c.self.invariant (Receive c.args.slot.0) c.ticket-ticket.result.0 c.unwrap.result c.name.new.self
+    c.ticket-ticket.ensures
     c.name.ensures.tickets c.name.ensures.pairs)
 
 pub returns : goal.returns

@@ -13,7 +13,8 @@ ticket-ticket-requires g c = rw (← c.self.view_is) at c.requires
 pub invariant_of-self : goal.invariant_of-self
 invariant_of-self g c =
     let s = c.self.inside in
-    tied_after_take_out (ticket_of_waiter s.sends.tickets s.receives.tickets) s.outbox c.self.invariant c.ticket-ticket.result.0
+    tied_after_take_out (ticket_of_waiter s.sends.tickets s.receives.tickets) s.outbox c.self.invariant
+    c.ticket-ticket.result.0
     c.take_out.new.self c.take_out.ensures.tickets c.take_out.ensures.pairs
 
 pub returns-clause-rest : goal.returns-clause-rest
@@ -22,12 +23,14 @@ returns-clause-rest g c =
     let name = Send c.args.slot.0 in
     let out : out_of c.take_out.new.self.pairs ≡ without_by same_waiter name (out_of s.outbox.pairs) =
     ap out_of c.take_out.ensures.pairs
-    ∙ out_without s.sends.tickets s.receives.tickets s.outbox c.self.invariant name c.ticket-ticket.result.0 c.ticket-ticket.ensures in
+    ∙ out_without s.sends.tickets s.receives.tickets s.outbox c.self.invariant name c.ticket-ticket.result.0
+    c.ticket-ticket.ensures in
     rw (← c.self.view_is) (λ i. record { sends = s.sends.side; receives = s.receives.side; out = out i })
 
 pub returns-clause-waker : goal.returns-clause-waker
 returns-clause-waker g c =
     let s = c.self.inside in
     c.waker_from.ensures ∙ ap waker_in_pair c.take_out.ensures.value
-    ∙ (rw (← c.self.view_is) (waker_out s.sends.tickets s.receives.tickets s.outbox c.self.invariant (Send c.args.slot.0)
+    ∙ (rw (← c.self.view_is)
+    (waker_out s.sends.tickets s.receives.tickets s.outbox c.self.invariant (Send c.args.slot.0)
     c.ticket-ticket.result.0 c.ticket-ticket.ensures))

@@ -7,12 +7,17 @@ use Rattle.fi_parts.proofs.Tied.{out-drop, tied_after_pop}
 use Rattle.fi_parts.proofs.waits.Waits.next_wake.Goals as goal
 
 pub invariant_of-self : goal.invariant_of-self
-invariant_of-self g c = tied_after_pop (map.get c.self.inside.line.tickets) c.self.inside.outbox c.self.invariant c.pop.new.self c.pop.ensures.tickets c.pop.ensures.pairs
+invariant_of-self g c =
+    tied_after_pop (map.get c.self.inside.line.tickets) c.self.inside.outbox c.self.invariant c.pop.new.self
+    c.pop.ensures.tickets c.pop.ensures.pairs
 
 pub returns-clause-value : goal.returns-clause-value
-returns-clause-value g c = rw (← c.self.view_is) (c.waker_from.ensures ∙ ap waker_in_pair c.pop.ensures.value ∙ oldest-out c.self.inside.outbox.pairs)
+returns-clause-value g c =
+    rw (← c.self.view_is)
+    (c.waker_from.ensures ∙ ap waker_in_pair c.pop.ensures.value ∙ oldest-out c.self.inside.outbox.pairs)
 
 pub returns-clause-rest : goal.returns-clause-rest
 returns-clause-rest g c =
-    let out : out_of c.pop.new.self.pairs ≡ drop 1 (out_of c.self.inside.outbox.pairs) = ap out_of c.pop.ensures.pairs ∙ out-drop c.self.inside.outbox.pairs in
+    let out : out_of c.pop.new.self.pairs ≡ drop 1 (out_of c.self.inside.outbox.pairs) =
+    ap out_of c.pop.ensures.pairs ∙ out-drop c.self.inside.outbox.pairs in
     rw (← c.self.view_is) (λ i. record { side = c.self.inside.line.side; out = out i })
