@@ -1,8 +1,7 @@
 -- The list names live slots, each once.
-use Rattle.std.proofs.Common.{◌≡◌, ℕ, ◌≤◌, true, false, eqb, List, [], ◌∷◌, length, map, Option, Some, None, is_some, IsSome, refl, sym, ap, ◌∙◌, inl, inr}
-use Rattle.std.proofs.lemmas.Bool.{eqb-true, or_cases, or_parts, false≢true}
+use Rattle.std.proofs.Common.{◌≡◌, ℕ, ◌≤◌, true, List, [], ◌∷◌, length, map, Option, Some, None, is_some, IsSome, refl, sym, ap, ◌∙◌, inl, inr}
+use Rattle.std.proofs.lemmas.Bool.{eqb-true, or_cases, false≢true}
 use Rattle.std.proofs.lemmas.Map.Steps.{length-le_from_distinct_below}
-use Rattle.std.specs.List.{IsDistinct, AllByRecursion}
 use Rattle.slab.specs.Slab.{Slab, get}
 use Rattle.slab.proofs.SlabLemmas.{ContainsKey-within}
 use Rattle.fi_parts.specs.declared.blocks.block.Block.{Block}
@@ -14,6 +13,7 @@ use Rattle.fi_parts.specs.Links.{Distinct}
 use Rattle.fi_parts.specs.Blocks.{item_by, slot_by, IsStored, IsSound, view_of}
 use Rattle.fi_parts.specs.CountedBlocks.{data_in, item_in}
 use Rattle.fi_parts.specs.LinkedBlocks.{block_at, chain_of, data_of}
+use Rattle.fi_parts.proofs.Slots.{IsDistinct-from_Apart}
 use Rattle.fi_parts.proofs.BlockSlots.{AllLive, tail_live, head_live, slot_in-live, holds_slot, chain_live, get-live_by}
 
 module _ {T : Type 0} (store : Slab (BlockPtr T)) (s : LinkedBlocks T) (ok : IsStored (data_of s) store) where
@@ -38,15 +38,6 @@ module _ {T : Type 0} (store : Slab (BlockPtr T)) (s : LinkedBlocks T) (ok : IsS
   item_some : (o : Option (Block T)) → IsSome o → IsSome (item_in (data_in o))
   item_some (Some b) has = refl
   item_some None has = has
-
-IsDistinct-from_Apart : (xs : List ℕ) → Apart xs → IsDistinct eqb xs
-unfolding IsDistinct
-IsDistinct-from_Apart [] a = tt
-IsDistinct-from_Apart (x ∷ xs) a = (each x xs a.0, IsDistinct-from_Apart xs a.1)
-  where
-    each : (z : ℕ) (zs : List ℕ) → holds z zs ≡ false → AllByRecursion (λ y. eqb z y ≡ false) zs
-    each z [] none = tt
-    each z (y ∷ ys) none = ((or_parts _ _ none).0, each z ys (or_parts _ _ none).1)
 
 module _ {T : Type 0} (store : Slab (BlockPtr T)) (s : LinkedBlocks T) (sound : IsSound store s) where
   pub is_listed : IsListed (view_of store s)

@@ -47,7 +47,8 @@ module _ {T : Type 0} where
   without x xs = filter (λ y. not (alike x y)) xs
 
   -- the blocks xs name each other, the first one names p and the last one n
-  unfoldable pub Chain : (BlockPtr T → Option (Links T)) → Option (BlockPtr T) → List (BlockPtr T) → Option (BlockPtr T) → Type 0
+  unfoldable pub Chain : (BlockPtr T → Option (Links T)) → Option (BlockPtr T) → List (BlockPtr T) → Option (BlockPtr T)
+      → Type 0
   Chain g p [] n = Unit {0}
   Chain g p (x ∷ xs) n = (g x ≡ Some (between p (head_or xs n))) × Chain g (Some x) xs n
 
@@ -58,7 +59,8 @@ module _ {T : Type 0} where
   walk g (suc n) (Some x) = x ∷ walk g n (older_of (g x))
 
   -- the links make the list xs
-  pub record Linked (g : BlockPtr T → Option (Links T)) (first last : Option (BlockPtr T)) (xs : List (BlockPtr T)) : Type 0 where
+  pub record Linked (g : BlockPtr T → Option (Links T)) (first last : Option (BlockPtr T)) (xs : List (BlockPtr T))
+      : Type 0 where
     pub chain : Chain g None xs None
     pub first_is : first ≡ head_or xs None
     pub last_is : last ≡ last_or None xs

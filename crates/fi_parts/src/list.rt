@@ -1,5 +1,5 @@
 //! A list over live slots: who waits, the youngest first.
-ghost use Rattle.std.specs.Prelude.{◌≡◌, ℕ, ◌+◌, ◌≤◌, ◌<◌, ◌^◌, ◌==◌, ◌++◌, ◌∷◌, List, [], Some, None, true, false, IfOk, IfErr, OnErr, length, option_copied, MatchOption};
+ghost use Rattle.std.specs.Prelude.{◌≡◌, ℕ, ◌+◌, ◌≤◌, ◌<◌, ◌^◌, ◌==◌, ◌++◌, ◌∷◌, List, [], Some, None, true, false, IfOk, IfErr, IfSome, OnErr, length, option_copied, MatchOption};
 ghost use Rattle.std.specs.Option.{option_copied_mut};
 ghost use Rattle.std.specs.Borrow.{sem};
 ghost use Rattle.std.specs.FinMap as map;
@@ -131,6 +131,7 @@ impl<T> LinkedList<T> {
         ensures found { result ≡ holds slot.0 self.old.order }
         ensures live { self.new.live ≡ self.old.live }
         ensures order { self.new.order ≡ without slot.0 self.old.order }
+        ensures apart { holds slot.0 self.new.order ≡ false }
         ensures visits { self.new.visits ≤ self.old.visits + 3 }
         ensures never_fewer { self.old.visits ≤ self.new.visits }
     {
@@ -165,6 +166,7 @@ impl<T> LinkedList<T> {
     pub fn remove_first(&mut self) -> Option<Slot>
         ensures order { MatchOption result ((self.old.order ≡ []) × (self.new.order ≡ [])) (λ slot. self.old.order ≡ slot.0 ∷ self.new.order) }
         ensures live { self.new.live ≡ self.old.live }
+        ensures taken { IfSome result (λ slot. IsLive self.new slot.0 × (holds slot.0 self.new.order ≡ false)) }
         ensures visits { self.new.visits ≤ self.old.visits + 3 }
         ensures never_fewer { self.old.visits ≤ self.new.visits }
     {
@@ -178,6 +180,7 @@ impl<T> LinkedList<T> {
     pub fn remove_last(&mut self) -> Option<Slot>
         ensures order { MatchOption result ((self.old.order ≡ []) × (self.new.order ≡ [])) (λ slot. self.old.order ≡ self.new.order ++ slot.0 ∷ []) }
         ensures live { self.new.live ≡ self.old.live }
+        ensures taken { IfSome result (λ slot. IsLive self.new slot.0 × (holds slot.0 self.new.order ≡ false)) }
         ensures visits { self.new.visits ≤ self.old.visits + 3 }
         ensures never_fewer { self.old.visits ≤ self.new.visits }
     {
