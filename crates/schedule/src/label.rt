@@ -33,6 +33,13 @@ impl Label {
         Some(Label { code })
     }
 
+    /// The number whose bytes are its characters.
+    pub fn code(self) -> u128
+        ensures { result ≡ self.code }
+    {
+        self.code
+    }
+
     /// What stands before the last character, as a number whose bytes are the last eight of these characters.
     pub fn front(self) -> u64
         ensures { result ≡ self.code / 256 % 2 ^ 64 }

@@ -1,7 +1,6 @@
 //! Answers a script of calls on one primitive, line by line.
 #![tactic(auto)]
 
-mod broadcast;
 mod engine;
 mod event;
 mod fault;
@@ -12,11 +11,13 @@ mod named;
 mod number;
 mod oneshot;
 mod output;
+mod row;
 mod scripted;
 mod state;
 #[cfg(test)]
 mod tests;
 mod texts;
+mod verb;
 mod words;
 
 use fault::{ScriptFault, report};
