@@ -8,3 +8,4 @@ pub mod Reading
 pub mod Rebound
 pub mod Shelves
 pub mod Script
+pub mod Begun

@@ -1,6 +1,8 @@
 pub mod Answered
 pub mod Asked
+pub mod Begun
 pub mod Cuts
+pub mod Ended
 pub mod InUse
 pub mod Labels
 pub mod Language

@@ -2,6 +2,7 @@
 
 ghost use Rattle.std.specs.Prelude.{◌≡◌, ◌++◌, ◌∷◌, [], Some, OnOk, IfErr};
 ghost use Rattle.std.specs.Io.KnownBytes.{Appends};
+ghost use Rattle.schedule.specs.Begun.{Begins};
 ghost use Rattle.schedule.specs.Outputs.{GoesOn, SameWriter, IsOfOutput};
 ghost use Rattle.std.specs.Fmt.{decimal};
 
@@ -15,13 +16,16 @@ pub const COLLECTED: usize = 65536;
 /// Writes all of the bytes. An error and a write that takes no byte are failures, and are not tried again.
 pub fn write_whole<W: Write>(writer: &mut W, bytes: &[u8]) -> Result<(), ScriptFault>
     ensures written { OnOk result (Appends (W.contents writer.old) (W.contents writer.new) bytes.now) }
+    // Where it fails, a beginning of them was written.
+    ensures begun { Begins (W.contents writer.old) (W.contents writer.new) bytes.now }
     ensures fault { IfErr result (λ fault. fault ≡ ScriptFault.Write) }
 {
     let mut written = 0;
     while written < bytes.len() {
         match writer.write(&bytes[written..]) {
-            Ok(0) | Err(_) => return Err(ScriptFault::Write),
+            Ok(0) => return Err(ScriptFault::Write),
             Ok(count) => written += count,
+            Err(_) => return Err(ScriptFault::Write),
         }
     }
     Ok(())
