@@ -17,26 +17,35 @@ use Rattle.schedule.proofs.Bytes.{appends_none, appends_twice}
 
 module _ {W : Type 0} (contents : W → Option (List ℕ)) where
   -- a line of output whose parts were written one after another
-  pub told_line : (old between later new : Output W) (answer : Option (List ℕ)) (wakes : List ℕ) → GoesOn contents old between answer → GoesOn contents between later (Some wakes)
+  pub told_line : (old between later new : Output W) (answer : Option (List ℕ)) (wakes : List ℕ)
+      → GoesOn contents old between answer → GoesOn contents between later (Some wakes)
       → GoesOn contents later new (Some (10 ∷ [])) → Tells contents old new (λ text. line_text answer wakes ≡ Some text)
   told_line old between later new None wakes first second last = absurd first
-  told_line old between later new (Some answer) wakes first second last = (_, refl, appends_twice _ _ _ _ _ (appends_twice _ _ _ _ _ first second) last)
+  told_line old between later new (Some answer) wakes first second last =
+      (_, refl, appends_twice _ _ _ _ _ (appends_twice _ _ _ _ _ first second) last)
 
-  pub held_line : (old between new : Output W) (answer : Option (List ℕ)) → GoesOn contents old between answer → GoesOn contents between new (Some (10 ∷ []))
+  pub held_line : (old between new : Output W) (answer : Option (List ℕ)) → GoesOn contents old between answer
+      → GoesOn contents between new (Some (10 ∷ []))
       → Tells contents old new (λ text. line_text answer [] ≡ Some text)
-  held_line old between new answer first last = told_line old between between new answer [] first (appends_none (on_its_way contents between)) last
+  held_line old between new answer first last =
+      told_line old between between new answer [] first (appends_none (on_its_way contents between)) last
 
 module _ {S O C : Type 0} (primitive : Spoken S O C) where
   -- What a line asks for, done, is what the line calls.
-  pub called_by : (line : List ℕ) (holds : Bool) (request : Option (Request C)) (labels after : Labels) (old new : S) (answer : Answer ℕ ℕ)
-      → Asks primitive.language.call_of labels line holds request → Performs primitive.step request labels old answer after new → Calls primitive line holds labels old answer after new
+  pub called_by : (line : List ℕ) (holds : Bool) (request : Option (Request C)) (labels after : Labels) (old new : S)
+      (answer : Answer ℕ ℕ)
+      → Asks primitive.language.call_of labels line holds request
+      → Performs primitive.step request labels old answer after new
+      → Calls primitive line holds labels old answer after new
   called_by line holds None labels after old new answer asks done = inl (asks.0, asks.1, done.0, done.1, done.2)
   called_by line holds (Some request) labels after old new answer asks done =
       let stands = asks.2 in
       inr (asks.0, request.row, stands.0, request.call, asks.1, stands.1, done.0, done.1 stands.0 stands.2)
 
-  pub held_answer : (line text : List ℕ) (holds : Bool) (labels after then : Labels) (old called new : S) (answer : Answer ℕ ℕ) → Calls primitive line holds labels old answer after called
-      → holds ≡ true → then ≡ after → new ≡ called → line_text (answer_text answer) [] ≡ Some text → AnswersLine primitive line labels old then new text
+  pub held_answer : (line text : List ℕ) (holds : Bool) (labels after then : Labels) (old called new : S)
+      (answer : Answer ℕ ℕ) → Calls primitive line holds labels old answer after called
+      → holds ≡ true → then ≡ after → new ≡ called → line_text (answer_text answer) [] ≡ Some text
+      → AnswersLine primitive line labels old then new text
   held_answer line text holds labels after then old called new answer calls is same stays told = record {
     holds = holds;
     answer = answer;
@@ -45,9 +54,12 @@ module _ {S O C : Type 0} (primitive : Spoken S O C) where
     tells = subst (λ h. TellsWakers primitive h called answer new text) (sym is) (stays, told);
   }
 
-  pub told_answer : (line text : List ℕ) (holds : Bool) (labels after then : Labels) (old called new : S) (answer : Answer ℕ ℕ) → Calls primitive line holds labels old answer after called
-      → holds ≡ false → then ≡ after → primitive.language.owed new ≡ [] → primitive.language.without_wakers new ≡ primitive.language.without_wakers called
-      → line_text (answer_text answer) (wakes_text true (primitive.language.owed called)) ≡ Some text → AnswersLine primitive line labels old then new text
+  pub told_answer : (line text : List ℕ) (holds : Bool) (labels after then : Labels) (old called new : S)
+      (answer : Answer ℕ ℕ) → Calls primitive line holds labels old answer after called
+      → holds ≡ false → then ≡ after → primitive.language.owed new ≡ []
+      → primitive.language.without_wakers new ≡ primitive.language.without_wakers called
+      → line_text (answer_text answer) (wakes_text true (primitive.language.owed called)) ≡ Some text
+      → AnswersLine primitive line labels old then new text
   told_answer line text holds labels after then old called new answer calls is same emptied rest told = record {
     holds = holds;
     answer = answer;
@@ -59,13 +71,17 @@ module _ {S O C : Type 0} (primitive : Spoken S O C) where
 module _ {S O C W : Type 0} (primitive : Spoken S O C) (contents : W → Option (List ℕ)) where
   -- After the line of this number: what goes on from here goes on from the start.
   abbrev pub IsSoFar : O → Option (List ℕ) → Output W → ℕ → Option (List ℕ) → Labels → S → Output W → Type 0
-  IsSoFar opening whole shown number rest used now out = (first : S) × (none : Labels) × primitive.opens opening first × NoLabels none
+  IsSoFar opening whole shown number rest used now out =
+      (first : S) × (none : Labels) × primitive.opens opening first × NoLabels none
       × ((more : List (List ℕ)) (end : Option (List ℕ)) (after : Labels) (last : S) (later : List ℕ) (left : Output W)
-      → LinesAre rest more end → AnswersLines primitive more used now after last later → GoesOn contents out left (Some later)
-      → (all : List (List ℕ)) × (text : List ℕ) × LinesAre whole all end × AnswersLines primitive all none first after last text × GoesOn contents shown left (Some text)
+      → LinesAre rest more end → AnswersLines primitive more used now after last later
+      → GoesOn contents out left (Some later)
+      → (all : List (List ℕ)) × (text : List ℕ) × LinesAre whole all end
+      × AnswersLines primitive all none first after last text × GoesOn contents shown left (Some text)
       × (length all + 1 ≡ number + length more))
 
-  pub so_far_goes_on : (opening : O) (whole : Option (List ℕ)) (shown : Output W) (number : ℕ) (rest : Option (List ℕ)) (used : Labels) (now : S) (out : Output W)
+  pub so_far_goes_on : (opening : O) (whole : Option (List ℕ)) (shown : Output W) (number : ℕ) (rest : Option (List ℕ))
+      (used : Labels) (now : S) (out : Output W)
       (line : List ℕ) (after : Option (List ℕ)) (later : Labels) (next : S) (then : Output W)
       → IsSoFar opening whole shown number rest used now out → NextLine rest (Some line) after
       → Tells contents out then (AnswersLine primitive line used now later next)
@@ -77,7 +93,8 @@ module _ {S O C W : Type 0} (primitive : Spoken S O C) (contents : W → Option 
     so_far.2,
     so_far.3,
     λ more end over last tail left are answered goes.
-        let all = so_far.4 (line ∷ more) end over last (told.0 ++ tail) left (after, comes, are) (next, later, told.0, tail, told.1, answered, refl) (appends_twice _ _ _ _ _ told.2 goes) in
+        let all = so_far.4 (line ∷ more) end over last (told.0 ++ tail) left (after, comes, are)
+        (next, later, told.0, tail, told.1, answered, refl) (appends_twice _ _ _ _ _ told.2 goes) in
         (all.0, all.1, all.2, all.3, all.4, omega (arith, all.5)),
   )
 
@@ -86,7 +103,8 @@ module _ {S O C W : Type 0} (primitive : Spoken S O C) (contents : W → Option 
   ended_at (Some []) after none = (refl, refl)
   ended_at (Some (byte ∷ bytes)) after none = absurd none
 
-  pub rest_answered : (opening : O) (whole : Option (List ℕ)) (shown : Output W) (number : ℕ) (rest : Option (List ℕ)) (used : Labels) (now : S) (out : Output W) (after : Option (List ℕ))
+  pub rest_answered : (opening : O) (whole : Option (List ℕ)) (shown : Output W) (number : ℕ) (rest : Option (List ℕ))
+      (used : Labels) (now : S) (out : Output W) (after : Option (List ℕ))
       → IsSoFar opening whole shown number rest used now out → NextLine rest None after
       → Tells contents shown out (AnswersRest primitive (λ asked. asked ≡ opening) whole)
   unfolding LinesAre AnswersLines
@@ -111,8 +129,10 @@ module _ {S O C W : Type 0} (primitive : Spoken S O C) (contents : W → Option 
         all.4,
       )
 
-  pub front_answered : (opening : O) (whole : Option (List ℕ)) (shown : Output W) (number : ℕ) (rest : Option (List ℕ)) (used : Labels) (now : S) (out : Output W) (bad : List ℕ) (after : Option (List ℕ))
-      → IsSoFar opening whole shown number rest used now out → NextLine rest (Some bad) after → IsBad primitive.language.call_of used bad
+  pub front_answered : (opening : O) (whole : Option (List ℕ)) (shown : Output W) (number : ℕ) (rest : Option (List ℕ))
+      (used : Labels) (now : S) (out : Output W) (bad : List ℕ) (after : Option (List ℕ))
+      → IsSoFar opening whole shown number rest used now out → NextLine rest (Some bad) after
+      → IsBad primitive.language.call_of used bad
       → Tells contents shown out (AnswersFront primitive (λ asked. asked ≡ opening) whole (number + 1))
   unfolding LinesAre AnswersLines
   front_answered opening whole shown number rest used now out bad after so_far comes is_bad =
@@ -140,12 +160,14 @@ module _ {S O C W : Type 0} (primitive : Spoken S O C) (contents : W → Option 
         all.4,
       )
 
-pub if_bad_more : (less more : ℕ → Type 0) (fault : ScriptFault) → IfBad less fault → ((line : ℕ) → less line → more line) → IfBad more fault
+pub if_bad_more : (less more : ℕ → Type 0) (fault : ScriptFault) → IfBad less fault
+    → ((line : ℕ) → less line → more line) → IfBad more fault
 if_bad_more less more Read told on = absurd told
 if_bad_more less more Write told on = tt
 if_bad_more less more (BadLine line) told on = on line told
 if_bad_more less more NoMemory told on = tt
 
-pub if_err_same : {A E : Type 0} (r : Result A E) (told : E → Type 0) (fault : E) → IsErrAnd r (λ other. other ≡ fault) → told fault → IfErr r told
+pub if_err_same : {A E : Type 0} (r : Result A E) (told : E → Type 0) (fault : E) → IsErrAnd r (λ other. other ≡ fault)
+    → told fault → IfErr r told
 if_err_same (Ok x) told fault is here = tt
 if_err_same (Err other) told fault is here = subst told (sym is) here

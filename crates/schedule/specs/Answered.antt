@@ -20,7 +20,8 @@ IfBad told NoMemory = ⊤
 -- These are the next lines, in order, and this is left behind them.
 unfoldable pub LinesAre : Option (List ℕ) → List (List ℕ) → Option (List ℕ) → Type 0
 LinesAre rest [] left = left ≡ rest
-LinesAre rest (line ∷ lines) left = (after : Option (List ℕ)) × NextLine rest (Some line) after × LinesAre after lines left
+LinesAre rest (line ∷ lines) left =
+    (after : Option (List ℕ)) × NextLine rest (Some line) after × LinesAre after lines left
 
 -- a whole line of output: an answer's text, if it has one, with the wakers behind it
 abbrev pub line_text : Option (List ℕ) → List ℕ → Option (List ℕ)
@@ -29,31 +30,39 @@ line_text (Some text) wakes = Some (text ++ wakes ++ 10 ∷ [])
 
 -- Of a primitive, as scripts speak of it.
 module _ {S O C : Type 0} (primitive : Spoken S O C) where
-  -- A line with these labels in use was answered: with `ok` where it is `wakes`, else with the answer of the call that it stands for.
+  -- A line with these labels in use was answered: with `ok` where it is `wakes`, else with the answer of the call that
+  -- it stands for.
   -- Nothing else was called, but for the wakers.
   abbrev pub Calls : List ℕ → Bool → Labels → S → Answer ℕ ℕ → Labels → S → Type 0
-  Calls line holds labels old answer after new = ((line ≡ codes "wakes") × (holds ≡ false) × (answer ≡ Done) × (new ≡ old) × (after ≡ labels))
+  Calls line holds labels old answer after new =
+      ((line ≡ codes "wakes") × (holds ≡ false) × (answer ≡ Done) × (new ≡ old) × (after ≡ labels))
       ⊎ ((own : List ℕ) × (row : Row) × (label : Option (List ℕ)) × (call : C) × HoldsLine holds line own
-      × StandsFor primitive.language.call_of labels own row label call × primitive.step old call answer new × LabelsAfter row label answer labels after)
+      × StandsFor primitive.language.call_of labels own row label call × primitive.step old call answer new
+      × LabelsAfter row label answer labels after)
 
   -- The text of a line that is held has no wakers, which stay; that of another has all of them, and none is left.
   abbrev pub TellsWakers : Bool → S → Answer ℕ ℕ → S → List ℕ → Type 0
   TellsWakers true called answer new text = (new ≡ called) × (line_text (answer_text answer) [] ≡ Some text)
-  TellsWakers false called answer new text = (primitive.language.owed new ≡ []) × (primitive.language.without_wakers new ≡ primitive.language.without_wakers called)
+  TellsWakers false called answer new text =
+      (primitive.language.owed new ≡ [])
+      × (primitive.language.without_wakers new ≡ primitive.language.without_wakers called)
       × (line_text (answer_text answer) (wakes_text true (primitive.language.owed called)) ≡ Some text)
 
-  pub record AnswersLine (line : List ℕ) (labels : Labels) (old : S) (after : Labels) (new : S) (text : List ℕ) : Type 0 where
-    pub holds : Bool
-    pub answer : Answer ℕ ℕ
-    pub called : S
-    pub calls : Calls line holds labels old answer after called
-    pub tells : TellsWakers holds called answer new text
+  pub record AnswersLine (line : List ℕ) (labels : Labels) (old : S) (after : Labels) (new : S) (text : List ℕ) : Type 0
+    where
+      pub holds : Bool
+      pub answer : Answer ℕ ℕ
+      pub called : S
+      pub calls : Calls line holds labels old answer after called
+      pub tells : TellsWakers holds called answer new text
 
   -- These lines were answered in order, with this text.
   unfoldable pub AnswersLines : List (List ℕ) → Labels → S → Labels → S → List ℕ → Type 0
   AnswersLines [] labels old after new text = (after ≡ labels) × (new ≡ old) × (text ≡ [])
-  AnswersLines (line ∷ lines) labels old after new text = (between : S) × (later : Labels) × (front : List ℕ) × (rest : List ℕ)
-      × AnswersLine line labels old later between front × AnswersLines lines later between after new rest × (text ≡ front ++ rest)
+  AnswersLines (line ∷ lines) labels old after new text =
+      (between : S) × (later : Labels) × (front : List ℕ) × (rest : List ℕ)
+      × AnswersLine line labels old later between front × AnswersLines lines later between after new rest
+      × (text ≡ front ++ rest)
 
   -- A primitive was opened, as this says, with no label in use, and answered all lines that are left of a script.
   pub record AnswersRest (asked : O → Type 0) (rest : Option (List ℕ)) (text : List ℕ) : Type 0 where
@@ -93,4 +102,5 @@ module _ {S O C : Type 0} (primitive : Spoken S O C) where
 
   -- It was refused before the first of these lines, as nothing was asked for, or at one of them.
   abbrev pub RefusesLine : (O → Type 0) → Option (List ℕ) → ℕ → List ℕ → Type 0
-  RefusesLine asked rest number text = ((number ≡ 1) × (text ≡ []) × ((opening : O) → asked opening → ⊥)) ⊎ AnswersFront asked rest number text
+  RefusesLine asked rest number text =
+      ((number ≡ 1) × (text ≡ []) × ((opening : O) → asked opening → ⊥)) ⊎ AnswersFront asked rest number text

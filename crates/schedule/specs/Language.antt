@@ -21,7 +21,8 @@ pub record Spoken (S O C : Type 0) : Type 1 where
   pub step : S → C → Answer ℕ ℕ → S → Type 0
   pub language : Language S O C
 
-abbrev pub spoken : {S O C : Type 0} → (O → S → Type 0) → (S → C → Answer ℕ ℕ → S → Type 0) → Language S O C → Spoken S O C
+abbrev pub spoken : {S O C : Type 0} → (O → S → Type 0) → (S → C → Answer ℕ ℕ → S → Type 0) → Language S O C
+    → Spoken S O C
 spoken opens step language = record { opens = opens; step = step; language = language }
 
 abbrev pub first_of : List ℕ → Option ℕ

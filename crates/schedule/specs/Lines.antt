@@ -42,7 +42,8 @@ NoLabels labels = (word : List ℕ) → labels word ≡ None
 
 -- The label stands for this slot, or is free, from now on; the others stay.
 abbrev pub Rebinds : List ℕ → Option Slot → Labels → Labels → Type 0
-Rebinds label slot old new = (new label ≡ slot) × ((other : List ℕ) → IsLabel other → other ≢ label → new other ≡ old other)
+Rebinds label slot old new =
+    (new label ≡ slot) × ((other : List ℕ) → IsLabel other → other ≢ label → new other ≡ old other)
 
 -- What a line with a label asks for: a free label is for making a future, one in use for its poll or cancel.
 abbrev pub labelled_row : Verb → Option ℕ → Option Slot → Option Row

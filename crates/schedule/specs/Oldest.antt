@@ -31,31 +31,53 @@ rest_in : (out : List (ℕ × ℕ)) → wakers_of (drop 1 out) ≡ drop 1 (waker
 rest_in [] = refl
 rest_in (pair ∷ out) = refl
 
-answered : (waker : Option ℕ) (out : List (ℕ × ℕ)) → waker ≡ oldest out → ◌≡◌ {A = Answer ℕ ℕ} (Woken waker) (Woken (first_of (wakers_of out)))
+answered : (waker : Option ℕ) (out : List (ℕ × ℕ)) → waker ≡ oldest out
+    → ◌≡◌ {A = Answer ℕ ℕ} (Woken waker) (Woken (first_of (wakers_of out)))
 answered waker out is = ap (λ found. Woken found) (is ∙ first_in out)
 
 -- What each primitive does with the call for the oldest waker.
-pub event_takes : (old : EventMachine ℕ) (answer : Answer ℕ ℕ) (new : EventMachine ℕ) → event.Step old event_calls.NextWake answer new → HandsOutOldest event_language old answer new
-event_takes old (Woken waker) new taken = (answered waker old.out taken.0, ap event_language.owed taken.1 ∙ rest_in old.out, ap event_language.without_wakers taken.1)
+pub event_takes : (old : EventMachine ℕ) (answer : Answer ℕ ℕ) (new : EventMachine ℕ)
+    → event.Step old event_calls.NextWake answer new → HandsOutOldest event_language old answer new
+event_takes old (Woken waker) new taken = (
+  answered waker old.out taken.0,
+  ap event_language.owed taken.1 ∙ rest_in old.out,
+  ap event_language.without_wakers
+      taken.1,
+)
 event_takes old (Refused fault) new taken = absurd taken.0
 event_takes old answer new taken = absurd taken
 
-gives_takes : (gives : Gives ℕ ℕ) (may_lack : oneshot.MayLack ℕ ℕ) (old : OneshotMachine ℕ ℕ) (answer : Answer ℕ ℕ) (new : OneshotMachine ℕ ℕ)
-    → oneshot.StepBy gives may_lack old oneshot_calls.NextWake answer new → HandsOutOldest oneshot_language old answer new
-gives_takes gives may_lack old (Woken waker) new taken = (answered waker old.out taken.0, ap oneshot_language.owed taken.1 ∙ rest_in old.out, ap oneshot_language.without_wakers taken.1)
+gives_takes : (gives : Gives ℕ ℕ) (may_lack : oneshot.MayLack ℕ ℕ) (old : OneshotMachine ℕ ℕ) (answer : Answer ℕ ℕ)
+    (new : OneshotMachine ℕ ℕ)
+    → oneshot.StepBy gives may_lack old oneshot_calls.NextWake answer new
+    → HandsOutOldest oneshot_language old answer new
+gives_takes gives may_lack old (Woken waker) new taken = (
+  answered waker old.out taken.0,
+  ap oneshot_language.owed taken.1 ∙ rest_in old.out,
+  ap
+      oneshot_language.without_wakers taken.1,
+)
 gives_takes gives may_lack old (Refused fault) new taken = absurd taken.0
 gives_takes gives may_lack old answer new taken = absurd taken
 
-pub oneshot_takes : (old : OneshotMachine ℕ ℕ) (answer : Answer ℕ ℕ) (new : OneshotMachine ℕ ℕ) → oneshot.Step old oneshot_calls.NextWake answer new → HandsOutOldest oneshot_language old answer new
+pub oneshot_takes : (old : OneshotMachine ℕ ℕ) (answer : Answer ℕ ℕ) (new : OneshotMachine ℕ ℕ)
+    → oneshot.Step old oneshot_calls.NextWake answer new → HandsOutOldest oneshot_language old answer new
 oneshot_takes old answer new taken = gives_takes Takes oneshot.lacks_never old answer new taken
 
-pub broadcast_takes : (is_clone : ℕ → ℕ → Type 0) (old : OneshotMachine ℕ ℕ) (answer : Answer ℕ ℕ) (new : OneshotMachine ℕ ℕ)
-    → oneshot.BroadcastStep is_clone old oneshot_calls.NextWake answer new → HandsOutOldest oneshot_language old answer new
+pub broadcast_takes : (is_clone : ℕ → ℕ → Type 0) (old : OneshotMachine ℕ ℕ) (answer : Answer ℕ ℕ)
+    (new : OneshotMachine ℕ ℕ)
+    → oneshot.BroadcastStep is_clone old oneshot_calls.NextWake answer new
+    → HandsOutOldest oneshot_language old answer new
 broadcast_takes is_clone old answer new taken = gives_takes (Clones is_clone) oneshot.lacks_clone old answer new taken
 
 pub state_takes : (is_clone : ℕ → ℕ → Type 0) (old : StateMachine ℕ ℕ) (answer : Answer ℕ ℕ) (new : StateMachine ℕ ℕ)
     → state.Step is_clone old state_calls.NextWake answer new → HandsOutOldest state_language old answer new
-state_takes is_clone old (Woken waker) new taken = (answered waker old.out taken.0, ap state_language.owed taken.1 ∙ rest_in old.out, ap state_language.without_wakers taken.1)
+state_takes is_clone old (Woken waker) new taken = (
+  answered waker old.out taken.0,
+  ap state_language.owed taken.1 ∙ rest_in old.out,
+  ap state_language.without_wakers
+      taken.1,
+)
 state_takes is_clone old (Refused fault) new taken = absurd taken.0
 state_takes is_clone old answer new taken = absurd taken
 

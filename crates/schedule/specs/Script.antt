@@ -26,9 +26,13 @@ use Rattle.schedule.specs.Tables.{event_language, oneshot_language, state_langua
 -- This holds of the primitive of this name.
 abbrev pub OfPrimitive : Named → ((S O C : Type 0) → Spoken S O C → Type 0) → Type 0
 OfPrimitive Event P = P (EventMachine ℕ) Bool (EventCall ℕ) (spoken event.Opens event.Step event_language)
-OfPrimitive Oneshot P = P (OneshotMachine ℕ ℕ) (Unit {0}) (OneshotCall ℕ ℕ) (spoken oneshot.Opens oneshot.Step oneshot_language)
-OfPrimitive OneshotBroadcast P = P (OneshotMachine ℕ ℕ) (Unit {0}) (OneshotCall ℕ ℕ) (spoken oneshot.Opens (oneshot.BroadcastStep is_same) oneshot_language)
-OfPrimitive StateBroadcast P = P (StateMachine ℕ ℕ) (Unit {0}) (StateCall ℕ ℕ) (spoken state.Opens (state.Step is_same) state_language)
+OfPrimitive Oneshot P =
+    P (OneshotMachine ℕ ℕ) (Unit {0}) (OneshotCall ℕ ℕ) (spoken oneshot.Opens oneshot.Step oneshot_language)
+OfPrimitive OneshotBroadcast P =
+    P (OneshotMachine ℕ ℕ) (Unit {0}) (OneshotCall ℕ ℕ) (spoken oneshot.Opens (oneshot.BroadcastStep is_same)
+    oneshot_language)
+OfPrimitive StateBroadcast P =
+    P (StateMachine ℕ ℕ) (Unit {0}) (StateCall ℕ ℕ) (spoken state.Opens (state.Step is_same) state_language)
 
 -- The first line is the primitive's name, and what stands after it for the opening.
 abbrev pub IsFirst : {S O C : Type 0} → Named → Spoken S O C → List ℕ → O → Type 0
@@ -44,15 +48,18 @@ pub record AnswersScript (script text : List ℕ) : Type 0 where
 
 -- No opening has this first line.
 abbrev pub IsNoFirst : List ℕ → Type 0
-IsNoFirst line = (named : Named) → OfPrimitive named (λ S O C primitive. (opening : O) → IsFirst named primitive line opening → ⊥)
+IsNoFirst line =
+    (named : Named) → OfPrimitive named (λ S O C primitive. (opening : O) → IsFirst named primitive line opening → ⊥)
 
--- The line of this number was refused: the first one, with no text, or a later one, when those before it had been answered with this text.
+-- The line of this number was refused: the first one, with no text, or a later one, when those before it had been
+-- answered with this text.
 pub record RefusesScript (number : ℕ) (script text : List ℕ) : Type 0 where
   pub first : List ℕ
   pub rest : Option (List ℕ)
   pub cut : IsCut 10 script first rest
   pub refused : ((number ≡ 1) × (text ≡ []) × IsNoFirst first)
-      ⊎ ((named : Named) × OfPrimitive named (λ S O C primitive. AnswersFront primitive (IsFirst named primitive first) rest number text))
+      ⊎ ((named : Named) × OfPrimitive named (λ S O C primitive. AnswersFront primitive (IsFirst named primitive first)
+      rest number text))
 
 -- Why a script was not answered to its end: where reading failed, nothing was written; a line is refused by its number.
 abbrev pub IfFault : Type 0 → (ℕ → Type 0) → ScriptFault → Type 0
@@ -63,4 +70,6 @@ IfFault untouched refused NoMemory = ⊤
 
 -- A script was read whole, and this of it was written.
 abbrev pub Turns : Option (List ℕ) → Option (List ℕ) → Option (List ℕ) → (List ℕ → List ℕ → Type 0) → Type 0
-Turns input before after answers = (script : List ℕ) × (text : List ℕ) × IfSome input (λ all. script ≡ all) × answers script text × Appends before after text
+Turns input before after answers =
+    (script : List ℕ) × (text : List ℕ) × IfSome input (λ all. script ≡ all) × answers script text
+    × Appends before after text

@@ -13,7 +13,8 @@ IsLabelOf (Some word) (Some label) = IsLabel word × (label.code ≡ code_of wor
 IsLabelOf word label = ⊥
 
 abbrev pub IsSpelled : List ℕ → Words → Type 0
-IsSpelled line words = (label : Option (List ℕ)) × HasWords line words.verb label words.number × IsLabelOf label words.label
+IsSpelled line words =
+    (label : Option (List ℕ)) × HasWords line words.verb label words.number × IsLabelOf label words.label
 
 abbrev pub IsNotSpelled : List ℕ → Type 0
 IsNotSpelled line = (verb : Verb) (label : Option (List ℕ)) (number : Option ℕ) → HasWords line verb label number → ⊥

@@ -20,4 +20,5 @@ module _ {V : Type 0} where
 
   -- This stands there from now on, and elsewhere what stood there.
   abbrev pub Stores : ℕ → Option V → List (BTreeMap ℕ V) → List (BTreeMap ℕ V) → Type 0
-  Stores code value old new = (stored new code ≡ value) × ((other : ℕ) → other ≢ code → stored new other ≡ stored old other)
+  Stores code value old new =
+      (stored new code ≡ value) × ((other : ℕ) → other ≢ code → stored new other ≡ stored old other)

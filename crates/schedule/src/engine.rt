@@ -43,8 +43,11 @@ pub fn run_script<R: Read, W: Write>(
     reader: &mut R,
     writer: &mut W,
 ) -> Result<(), ScriptFault>
-    ensures answered { OnOk result (Turns (R.remaining reader.old) (W.contents writer.old) (W.contents writer.new) AnswersScript) }
-    ensures fault { IfErr result (IfFault (writer.new ≡ writer.old) (λ number. Turns (R.remaining reader.old) (W.contents writer.old) (W.contents writer.new) (RefusesScript number))) }
+    ensures answered { OnOk result (Turns (R.remaining reader.old) (W.contents writer.old)
+        (W.contents writer.new) AnswersScript) }
+    ensures fault { IfErr result (IfFault (writer.new ≡ writer.old)
+        (λ number. Turns (R.remaining reader.old) (W.contents writer.old) (W.contents writer.new)
+        (RefusesScript number))) }
 {
     let script = read_whole(alloc, reader)?;
     let Ok(mut collected) = Vec::with_capacity(alloc, COLLECTED) else {
@@ -65,8 +68,10 @@ fn answer_script<W: Write>(
     script: &[u8],
     output: &mut Output<'_, W>,
 ) -> Result<(), ScriptFault>
-    ensures answered { OnOk result (Tells W.contents output.old output.new (AnswersScript script.now)) }
-    ensures bad { IfErr result (IfBad (λ number. Tells W.contents output.old output.new (RefusesScript number script.now))) }
+    ensures answered { OnOk result (Tells W.contents output.old output.new
+        (AnswersScript script.now)) }
+    ensures bad { IfErr result (IfBad (λ number. Tells W.contents output.old output.new
+        (RefusesScript number script.now))) }
     ensures same_writer { SameWriter output.old output.new }
 {
     let (first, rest) = split_at_first(script, b'\n');
@@ -94,9 +99,15 @@ fn answer_calls<P: Scripted, W: Write>(
     lines: Lines<'_>,
     output: &mut Output<'_, W>,
 ) -> Result<(), ScriptFault>
-    ensures answered { OnOk result (Tells W.contents output.old output.new (AnswersRest (spoken P.opens P.step P.Scripted.language) (λ opening. option_copied words.entry ≡ P.Scripted.language.opening_text opening) (lines_left lines.entry))) }
+    ensures answered { OnOk result (Tells W.contents output.old output.new
+        (AnswersRest (spoken P.opens P.step P.Scripted.language)
+        (λ opening. option_copied words.entry ≡ P.Scripted.language.opening_text opening)
+        (lines_left lines.entry))) }
     ensures bad { IfErr result (IfBad (λ number.
-        Tells W.contents output.old output.new (RefusesLine (spoken P.opens P.step P.Scripted.language) (λ opening. option_copied words.entry ≡ P.Scripted.language.opening_text opening) (lines_left lines.entry) number))) }
+        Tells W.contents output.old output.new (RefusesLine
+        (spoken P.opens P.step P.Scripted.language)
+        (λ opening. option_copied words.entry ≡ P.Scripted.language.opening_text opening)
+        (lines_left lines.entry) number))) }
     ensures same_writer { SameWriter output.old output.new }
 {
     match P::opening(words) {
@@ -112,9 +123,13 @@ fn answer_lines<P: Scripted, W: Write>(
     mut lines: Lines<'_>,
     output: &mut Output<'_, W>,
 ) -> Result<(), ScriptFault>
-    ensures answered { OnOk result (Tells W.contents output.old output.new (AnswersRest (spoken P.opens P.step P.Scripted.language) (λ asked. asked ≡ opening) (lines_left lines.entry))) }
+    ensures answered { OnOk result (Tells W.contents output.old output.new
+        (AnswersRest (spoken P.opens P.step P.Scripted.language) (λ asked. asked ≡ opening)
+        (lines_left lines.entry))) }
     ensures bad { IfErr result (IfBad (λ number.
-        Tells W.contents output.old output.new (AnswersFront (spoken P.opens P.step P.Scripted.language) (λ asked. asked ≡ opening) (lines_left lines.entry) number))) }
+        Tells W.contents output.old output.new (AnswersFront
+        (spoken P.opens P.step P.Scripted.language) (λ asked. asked ≡ opening)
+        (lines_left lines.entry) number))) }
     ensures same_writer { SameWriter output.old output.new }
 {
     let Ok(primitive) = P::open(alloc, opening) else {
@@ -155,10 +170,12 @@ impl<P: Scripted> Session<P> {
         line: &[u8],
         output: &mut Output<'_, W>,
     ) -> Result<(), ScriptFault>
-        ensures answered { OnOk result (Tells W.contents output.old output.new (AnswersLine (spoken P.opens P.step P.Scripted.language) line.now
+        ensures answered { OnOk result (Tells W.contents output.old output.new
+            (AnswersLine (spoken P.opens P.step P.Scripted.language) line.now
             (labels_of self.old.futures) self.old.primitive (labels_of self.new.futures) self.new.primitive)) }
         // A bad line is told by its number; the session and the output stay as they were.
-        ensures bad { IfErr result (IfBad (λ at. (at ≡ number) × IsBad P.Scripted.language.call_of (labels_of self.old.futures) line.now
+        ensures bad { IfErr result (IfBad (λ at. (at ≡ number)
+            × IsBad P.Scripted.language.call_of (labels_of self.old.futures) line.now
             × (self.new.primitive ≡ self.old.primitive) × (output.new ≡ output.old))) }
         ensures same_writer { SameWriter output.old output.new }
     {
@@ -175,8 +192,10 @@ impl<P: Scripted> Session<P> {
 
     /// What a line asks for, and whether it holds the wakers back. A line without a call asks for the wakers alone.
     fn read(&self, line: &[u8]) -> Option<(bool, Option<Request<P::Call>>)>
-        ensures { MatchOption result (IsBad P.Scripted.language.call_of (labels_of self.now.futures) line.now)
-            (λ asked. Asks P.Scripted.language.call_of (labels_of self.now.futures) line.now asked.0 asked.1) }
+        ensures { MatchOption result (IsBad P.Scripted.language.call_of (labels_of self.now.futures)
+            line.now)
+            (λ asked. Asks P.Scripted.language.call_of (labels_of self.now.futures) line.now asked.0
+            asked.1) }
     {
         if line == b"wakes".as_slice() {
             return Some((false, None));
@@ -189,7 +208,8 @@ impl<P: Scripted> Session<P> {
 
     /// The call that a line stands for, with the labels that are in use.
     fn read_call(&self, line: &[u8]) -> Option<Request<P::Call>>
-        ensures { MatchOption result (IsNoCall P.Scripted.language.call_of (labels_of self.now.futures) line.now)
+        ensures { MatchOption result (IsNoCall P.Scripted.language.call_of
+            (labels_of self.now.futures) line.now)
             (Requests P.Scripted.language.call_of (labels_of self.now.futures) line.now) }
     {
         let words = Words::read(line)?;
@@ -204,7 +224,8 @@ impl<P: Scripted> Session<P> {
 
     /// What a line of these words asks for.
     fn row(&self, words: Words) -> Option<Row>
-        ensures { (label : Option (List ℕ)) → IsLabelOf label words.label → result ≡ row_of (labels_of self.now.futures) words.verb label words.number }
+        ensures { (label : Option (List ℕ)) → IsLabelOf label words.label
+            → result ≡ row_of (labels_of self.now.futures) words.verb label words.number }
     {
         match words.label {
             None => Some(Row::Plain(words.verb, words.number)),
@@ -217,7 +238,9 @@ impl<P: Scripted> Session<P> {
         &mut self,
         request: Option<Request<P::Call>>,
     ) -> Result<Answer<u64, u64>, ScriptFault>
-        ensures answered { IfOk result (λ answer. Performs P.step request (labels_of self.old.futures) self.old.primitive answer (labels_of self.new.futures) self.new.primitive) }
+        ensures answered { IfOk result (λ answer. Performs P.step request
+            (labels_of self.old.futures) self.old.primitive answer (labels_of self.new.futures)
+            self.new.primitive) }
         ensures fault { IfErr result (λ fault. fault ≡ ScriptFault.NoMemory) }
     {
         let Some(request) = request else {
@@ -235,7 +258,9 @@ impl<P: Scripted> Session<P> {
         label: Option<Label>,
         answer: &Answer<u64, u64>,
     ) -> Result<(), ScriptFault>
-        ensures kept { OnOk result ((word : Option (List ℕ)) → IsLabelOf word label → LabelsAfter row word answer.now (labels_of self.old.futures) (labels_of self.new.futures)) }
+        ensures kept { OnOk result ((word : Option (List ℕ)) → IsLabelOf word label
+            → LabelsAfter row word answer.now (labels_of self.old.futures)
+            (labels_of self.new.futures)) }
         ensures primitive { self.new.primitive ≡ self.old.primitive }
         ensures fault { IfErr result (λ fault. fault ≡ ScriptFault.NoMemory) }
     {
@@ -258,8 +283,10 @@ impl<P: Scripted> Session<P> {
     /// Takes out the oldest waker, if there is one.
     fn take_waker(&mut self) -> Option<u64>
         ensures waker { result ≡ first_of (P.Scripted.language.owed self.old.primitive) }
-        ensures taken { P.Scripted.language.owed self.new.primitive ≡ drop 1 (P.Scripted.language.owed self.old.primitive) }
-        ensures rest { P.Scripted.language.without_wakers self.new.primitive ≡ P.Scripted.language.without_wakers self.old.primitive }
+        ensures taken { P.Scripted.language.owed self.new.primitive ≡ drop 1
+            (P.Scripted.language.owed self.old.primitive) }
+        ensures rest { P.Scripted.language.without_wakers
+            self.new.primitive ≡ P.Scripted.language.without_wakers self.old.primitive }
         ensures futures { self.new.futures ≡ self.old.futures }
     {
         match self.primitive.apply(P::next_wake()) {
@@ -271,9 +298,11 @@ impl<P: Scripted> Session<P> {
 
     /// Takes out all wakers and writes them, oldest first.
     fn write_wakes<W: Write>(&mut self, output: &mut Output<'_, W>) -> Result<(), ScriptFault>
-        ensures text { OnOk result (GoesOn W.contents output.old output.new (Some (wakes_text true (P.Scripted.language.owed self.old.primitive)))) }
+        ensures text { OnOk result (GoesOn W.contents output.old output.new
+            (Some (wakes_text true (P.Scripted.language.owed self.old.primitive)))) }
         ensures emptied { OnOk result (P.Scripted.language.owed self.new.primitive ≡ []) }
-        ensures rest { OnOk result (P.Scripted.language.without_wakers self.new.primitive ≡ P.Scripted.language.without_wakers self.old.primitive) }
+        ensures rest { OnOk result (P.Scripted.language.without_wakers
+            self.new.primitive ≡ P.Scripted.language.without_wakers self.old.primitive) }
         ensures futures { self.new.futures ≡ self.old.futures }
         ensures fault { IfErr result IsOfOutput }
         ensures same_writer { SameWriter output.old output.new }

@@ -49,7 +49,8 @@ pub fn report<W: Write>(fault: &ScriptFault, writer: &mut W) -> u8
 
 /// Writes the line that tells of a bad line.
 fn write_bad_line<W: Write>(line: usize, writer: &mut W) -> Result<(), ScriptFault>
-    ensures { Begins (W.contents writer.old) (W.contents writer.new) (codes "schedule: line " ++ decimal line ++ codes " is bad\n") }
+    ensures { Begins (W.contents writer.old) (W.contents writer.new)
+        (codes "schedule: line " ++ decimal line ++ codes " is bad\n") }
 {
     write_whole(writer, b"schedule: line ")?;
     let mut digits = Buffer::new();

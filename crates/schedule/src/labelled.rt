@@ -23,7 +23,8 @@ pub struct Labelled<V> {
 impl<V: Copy> Labelled<V> {
     /// An empty one with about so many shelves.
     pub fn new(alloc: Global, shelf_count: usize) -> Result<Self, AllocError>
-        ensures empty { IfOk result (λ labelled. (code : ℕ) → stored labelled.shelves.items code ≡ None) }
+        ensures empty { IfOk result (λ labelled. (code : ℕ)
+            → stored labelled.shelves.items code ≡ None) }
     {
         // An odd number, since labels are numbers in base 256.
         let count = shelf_count.min(MOST_SHELVES) / 2 * 2 + 1;
@@ -52,7 +53,8 @@ impl<V: Copy> Labelled<V> {
 
     /// Puts a value under a label, in the place of what stood there.
     pub fn insert(&mut self, label: Label, value: V) -> Result<(), AllocError>
-        ensures stored { OnOk result (Stores label.code (Some value) self.old.shelves.items self.new.shelves.items) }
+        ensures stored { OnOk result (Stores label.code (Some value) self.old.shelves.items
+            self.new.shelves.items) }
     {
         let at = self.shelf_number(label);
         match self.shelves[at].insert(label.code(), value) {

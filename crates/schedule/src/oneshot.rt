@@ -62,7 +62,9 @@ impl Scripted for OneshotBroadcastState<u64, u64> {
 
 /// The opening of a channel, after whose name no word stands.
 pub fn open_channel(words: Option<&[u8]>) -> Option<()>
-    ensures { MatchOption result ((opening : Unit {0}) → option_copied words.entry ≢ only_opening opening) (λ opening. option_copied words.entry ≡ only_opening opening) }
+    ensures { MatchOption result
+        ((opening : Unit {0}) → option_copied words.entry ≢ only_opening opening)
+        (λ opening. option_copied words.entry ≡ only_opening opening) }
 {
     match words {
         None => Some(()),

@@ -25,11 +25,14 @@ pub fn run_program<R: Read, W: Write, E: Write>(
     writer: &mut W,
     errors: &mut E,
 ) -> u8
-    ensures script { IsOkAnd arguments (λ given. into_iter_len given ≤ 1) → EndsScript result (writer.new ≡ writer.old)
+    ensures script { IsOkAnd arguments (λ given. into_iter_len given ≤ 1)
+        → EndsScript result (writer.new ≡ writer.old)
         (Turns (R.remaining reader.old) (W.contents writer.old) (W.contents writer.new) AnswersScript)
         (λ number. Turns (R.remaining reader.old) (W.contents writer.old) (W.contents writer.new) (RefusesScript number))
         (E.contents errors.old) (E.contents errors.new) }
-    ensures arguments { (¬ IsOkAnd arguments (λ given. into_iter_len given ≤ 1)) → (writer.new ≡ writer.old) × EndsAtOnce result (E.contents errors.old) (E.contents errors.new) }
+    ensures arguments { (¬ IsOkAnd arguments (λ given. into_iter_len given ≤ 1))
+        → (writer.new ≡ writer.old)
+        × EndsAtOnce result (E.contents errors.old) (E.contents errors.new) }
 {
     match arguments {
         Ok(arguments) if arguments.len() <= 1 => match run_script(alloc, reader, writer) {

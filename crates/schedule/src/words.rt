@@ -21,7 +21,8 @@ pub fn split_at_first(bytes: &[u8], separator: u8) -> (&[u8], Option<&[u8]>)
 
 /// What follows `hold` in a line that holds its wakers back.
 pub fn after_hold(line: &[u8]) -> Option<&[u8]>
-    ensures { MatchOption result ((call : List ℕ) → line.now ≢ joined (codes "hold") (Some call)) (λ call. line.now ≡ joined (codes "hold") (Some call.now)) }
+    ensures { MatchOption result ((call : List ℕ) → line.now ≢ joined (codes "hold") (Some call))
+        (λ call. line.now ≡ joined (codes "hold") (Some call.now)) }
 {
     line.strip_prefix(b"hold ".as_slice())
 }
@@ -50,7 +51,8 @@ impl<'a> Lines<'a> {
 
     /// The next line. A line feed at the very end ends the last line.
     pub fn line(&mut self) -> Option<&'a [u8]>
-        ensures { NextLine (option_copied self.old.rest) (option_copied result) (option_copied self.new.rest) }
+        ensures { NextLine (option_copied self.old.rest) (option_copied result)
+            (option_copied self.new.rest) }
     {
         let rest = self.rest?;
         if rest.is_empty() {

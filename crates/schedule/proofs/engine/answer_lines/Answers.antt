@@ -24,8 +24,10 @@ loop-line-init g c = (
 pub loop-line-preserved : goal.loop-line-preserved
 loop-line-preserved g c = (
   omega (arith, c.loop-line.invariant.0, line_shortens _ _ _ c.in-Some.ensures),
-  so_far_goes_on (spoken g.P.Primitive.opens g.P.Primitive.step g.P.Scripted.language) g.W.Write.contents c.args.opening (option_copied c.args.lines.rest) c.args.output.now
-      c.loop-line.number (option_copied c.loop-line.lines.rest) (labels_of c.loop-line.session.futures) c.loop-line.session.primitive c.loop-line.output c.in-Some.line.now
+  so_far_goes_on (spoken g.P.Primitive.opens g.P.Primitive.step g.P.Scripted.language) g.W.Write.contents c.args.opening
+      (option_copied c.args.lines.rest) c.args.output.now
+      c.loop-line.number (option_copied c.loop-line.lines.rest) (labels_of c.loop-line.session.futures)
+      c.loop-line.session.primitive c.loop-line.output c.in-Some.line.now
       (option_copied c.line.new.self.rest) (labels_of c.answer_line.new.self.futures) c.answer_line.new.self.primitive
       c.answer_line.new.output c.loop-line.invariant.1 c.in-Some.ensures c.in_ok-answer_line.ensures.answered,
   c.answer_line.ensures.same_writer ∙ c.loop-line.invariant.2,
@@ -33,13 +35,18 @@ loop-line-preserved g c = (
 
 pub returns-in_err-answer_line-clause-bad : goal.returns-in_err-answer_line-clause-bad
 returns-in_err-answer_line-clause-bad g c =
-    if_err_same c.from_residual.result _ c.in_err-answer_line.field-0.0 c.from_residual.ensures.1 (if_bad_more _ _ c.in_err-answer_line.field-0.0 c.in_err-answer_line.ensures.bad (λ number told.
+    if_err_same c.from_residual.result _ c.in_err-answer_line.field-0.0 c.from_residual.ensures.1
+    (if_bad_more _ _ c.in_err-answer_line.field-0.0 c.in_err-answer_line.ensures.bad (λ number told.
     rw (told.0, told.3)
-    (front_answered (spoken g.P.Primitive.opens g.P.Primitive.step g.P.Scripted.language) g.W.Write.contents c.args.opening (option_copied c.args.lines.rest) c.args.output.now
-    c.loop-line.number (option_copied c.loop-line.lines.rest) (labels_of c.loop-line.session.futures) c.loop-line.session.primitive c.loop-line.output c.in-Some.line.now _
+    (front_answered (spoken g.P.Primitive.opens g.P.Primitive.step g.P.Scripted.language) g.W.Write.contents
+    c.args.opening (option_copied c.args.lines.rest) c.args.output.now
+    c.loop-line.number (option_copied c.loop-line.lines.rest) (labels_of c.loop-line.session.futures)
+    c.loop-line.session.primitive c.loop-line.output c.in-Some.line.now _
     c.loop-line.invariant.1 c.in-Some.ensures told.1)))
 
 pub returns-clause-answered : goal.returns-clause-answered
 returns-clause-answered g c =
-    rest_answered (spoken g.P.Primitive.opens g.P.Primitive.step g.P.Scripted.language) g.W.Write.contents c.args.opening (option_copied c.args.lines.rest) c.args.output.now
-    c.loop-line.number (option_copied c.loop-line.lines.rest) (labels_of c.loop-line.session.futures) c.loop-line.session.primitive c.loop-line.output _ c.loop-line.invariant.1 c.in_default-line.ensures
+    rest_answered (spoken g.P.Primitive.opens g.P.Primitive.step g.P.Scripted.language) g.W.Write.contents
+    c.args.opening (option_copied c.args.lines.rest) c.args.output.now
+    c.loop-line.number (option_copied c.loop-line.lines.rest) (labels_of c.loop-line.session.futures)
+    c.loop-line.session.primitive c.loop-line.output _ c.loop-line.invariant.1 c.in_default-line.ensures
