@@ -283,10 +283,10 @@ impl<P: Scripted> Session<P> {
     /// Takes out the oldest waker, if there is one.
     fn take_waker(&mut self) -> Option<u64>
         ensures waker { result ≡ first_of (P.Scripted.language.owed self.old.primitive) }
-        ensures taken { P.Scripted.language.owed self.new.primitive ≡ drop 1
-            (P.Scripted.language.owed self.old.primitive) }
-        ensures rest { P.Scripted.language.without_wakers
-            self.new.primitive ≡ P.Scripted.language.without_wakers self.old.primitive }
+        ensures taken { P.Scripted.language.owed self.new.primitive
+            ≡ drop 1 (P.Scripted.language.owed self.old.primitive) }
+        ensures rest { P.Scripted.language.without_wakers self.new.primitive
+            ≡ P.Scripted.language.without_wakers self.old.primitive }
         ensures futures { self.new.futures ≡ self.old.futures }
     {
         match self.primitive.apply(P::next_wake()) {
@@ -301,8 +301,8 @@ impl<P: Scripted> Session<P> {
         ensures text { OnOk result (GoesOn W.contents output.old output.new
             (Some (wakes_text true (P.Scripted.language.owed self.old.primitive)))) }
         ensures emptied { OnOk result (P.Scripted.language.owed self.new.primitive ≡ []) }
-        ensures rest { OnOk result (P.Scripted.language.without_wakers
-            self.new.primitive ≡ P.Scripted.language.without_wakers self.old.primitive) }
+        ensures rest { OnOk result (P.Scripted.language.without_wakers self.new.primitive
+            ≡ P.Scripted.language.without_wakers self.old.primitive) }
         ensures futures { self.new.futures ≡ self.old.futures }
         ensures fault { IfErr result IsOfOutput }
         ensures same_writer { SameWriter output.old output.new }

@@ -18,9 +18,9 @@ pub trait Scripted: Primitive<Answer = Answer<u64, u64>> + Drop {
 
     /// The opening that the words after the primitive's name ask for; `None` if they ask for none.
     fn opening(words: Option<&[u8]>) -> Option<Self::Opening>
-        ensures { MatchOption result ((opening : Self.Opening)
-            → option_copied words.entry ≢ language.opening_text opening) (λ opening. option_copied
-            words.entry ≡ language.opening_text opening) };
+        ensures { MatchOption result
+            ((opening : Self.Opening) → option_copied words.entry ≢ language.opening_text opening)
+            (λ opening. option_copied words.entry ≡ language.opening_text opening) };
 
     /// The call that a line asks for; `None` if it asks for none of this primitive's.
     fn call(row: Row) -> Option<Self::Call>
