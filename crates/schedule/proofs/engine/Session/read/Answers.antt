@@ -15,3 +15,6 @@ returns-in_err-read_call-in-None g c =
     let not_wakes : c.args.line.now ≢ codes "wakes" = first_of (search rules, grind (arith, common_steps)) in
     rw c.from_residual-in_err-read_call-in-None.ensures (bad_line g.P.Scripted.language.call_of _ c.args.line.now
     not_wakes c.in-None.ensures c.in_err-read_call-in-None.ensures)
+
+pub returns-in_ok-read_call-in-Some : goal.returns-in_ok-read_call-in-Some
+returns-in_ok-read_call-in-Some g c = search rules
