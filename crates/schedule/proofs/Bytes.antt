@@ -8,9 +8,11 @@ pub appends_none : (old : Option (List ℕ)) → Appends old old []
 appends_none None = tt
 appends_none (Some xs) = sym (append-nil xs)
 
-pub appends_twice : (old between new : Option (List ℕ)) (xs ys : List ℕ) → Appends old between xs → Appends between new ys → Appends old new (xs ++ ys)
+pub appends_twice : (old between new : Option (List ℕ)) (xs ys : List ℕ) → Appends old between xs
+    → Appends between new ys → Appends old new (xs ++ ys)
 appends_twice None between new xs ys first second = tt
-appends_twice (Some olds) (Some betweens) (Some news) xs ys first second = second ∙ ap (λ zs. zs ++ ys) first ∙ append_assoc olds xs ys
+appends_twice (Some olds) (Some betweens) (Some news) xs ys first second =
+    second ∙ ap (λ zs. zs ++ ys) first ∙ append_assoc olds xs ys
 appends_twice (Some olds) (Some betweens) None xs ys first second = second
 appends_twice (Some olds) None new xs ys first second = absurd first
 
@@ -18,9 +20,11 @@ pub consumes_none : (old : Option (List ℕ)) → Consumes old old []
 consumes_none None = tt
 consumes_none (Some xs) = refl
 
-pub consumes_twice : (old between new : Option (List ℕ)) (xs ys : List ℕ) → Consumes old between xs → Consumes between new ys → Consumes old new (xs ++ ys)
+pub consumes_twice : (old between new : Option (List ℕ)) (xs ys : List ℕ) → Consumes old between xs
+    → Consumes between new ys → Consumes old new (xs ++ ys)
 consumes_twice None between new xs ys first second = tt
-consumes_twice (Some olds) (Some betweens) (Some news) xs ys first second = first ∙ ap (λ zs. xs ++ zs) second ∙ sym (append_assoc xs ys news)
+consumes_twice (Some olds) (Some betweens) (Some news) xs ys first second =
+    first ∙ ap (λ zs. xs ++ zs) second ∙ sym (append_assoc xs ys news)
 consumes_twice (Some olds) (Some betweens) None xs ys first second = second
 consumes_twice (Some olds) None new xs ys first second = absurd first
 
@@ -38,10 +42,12 @@ take_plus_of i count xs ys few =
     ∙ ap (λ zs. xs ++ take count zs) (drop_at xs ys i few)
 
 -- what a read puts after the first i bytes
-pub read_more : (i count most : ℕ) (bytes buffer after more : List ℕ) → i ≤ length bytes → count ≤ length buffer → i + count ≤ most
+pub read_more : (i count most : ℕ) (bytes buffer after more : List ℕ) → i ≤ length bytes → count ≤ length buffer
+    → i + count ≤ most
     → take (i + count) (take most ((take i bytes ++ (buffer ++ after)) ++ more)) ≡ take i bytes ++ take count buffer
 read_more i count most bytes buffer after more some few room =
     take-take (i + count) most _ room
     ∙ ap (take (i + count)) (append_assoc (take i bytes) (buffer ++ after) more)
     ∙ take_plus_of i count (take i bytes) ((buffer ++ after) ++ more) (length-take-le i bytes some)
-    ∙ ap (λ zs. take i bytes ++ zs) (ap (take count) (append_assoc buffer after more) ∙ take-append-le count buffer (after ++ more) few)
+    ∙ ap (λ zs. take i bytes ++ zs) (ap (take count) (append_assoc buffer after more) ∙ take-append-le count buffer
+    (after ++ more) few)

@@ -24,9 +24,13 @@ bytes_fit i code byte few low small =
 
 -- what was read to its end
 pub is_label : (cs : List ℕ) (i code : ℕ) → length cs ≤ i → 0 < length cs → length cs ≤ 16 → IsLetter (slice_index cs 0)
-    → ((k : ℕ) → k < i → IsLetterOrDigit (get_or cs k 0)) → code ≡ code_of (take i cs) → IsLabel cs × (code ≡ code_of cs)
-is_label cs i code read some few first all e =
-    ((some, few, first, All-from_get_or IsLetterOrDigit cs 0 (λ k h. all k (omega arith))), e ∙ ap code_of (take_all i cs read))
+    → ((k : ℕ) → k < i → IsLetterOrDigit (get_or cs k 0)) → code ≡ code_of (take i cs) → IsLabel cs
+    × (code ≡ code_of cs)
+is_label cs i code read some few first all e = (
+  (some, few, first, All-from_get_or IsLetterOrDigit cs 0 (λ k h. all k (omega arith))),
+  e ∙ ap code_of
+      (take_all i cs read),
+)
 
 -- bytes
 abbrev HasBytes : List ℕ → Type 0
@@ -39,14 +43,16 @@ same_length n m [] [] small small' even e = (e, refl)
 same_length n m [] (y ∷ ys) small small' even e = absurd (omega (arith, even))
 same_length n m (x ∷ xs) [] small small' even e = absurd (omega (arith, even))
 same_length n m (x ∷ xs) (y ∷ ys) small small' even e =
-    let rest = same_length (n * 256 + x) (m * 256 + y) xs ys (λ i h. small (suc i) (omega arith)) (λ i h. small' (suc i) (omega arith)) (omega (arith, even)) e in
+    let rest = same_length (n * 256 + x) (m * 256 + y) xs ys (λ i h. small (suc i) (omega arith))
+    (λ i h. small' (suc i) (omega arith)) (omega (arith, even)) e in
     let low : x < 256 = small 0 (omega arith) in
     let low' : y < 256 = small' 0 (omega arith) in
     let first : x ≡ y = omega (arith, rest.0, low, low') in
     (omega (arith, rest.0, low, low'), ap (λ c. c ∷ xs) first ∙ ap (λ cs. y ∷ cs) rest.1)
 
 -- more bytes, the first not 0, make another number
-longer : (xs ys : List ℕ) → HasBytes xs → HasBytes ys → length xs < length ys → 0 < get_or ys 0 0 → code_of xs ≡ code_of ys → ⊥
+longer : (xs ys : List ℕ) → HasBytes xs → HasBytes ys → length xs < length ys → 0 < get_or ys 0 0
+    → code_of xs ≡ code_of ys → ⊥
 longer xs [] small small' more some e = omega (arith, more)
 longer xs (y ∷ ys) small small' more some e =
     let k = length ys - length xs in
@@ -56,19 +62,23 @@ longer xs (y ∷ ys) small small' more some e =
     let parts : code_of (y ∷ ys) ≡ number_from_digits_after 256 (code_of front) back =
     ap code_of (sym cut) ∙ number_after_append 256 0 front back in
     let even : length xs ≡ length back = omega (arith, length-drop k ys, more) in
-    let bytes : HasBytes back = λ i h. subst (λ c. c < 256) (sym (get_or-drop k ys i 0)) (small' (suc (k + i)) (omega (arith, length-drop k ys, h))) in
+    let bytes : HasBytes back = λ i h. subst (λ c. c < 256) (sym (get_or-drop k ys i 0))
+    (small' (suc (k + i)) (omega (arith, length-drop k ys, h))) in
     let zeros = same_length 0 (code_of front) xs back small bytes even (e ∙ parts) in
     let least : 0 * 256 + y ≤ code_of front = number_after_ge 256 (0 * 256 + y) (take k ys) (omega arith) in
     omega (arith, zeros.0, least, some)
 
 label_bytes : (cs : List ℕ) → IsLabel cs → HasBytes cs
-label_bytes cs label = λ i h. elim (label.3 i 0 h) [ inl letter ↦ omega (arith, letter.1) | inr digit ↦ omega (arith, digit.1) ]
+label_bytes cs label =
+    λ i h. elim (label.3 i 0 h) [ inl letter ↦ omega (arith, letter.1) | inr digit ↦ omega (arith, digit.1) ]
 
 -- Labels of one code are the same.
 pub one_word : (xs ys : List ℕ) → IsLabel xs → IsLabel ys → code_of xs ≡ code_of ys → xs ≡ ys
 one_word xs ys label label' e =
     elim (cases_order (length xs) (length ys)) [
       | inl even ↦ (same_length 0 0 xs ys (label_bytes xs label) (label_bytes ys label') even e).1
-      | inr (inl less) ↦ absurd (longer xs ys (label_bytes xs label) (label_bytes ys label') less (omega (arith, label'.2.0)) e)
-      | inr (inr less) ↦ absurd (longer ys xs (label_bytes ys label') (label_bytes xs label) less (omega (arith, label.2.0)) (sym e))
+      | inr (inl less) ↦ absurd (longer xs ys (label_bytes xs label) (label_bytes ys label') less
+          (omega (arith, label'.2.0)) e)
+      | inr (inr less) ↦ absurd (longer ys xs (label_bytes ys label') (label_bytes xs label) less
+          (omega (arith, label.2.0)) (sym e))
     ]

@@ -4,4 +4,8 @@ pub mod Bytes
 pub mod Cuts
 pub mod Numbered
 pub mod Answered
+pub mod Reading
+pub mod Rebound
+pub mod Shelves
 pub mod Script
+pub mod Begun

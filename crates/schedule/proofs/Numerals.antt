@@ -17,11 +17,13 @@ pub own : IsNumeralModel HasDigits (digits_value 10)
 own = numerals_by_value _ tells_by_index
 
 -- digits without a leading zero are the numeral of their value
-pub is_numeral : (ds : List ℕ) → HasDigits ds → 0 < length ds → (get_or ds 0 0 ≡ 48 → length ds ≡ 1) → digits_value 10 ds < 2 ^ 64 → ds ≡ decimal (digits_value 10 ds)
+pub is_numeral : (ds : List ℕ) → HasDigits ds → 0 < length ds → (get_or ds 0 0 ≡ 48 → length ds ≡ 1)
+    → digits_value 10 ds < 2 ^ 64 → ds ≡ decimal (digits_value 10 ds)
 is_numeral ds all some lead small = sym (decimal-digits_value own ds all some lead small)
 
 -- the same of all that was read, whose number is v
-pub is_numeral_of : (ds : List ℕ) (i v : ℕ) → v ≡ digits_value 10 (take i ds) → length ds ≤ i → HasDigits ds → 0 < length ds → (get_or ds 0 0 ≡ 48 → length ds ≡ 1) → v < 2 ^ 64 → ds ≡ decimal v
+pub is_numeral_of : (ds : List ℕ) (i v : ℕ) → v ≡ digits_value 10 (take i ds) → length ds ≤ i → HasDigits ds
+    → 0 < length ds → (get_or ds 0 0 ≡ 48 → length ds ≡ 1) → v < 2 ^ 64 → ds ≡ decimal v
 is_numeral_of ds i v e read all some lead small =
     let value : v ≡ digits_value 10 ds = e ∙ ap (digits_value 10) (take_all i ds read) in
     is_numeral ds all some lead (omega (arith, value, small)) ∙ ap decimal (sym value)

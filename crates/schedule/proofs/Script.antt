@@ -1,37 +1,191 @@
 -- What a script's first line says of the whole.
-use Rattle.std.specs.Prelude.{◌≡◌, ℕ, List, [], Option, Some, Result, Ok, Err, OnOk, IfErr}
-use Rattle.std.proofs.Common.{refl, subst, inl, inr}
-use Rattle.schedule.specs.Answered.{AnswersRest, RefusesLine, IfBad}
-use Rattle.schedule.specs.Cuts.{IsCut, NextWord}
-use Rattle.schedule.specs.Names.{name_of}
+use Rattle.std.specs.Prelude.{◌≡◌, ◌⊎◌, ℕ, List, [], Option, None, Some, Result, Ok, Err, OnOk, IfErr}
+use Rattle.std.proofs.Common.{refl, sym, ◌∙◌, subst, ap, inl, inr}
+use Rattle.schedule.specs.Answered.{AnswersRest, AnswersFront, RefusesLine, IfBad}
+use Rattle.schedule.specs.Cuts.{IsCut}
+use Rattle.schedule.specs.Language.{Spoken}
+use Rattle.schedule.specs.Lines.{joined}
+use Rattle.schedule.specs.Names.{name_of, IsNoName}
 use Rattle.schedule.specs.Outputs.{GoesOn, Tells, on_its_way}
-use Rattle.schedule.specs.Script.{OfPrimitive, AnswersScript, RefusesScript}
+use Rattle.schedule.specs.Script.{OfPrimitive, IsFirst, IsNoFirst, AnswersScript, RefusesScript}
+use Rattle.schedule.specs.Tables.{event_opening}
 use Rattle.schedule.specs.declared.fault.ScriptFault.{ScriptFault}
 use Rattle.schedule.specs.declared.named.Named.{Named}
+use Rattle.schedule.specs.declared.named.Named.TheVariants.{Event, Oneshot, OneshotBroadcast, StateBroadcast}
 use Rattle.schedule.specs.declared.output.Output.{Output}
 use Rattle.schedule.proofs.Answered.{if_bad_more}
 use Rattle.schedule.proofs.Bytes.{appends_none}
+use Rattle.schedule.proofs.Reading.{one_place, cut_of, of_cut, name_lacks, same_name}
 
-module _ {W : Type 0} (contents : W → Option (List ℕ)) (script first : List ℕ) (rest : Option (List ℕ)) (cut : IsCut 10 script first rest) (shown left : Output W) where
-  pub refused_first : shown ≡ left → Tells contents shown left (RefusesScript 1 script)
-  refused_first same = (
+module _ {S O C : Type 0} (primitive : Spoken S O C) (asked wanted : O → Type 0)
+    (more : (opening : O) → asked opening → wanted opening) (rest : Option (List ℕ)) (text : List ℕ) where
+  rest_more : AnswersRest primitive asked rest text → AnswersRest primitive wanted rest text
+  rest_more all = record {
+    opening = all.opening;
+    as_asked = more all.opening all.as_asked;
+    first = all.first;
+    last = all.last;
+    labels = all.labels;
+    after = all.after;
+    lines = all.lines;
+    end = all.end;
+    opened = all.opened;
+    no_labels = all.no_labels;
+    are = all.are;
+    ended = all.ended;
+    answered = all.answered;
+  }
+
+  front_more : (number : ℕ) → AnswersFront primitive asked rest number text
+      → AnswersFront primitive wanted rest number text
+  front_more number front = record {
+    opening = front.opening;
+    as_asked = more front.opening front.as_asked;
+    first = front.first;
+    last = front.last;
+    labels = front.labels;
+    after = front.after;
+    lines = front.lines;
+    bad = front.bad;
+    at = front.at;
+    later = front.later;
+    opened = front.opened;
+    no_labels = front.no_labels;
+    are = front.are;
+    next = front.next;
+    is_bad = front.is_bad;
+    number_is = front.number_is;
+    answered = front.answered;
+  }
+
+-- what holds of the primitive, of whichever it is
+on_primitive : (named : Named) (P Q : (S O C : Type 0) → Spoken S O C → Type 0)
+    → ((S O C : Type 0) (primitive : Spoken S O C) → P S O C primitive → Q S O C primitive)
+    → OfPrimitive named P → OfPrimitive named Q
+on_primitive Event P Q more holds = more _ _ _ _ holds
+on_primitive Oneshot P Q more holds = more _ _ _ _ holds
+on_primitive OneshotBroadcast P Q more holds = more _ _ _ _ holds
+on_primitive StateBroadcast P Q more holds = more _ _ _ _ holds
+
+-- The words after the name ask for this opening.
+abbrev pub AsksFor : Option (List ℕ) → {S O C : Type 0} → Spoken S O C → O → Type 0
+AsksFor words primitive opening = words ≡ primitive.language.opening_text opening
+
+-- No opening of the primitive of this name is asked for.
+abbrev pub OpensNothing : Option (List ℕ) → Named → Type 0
+OpensNothing words named = OfPrimitive named (λ S O C primitive. (opening : O) → AsksFor words primitive opening → ⊥)
+
+abbrev pub FrontOf : Option (List ℕ) → Option (List ℕ) → ℕ → List ℕ → Named → Type 0
+FrontOf words rest number text named =
+    OfPrimitive named (λ S O C primitive. AnswersFront primitive (AsksFor words primitive) rest number text)
+
+-- where a line was refused
+at_line : (words rest : Option (List ℕ)) (number : ℕ) (text : List ℕ) (named : Named)
+    → OfPrimitive named (λ S O C primitive. RefusesLine primitive (AsksFor words primitive) rest number text)
+    → ((number ≡ 1) × (text ≡ []) × OpensNothing words named) ⊎ FrontOf words rest number text named
+at_line words rest number text Event (inl it) = inl it
+at_line words rest number text Event (inr it) = inr it
+at_line words rest number text Oneshot (inl it) = inl it
+at_line words rest number text Oneshot (inr it) = inr it
+at_line words rest number text OneshotBroadcast (inl it) = inl it
+at_line words rest number text OneshotBroadcast (inr it) = inr it
+at_line words rest number text StateBroadcast (inl it) = inl it
+at_line words rest number text StateBroadcast (inr it) = inr it
+
+module _ (first name : List ℕ) (words : Option (List ℕ)) (cut : IsCut 32 first name words) where
+  parts : (named : Named) (text : Option (List ℕ)) → first ≡ joined (name_of named) text → (name ≡ name_of named)
+      × (words ≡ text)
+  parts named text is =
+      one_place 32 name (name_of named) words text first cut (cut_of first (name_of named) text is (name_lacks named))
+
+  no_name : IsNoName name → IsNoFirst first
+  no_name none Event = λ opening is. none Event (parts Event (event_opening opening) is).0
+  no_name none Oneshot = λ opening is. none Oneshot (parts Oneshot None is).0
+  no_name none OneshotBroadcast = λ opening is. none OneshotBroadcast (parts OneshotBroadcast None is).0
+  no_name none StateBroadcast = λ opening is. none StateBroadcast (parts StateBroadcast None is).0
+
+  module _ (named : Named) (known : name ≡ name_of named) where
+    is_first : {S O C : Type 0} (primitive : Spoken S O C) (opening : O) → AsksFor words primitive opening
+        → IsFirst named primitive first opening
+    is_first primitive opening asks =
+        of_cut first name words cut ∙ ap (λ n. joined n words) known ∙ ap (λ w. joined (name_of named) w) asks
+
+    of_other : (other : Named) → name ≡ name_of other → OpensNothing words named → OpensNothing words other
+    of_other other is nothing = subst (OpensNothing words) (same_name named other (sym known ∙ is)) nothing
+
+    no_opening : OpensNothing words named → IsNoFirst first
+    no_opening nothing Event =
+        λ opening is. let it = parts Event (event_opening opening) is in of_other Event it.0 nothing opening it.1
+    no_opening nothing Oneshot =
+        λ opening is. let it = parts Oneshot None is in of_other Oneshot it.0 nothing opening it.1
+    no_opening nothing OneshotBroadcast =
+        λ opening is. let it = parts OneshotBroadcast None is in of_other OneshotBroadcast it.0 nothing opening it.1
+    no_opening nothing StateBroadcast =
+        λ opening is. let it = parts StateBroadcast None is in of_other StateBroadcast it.0 nothing opening it.1
+
+module _ {W : Type 0} (contents : W → Option (List ℕ)) (script first name : List ℕ) (rest words : Option (List ℕ))
+    (line_cut : IsCut 10 script first rest) (cut : IsCut 32 first name words) (shown left : Output W) where
+  pub refused_first : IsNoName name → shown ≡ left → Tells contents shown left (RefusesScript 1 script)
+  refused_first none same = (
     [],
-    record { first = first; rest = rest; cut = cut; refused = inl (refl, refl) },
+    record {
+      first = first;
+      rest = rest;
+      cut = line_cut;
+      refused = inl
+          (refl, refl, no_name first name words cut none);
+    },
     subst (λ (out : Output W). GoesOn contents shown out (Some [])) same (appends_none (on_its_way contents shown)),
   )
 
-  module _ (line : Option (List ℕ)) (name : List ℕ) (after : Option (List ℕ)) (named : Named) (is : line ≡ Some first) (begins : NextWord line (Some name) after) (known : name ≡ name_of named) where
-    begun : NextWord (Some first) (Some (name_of named)) after
-    begun = subst (λ (word : List ℕ). NextWord (Some first) (Some word) after) known (subst (λ (l : Option (List ℕ)). NextWord l (Some name) after) is begins)
-
+  module _ (named : Named) (known : name ≡ name_of named) where
     pub script_answered : {A E : Type 0} (r : Result A E)
-        → OnOk r (Tells contents shown left (λ text. OfPrimitive named (λ S O C opens step owed without_wakers spells. AnswersRest opens step owed without_wakers (spells after) rest text)))
+        → OnOk r (Tells contents shown left (λ text. OfPrimitive named
+        (λ S O C primitive. AnswersRest primitive (AsksFor words primitive) rest text)))
         → OnOk r (Tells contents shown left (AnswersScript script))
-    script_answered (Ok x) told = (told.0, record { first = first; rest = rest; named = named; after = after; cut = cut; begins = begun; answered = told.1 }, told.2)
+    script_answered (Ok x) told = (
+      told.0,
+      record {
+        first = first;
+        rest = rest;
+        named = named;
+        cut = line_cut;
+        answered =
+            on_primitive named _ _ (λ S O C primitive all. rest_more primitive _ _
+            (is_first first name words cut named known primitive) rest told.0 all) told.1;
+      },
+      told.2,
+    )
     script_answered (Err e) told = tt
 
+    refused : (number : ℕ) (text : List ℕ)
+        → OfPrimitive named (λ S O C primitive. RefusesLine primitive (AsksFor words primitive) rest number text)
+        → RefusesScript number script text
+    refused number text told = elim (at_line words rest number text named told) [
+      | inl it ↦ record {
+        first = first;
+        rest = rest;
+        cut = line_cut;
+        refused = inl
+            (it.0, it.1, no_opening first name words cut named known it.2);
+      }
+      | inr front ↦ record {
+        first = first;
+        rest = rest;
+        cut = line_cut;
+        refused =
+            inr (
+              named,
+              on_primitive named _ _ (λ S O C primitive it. front_more primitive _ _
+                  (is_first first name words cut named known primitive) rest text number it) front,
+            );
+      }
+    ]
+
     pub script_refused : {A : Type 0} (r : Result A ScriptFault)
-        → IfErr r (IfBad (λ number. Tells contents shown left (λ text. OfPrimitive named (λ S O C opens step owed without_wakers spells. RefusesLine opens step owed without_wakers (spells after) rest number text))))
+        → IfErr r (IfBad (λ number. Tells contents shown left
+        (λ text. OfPrimitive named (λ S O C primitive. RefusesLine primitive (AsksFor words primitive) rest number
+        text))))
         → IfErr r (IfBad (λ number. Tells contents shown left (RefusesScript number script)))
     script_refused (Ok x) told = tt
-    script_refused (Err fault) told = if_bad_more _ _ fault told (λ number it. (it.0, record { first = first; rest = rest; cut = cut; refused = inr (named, after, begun, it.1) }, it.2))
+    script_refused (Err fault) told = if_bad_more _ _ fault told (λ number it. (it.0, refused number it.0 it.1, it.2))

@@ -6,12 +6,6 @@ abbrev pub IsCut : ℕ → List ℕ → List ℕ → Option (List ℕ) → Type 
 IsCut separator bytes piece None = (bytes ≡ piece) × All (λ byte. byte ≢ separator) piece
 IsCut separator bytes piece (Some rest) = (bytes ≡ piece ++ separator ∷ rest) × All (λ byte. byte ≢ separator) piece
 
--- The next word of what is left of a line, and what is left then; words are parted by single spaces.
-abbrev pub NextWord : Option (List ℕ) → Option (List ℕ) → Option (List ℕ) → Type 0
-NextWord None word after = (word ≡ None) × (after ≡ None)
-NextWord (Some line) None after = ⊥
-NextWord (Some line) (Some word) after = IsCut 32 line word after
-
 -- The next line of what is left of a script; a line feed at the very end ends the last line.
 abbrev pub NextLine : Option (List ℕ) → Option (List ℕ) → Option (List ℕ) → Type 0
 NextLine None line after = (line ≡ None) × (after ≡ None)

@@ -1,12 +1,7 @@
 -- What was not read yet.
 use Rattle.std.specs.Prelude.{ℕ, List, Option, option_copied}
 use Rattle.schedule.specs.declared.words.Lines.{Lines}
-use Rattle.schedule.specs.declared.words.Words.{Words}
 
 -- of a script
 abbrev pub lines_left : Lines → Option (List ℕ)
 lines_left lines = option_copied lines.rest
-
--- of a line
-abbrev pub words_left : Words → Option (List ℕ)
-words_left words = option_copied words.rest

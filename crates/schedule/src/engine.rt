@@ -1,11 +1,15 @@
 //! Answering scripts.
-ghost use Rattle.std.specs.Prelude.{◌≡◌, [], Some, true, OnOk, OnErr, IfOk, IfErr, IfSome, drop};
-ghost use Rattle.schedule.specs.Answered.{Performs, IsOfLine, MakesCall, BeginsLine, AnswersLine, AnswersRest, AnswersFront, RefusesLine, IfBad};
+ghost use Rattle.std.specs.Prelude.{◌≡◌, ℕ, List, [], Option, Some, true, OnOk, OnErr, IfOk, IfErr, MatchOption, drop, option_copied};
+ghost use Rattle.schedule.specs.Answered.{AnswersLine, AnswersRest, AnswersFront, RefusesLine, IfBad};
+ghost use Rattle.schedule.specs.Asked.{Requests, Asks, Performs};
+ghost use Rattle.schedule.specs.Language.{spoken, first_of};
+ghost use Rattle.schedule.specs.Lines.{IsNoCall, IsBad, LabelsAfter, row_of};
 ghost use Rattle.schedule.specs.Script.{AnswersScript, RefusesScript, Turns, IfFault};
-ghost use Rattle.schedule.specs.Owed.{first_of};
+ghost use Rattle.schedule.specs.Spelled.{IsLabelOf};
+ghost use Rattle.schedule.specs.InUse.{labels_of};
 ghost use Rattle.schedule.specs.Outputs.{GoesOn, Tells, SameWriter, IsOfOutput};
 ghost use Rattle.schedule.specs.Texts.{wakes_text};
-ghost use Rattle.schedule.specs.Unread.{lines_left, words_left};
+ghost use Rattle.schedule.specs.Unread.{lines_left};
 
 use crate::fault::ScriptFault;
 use crate::input::read_whole;
@@ -13,14 +17,14 @@ use crate::label::Label;
 use crate::labelled::Labelled;
 use crate::named::Named;
 use crate::output::{COLLECTED, Output};
-use crate::scripted::{Request, Scripted};
+use crate::row::Row;
+use crate::scripted::Scripted;
 use crate::texts::{put_waker, write_answer};
-use crate::words::{Lines, Words, split_at_first};
+use crate::words::{Lines, Words, after_hold, split_at_first};
 use fi_channels::{EventState, OneshotBroadcastState, OneshotState, StateBroadcastState};
 use fi_parts::Slot;
 use fi_run::Answer;
 use std::alloc::Global;
-use std::collections::btree_map::Entry;
 use std::io::{Read, Write};
 
 /// Labels get a shelf for so many bytes of a script, which is about ten of its labels.
@@ -39,8 +43,11 @@ pub fn run_script<R: Read, W: Write>(
     reader: &mut R,
     writer: &mut W,
 ) -> Result<(), ScriptFault>
-    ensures answered { OnOk result (Turns (R.remaining reader.old) (W.contents writer.old) (W.contents writer.new) AnswersScript) }
-    ensures fault { IfErr result (IfFault (writer.new ≡ writer.old) (λ number. Turns (R.remaining reader.old) (W.contents writer.old) (W.contents writer.new) (RefusesScript number))) }
+    ensures answered { OnOk result (Turns (R.remaining reader.old) (W.contents writer.old)
+        (W.contents writer.new) AnswersScript) }
+    ensures fault { IfErr result (IfFault (writer.new ≡ writer.old)
+        (λ number. Turns (R.remaining reader.old) (W.contents writer.old) (W.contents writer.new)
+        (RefusesScript number))) }
 {
     let script = read_whole(alloc, reader)?;
     let Ok(mut collected) = Vec::with_capacity(alloc, COLLECTED) else {
@@ -61,16 +68,15 @@ fn answer_script<W: Write>(
     script: &[u8],
     output: &mut Output<'_, W>,
 ) -> Result<(), ScriptFault>
-    ensures answered { OnOk result (Tells W.contents output.old output.new (AnswersScript script.now)) }
-    ensures bad { IfErr result (IfBad (λ number. Tells W.contents output.old output.new (RefusesScript number script.now))) }
+    ensures answered { OnOk result (Tells W.contents output.old output.new
+        (AnswersScript script.now)) }
+    ensures bad { IfErr result (IfBad (λ number. Tells W.contents output.old output.new
+        (RefusesScript number script.now))) }
     ensures same_writer { SameWriter output.old output.new }
 {
     let (first, rest) = split_at_first(script, b'\n');
     let lines = Lines::after(rest);
-    let mut words = Words::of(first);
-    let Some(name) = words.word() else {
-        return Err(ScriptFault::BadLine(1));
-    };
+    let (name, words) = split_at_first(first, b' ');
     match Named::by(name) {
         Some(Named::Event) => answer_calls::<EventState<u64>, W>(alloc, words, lines, output),
         Some(Named::Oneshot) => {
@@ -86,25 +92,28 @@ fn answer_script<W: Write>(
     }
 }
 
-/// Answers the lines after one whose words left are a primitive's opening.
+/// Answers the lines after one whose words, behind a primitive's name, are these.
 fn answer_calls<P: Scripted, W: Write>(
     alloc: Global,
-    mut words: Words<'_>,
+    words: Option<&[u8]>,
     lines: Lines<'_>,
     output: &mut Output<'_, W>,
 ) -> Result<(), ScriptFault>
-    ensures answered { OnOk result (Tells W.contents output.old output.new (AnswersRest P.opens P.step P.Scripted.owed P.Scripted.without_wakers (P.Scripted.spells (words_left words.entry)) (lines_left lines.entry))) }
+    ensures answered { OnOk result (Tells W.contents output.old output.new
+        (AnswersRest (spoken P.opens P.step P.Scripted.language)
+        (λ opening. option_copied words.entry ≡ P.Scripted.language.opening_text opening)
+        (lines_left lines.entry))) }
     ensures bad { IfErr result (IfBad (λ number.
-        Tells W.contents output.old output.new (RefusesLine P.opens P.step P.Scripted.owed P.Scripted.without_wakers (P.Scripted.spells (words_left words.entry)) (lines_left lines.entry) number))) }
+        Tells W.contents output.old output.new (RefusesLine
+        (spoken P.opens P.step P.Scripted.language)
+        (λ opening. option_copied words.entry ≡ P.Scripted.language.opening_text opening)
+        (lines_left lines.entry) number))) }
     ensures same_writer { SameWriter output.old output.new }
 {
-    let Some(opening) = P::opening(&mut words) else {
-        return Err(ScriptFault::BadLine(1));
-    };
-    if !words.is_at_end() {
-        return Err(ScriptFault::BadLine(1));
+    match P::opening(words) {
+        Some(opening) => answer_lines::<P, W>(alloc, opening, lines, output),
+        None => Err(ScriptFault::BadLine(1)),
     }
-    answer_lines::<P, W>(alloc, opening, lines, output)
 }
 
 /// Opens a primitive, and answers its lines.
@@ -114,9 +123,13 @@ fn answer_lines<P: Scripted, W: Write>(
     mut lines: Lines<'_>,
     output: &mut Output<'_, W>,
 ) -> Result<(), ScriptFault>
-    ensures answered { OnOk result (Tells W.contents output.old output.new (AnswersRest P.opens P.step P.Scripted.owed P.Scripted.without_wakers (λ asked. asked ≡ opening) (lines_left lines.entry))) }
+    ensures answered { OnOk result (Tells W.contents output.old output.new
+        (AnswersRest (spoken P.opens P.step P.Scripted.language) (λ asked. asked ≡ opening)
+        (lines_left lines.entry))) }
     ensures bad { IfErr result (IfBad (λ number.
-        Tells W.contents output.old output.new (AnswersFront P.opens P.step P.Scripted.owed P.Scripted.without_wakers (λ asked. asked ≡ opening) (lines_left lines.entry) number))) }
+        Tells W.contents output.old output.new (AnswersFront
+        (spoken P.opens P.step P.Scripted.language) (λ asked. asked ≡ opening)
+        (lines_left lines.entry) number))) }
     ensures same_writer { SameWriter output.old output.new }
 {
     let Ok(primitive) = P::open(alloc, opening) else {
@@ -134,20 +147,19 @@ fn answer_lines<P: Scripted, W: Write>(
     Ok(())
 }
 
-/// What a line does.
+/// A call that a line asks for, with what the line says of its label.
 #[derive(Drop)]
-enum Action<C, K> {
-    Wakes,
-    Call(C),
-    Make(Label, K, C),
-    Cancel(Label),
+struct Request<C> {
+    row: Row,
+    label: Option<Label>,
+    call: C,
 }
 
 /// A primitive, and its futures whose labels are in use.
 #[derive(Drop)]
 struct Session<P: Scripted> {
     primitive: P,
-    futures: Labelled<(P::Kind, Slot)>,
+    futures: Labelled<Slot>,
 }
 
 impl<P: Scripted> Session<P> {
@@ -158,19 +170,19 @@ impl<P: Scripted> Session<P> {
         line: &[u8],
         output: &mut Output<'_, W>,
     ) -> Result<(), ScriptFault>
-        ensures answered { OnOk result (Tells W.contents output.old output.new (AnswersLine P.opens P.step P.Scripted.owed P.Scripted.without_wakers line.now self.old.primitive self.new.primitive)) }
-        // A bad line is told by its number; the primitive and the output stay as they were.
-        ensures bad { IfErr result (IfBad (λ line. (line ≡ number) × (self.new.primitive ≡ self.old.primitive) × (output.new ≡ output.old))) }
+        ensures answered { OnOk result (Tells W.contents output.old output.new
+            (AnswersLine (spoken P.opens P.step P.Scripted.language) line.now
+            (labels_of self.old.futures) self.old.primitive (labels_of self.new.futures) self.new.primitive)) }
+        // A bad line is told by its number; the session and the output stay as they were.
+        ensures bad { IfErr result (IfBad (λ at. (at ≡ number)
+            × IsBad P.Scripted.language.call_of (labels_of self.old.futures) line.now
+            × (self.new.primitive ≡ self.old.primitive) × (output.new ≡ output.old))) }
         ensures same_writer { SameWriter output.old output.new }
     {
-        let mut words = Words::of(line);
-        let Some((holds, action)) = self.parse(&mut words) else {
+        let Some((holds, request)) = self.read(line) else {
             return Err(ScriptFault::BadLine(number));
         };
-        if !words.is_at_end() {
-            return Err(ScriptFault::BadLine(number));
-        }
-        let answer = self.perform(number, action)?;
+        let answer = self.perform(request)?;
         write_answer(&answer, output)?;
         if !holds {
             self.write_wakes(output)?;
@@ -178,91 +190,103 @@ impl<P: Scripted> Session<P> {
         output.put_byte(b'\n')
     }
 
-    /// What a line asks for, and whether it leaves the outbox as it is.
-    fn parse(&self, words: &mut Words<'_>) -> Option<(bool, Action<P::Call, P::Kind>)>
-        ensures { IfSome result (λ asked. BeginsLine (words_left words.old) asked.0 asked.1) }
+    /// What a line asks for, and whether it holds the wakers back. A line without a call asks for the wakers alone.
+    fn read(&self, line: &[u8]) -> Option<(bool, Option<Request<P::Call>>)>
+        ensures { MatchOption result (IsBad P.Scripted.language.call_of (labels_of self.now.futures)
+            line.now)
+            (λ asked. Asks P.Scripted.language.call_of (labels_of self.now.futures) line.now asked.0
+            asked.1) }
     {
-        let verb = words.word()?;
-        match verb {
-            b"wakes" => Some((false, Action::Wakes)),
-            b"hold" => {
-                let verb = words.word()?;
-                Some((true, self.parse_call(verb, words)?))
-            }
-            _ => Some((false, self.parse_call(verb, words)?)),
+        if line == b"wakes".as_slice() {
+            return Some((false, None));
+        }
+        match after_hold(line) {
+            Some(call) => Some((true, Some(self.read_call(call)?))),
+            None => Some((false, Some(self.read_call(line)?))),
         }
     }
 
-    /// The call that a verb and the words after it ask for.
-    #[inline(always)]
-    fn parse_call(&self, verb: &[u8], words: &mut Words<'_>) -> Option<Action<P::Call, P::Kind>>
-        ensures { IfSome result MakesCall }
+    /// The call that a line stands for, with the labels that are in use.
+    fn read_call(&self, line: &[u8]) -> Option<Request<P::Call>>
+        ensures { MatchOption result (IsNoCall P.Scripted.language.call_of
+            (labels_of self.now.futures) line.now)
+            (Requests P.Scripted.language.call_of (labels_of self.now.futures) line.now) }
     {
-        match verb {
-            b"poll" => {
-                let label = words.label()?;
-                let (kind, slot) = self.futures.shelf(label).get(&label)?;
-                Some(Action::Call(P::poll(*kind, *slot, words)?))
-            }
-            b"cancel" => Some(Action::Cancel(words.label()?)),
-            _ => match P::parse(verb, words)? {
-                Request::Make(label, kind, call) => Some(Action::Make(label, kind, call)),
-                Request::Call(call) => Some(Action::Call(call)),
-            },
+        let words = Words::read(line)?;
+        let row = self.row(words)?;
+        let call = P::call(row)?;
+        Some(Request {
+            row,
+            label: words.label,
+            call,
+        })
+    }
+
+    /// What a line of these words asks for.
+    fn row(&self, words: Words) -> Option<Row>
+        ensures { (label : Option (List ℕ)) → IsLabelOf label words.label
+            → result ≡ row_of (labels_of self.now.futures) words.verb label words.number }
+    {
+        match words.label {
+            None => Some(Row::Plain(words.verb, words.number)),
+            Some(label) => Row::labelled(words.verb, words.number, self.futures.get(label)),
         }
     }
 
-    /// Does what a line asks for.
+    /// Makes the call that a line asks for, if it asks for one, and keeps the labels in use.
     fn perform(
         &mut self,
-        number: usize,
-        action: Action<P::Call, P::Kind>,
+        request: Option<Request<P::Call>>,
     ) -> Result<Answer<u64, u64>, ScriptFault>
-        ensures answered { IfOk result (λ answer. Performs P.step action self.old.primitive answer self.new.primitive) }
-        ensures refused { IfErr result (λ fault. IsOfLine number fault) }
-        ensures unchanged { OnErr result (self.new.primitive ≡ self.old.primitive) }
+        ensures answered { IfOk result (λ answer. Performs P.step request
+            (labels_of self.old.futures) self.old.primitive answer (labels_of self.new.futures)
+            self.new.primitive) }
+        ensures fault { IfErr result (λ fault. fault ≡ ScriptFault.NoMemory) }
     {
-        match action {
-            Action::Wakes => Ok(Answer::Done),
-            Action::Call(call) => Ok(self.primitive.apply(call)),
-            Action::Make(label, kind, call) => self.make(number, label, kind, call),
-            Action::Cancel(label) => match self.futures.shelf_mut(label).remove(&label) {
-                Some((kind, slot)) => Ok(self.primitive.apply(P::cancel(kind, slot))),
-                None => Err(ScriptFault::BadLine(number)),
-            },
-        }
+        let Some(request) = request else {
+            return Ok(Answer::Done);
+        };
+        let answer = self.primitive.apply(request.call);
+        self.keep_labels(request.row, request.label, &answer)?;
+        Ok(answer)
     }
 
-    /// Makes a future, whose label is in use from then on.
-    fn make(
+    /// Keeps the labels in use after a call: a label is in use from the making of its future until its cancel.
+    fn keep_labels(
         &mut self,
-        number: usize,
-        label: Label,
-        kind: P::Kind,
-        call: P::Call,
-    ) -> Result<Answer<u64, u64>, ScriptFault>
-        ensures answered { IfOk result (λ answer. P.step self.old.primitive call answer self.new.primitive) }
-        ensures refused { IfErr result (λ fault. IsOfLine number fault) }
-        ensures unchanged { OnErr result (self.new.primitive ≡ self.old.primitive) }
+        row: Row,
+        label: Option<Label>,
+        answer: &Answer<u64, u64>,
+    ) -> Result<(), ScriptFault>
+        ensures kept { OnOk result ((word : Option (List ℕ)) → IsLabelOf word label
+            → LabelsAfter row word answer.now (labels_of self.old.futures)
+            (labels_of self.new.futures)) }
+        ensures primitive { self.new.primitive ≡ self.old.primitive }
+        ensures fault { IfErr result (λ fault. fault ≡ ScriptFault.NoMemory) }
     {
-        match self.futures.shelf_mut(label).entry(label) {
-            Ok(Entry::Vacant(place)) => {
-                let answer = self.primitive.apply(call);
-                if let Answer::Made(slot) = answer {
-                    place.insert((kind, slot));
-                }
-                Ok(answer)
+        let Some(label) = label else {
+            return Ok(());
+        };
+        match (row, answer) {
+            (Row::Make(..), Answer::Made(slot)) => match self.futures.insert(label, *slot) {
+                Ok(()) => Ok(()),
+                Err(_) => Err(ScriptFault::NoMemory),
+            },
+            (Row::Cancel(..), _) => {
+                self.futures.remove(label);
+                Ok(())
             }
-            Ok(Entry::Occupied(_)) => Err(ScriptFault::BadLine(number)),
-            Err(_) => Err(ScriptFault::NoMemory),
+            _ => Ok(()),
         }
     }
 
     /// Takes out the oldest waker, if there is one.
     fn take_waker(&mut self) -> Option<u64>
-        ensures waker { result ≡ first_of (P.Scripted.owed self.old.primitive) }
-        ensures taken { P.Scripted.owed self.new.primitive ≡ drop 1 (P.Scripted.owed self.old.primitive) }
-        ensures rest { P.Scripted.without_wakers self.new.primitive ≡ P.Scripted.without_wakers self.old.primitive }
+        ensures waker { result ≡ first_of (P.Scripted.language.owed self.old.primitive) }
+        ensures taken { P.Scripted.language.owed self.new.primitive
+            ≡ drop 1 (P.Scripted.language.owed self.old.primitive) }
+        ensures rest { P.Scripted.language.without_wakers self.new.primitive
+            ≡ P.Scripted.language.without_wakers self.old.primitive }
         ensures futures { self.new.futures ≡ self.old.futures }
     {
         match self.primitive.apply(P::next_wake()) {
@@ -274,9 +298,11 @@ impl<P: Scripted> Session<P> {
 
     /// Takes out all wakers and writes them, oldest first.
     fn write_wakes<W: Write>(&mut self, output: &mut Output<'_, W>) -> Result<(), ScriptFault>
-        ensures text { OnOk result (GoesOn W.contents output.old output.new (Some (wakes_text true (P.Scripted.owed self.old.primitive)))) }
-        ensures emptied { OnOk result (P.Scripted.owed self.new.primitive ≡ []) }
-        ensures rest { OnOk result (P.Scripted.without_wakers self.new.primitive ≡ P.Scripted.without_wakers self.old.primitive) }
+        ensures text { OnOk result (GoesOn W.contents output.old output.new
+            (Some (wakes_text true (P.Scripted.language.owed self.old.primitive)))) }
+        ensures emptied { OnOk result (P.Scripted.language.owed self.new.primitive ≡ []) }
+        ensures rest { OnOk result (P.Scripted.language.without_wakers self.new.primitive
+            ≡ P.Scripted.language.without_wakers self.old.primitive) }
         ensures futures { self.new.futures ≡ self.old.futures }
         ensures fault { IfErr result IsOfOutput }
         ensures same_writer { SameWriter output.old output.new }

@@ -1,5 +1,7 @@
 //! Why a script was not answered to its end.
-ghost use Rattle.std.specs.Prelude.{◌≡◌};
+ghost use Rattle.std.specs.Prelude.{◌≡◌, ◌++◌, codes};
+ghost use Rattle.std.specs.Fmt.{decimal};
+ghost use Rattle.schedule.specs.Begun.{Begins, fault_line};
 ghost use Rattle.schedule.specs.Statuses.{status_of};
 
 use crate::output::write_whole;
@@ -33,7 +35,8 @@ fn status(fault: &ScriptFault) -> u8
 /// Writes the fault's line to a program's standard error, and answers the status that the program ends with,
 /// also where that line can't be written.
 pub fn report<W: Write>(fault: &ScriptFault, writer: &mut W) -> u8
-    ensures { result ≡ status_of fault.now }
+    ensures status { result ≡ status_of fault.now }
+    ensures line { Begins (W.contents writer.old) (W.contents writer.new) (fault_line fault.now) }
 {
     let _ = match fault {
         ScriptFault::Read => write_whole(writer, b"schedule: read failed\n"),
@@ -44,7 +47,11 @@ pub fn report<W: Write>(fault: &ScriptFault, writer: &mut W) -> u8
     status(fault)
 }
 
-fn write_bad_line<W: Write>(line: usize, writer: &mut W) -> Result<(), ScriptFault> {
+/// Writes the line that tells of a bad line.
+fn write_bad_line<W: Write>(line: usize, writer: &mut W) -> Result<(), ScriptFault>
+    ensures { Begins (W.contents writer.old) (W.contents writer.new)
+        (codes "schedule: line " ++ decimal line ++ codes " is bad\n") }
+{
     write_whole(writer, b"schedule: line ")?;
     let mut digits = Buffer::new();
     write_whole(writer, digits.format(line).as_bytes())?;

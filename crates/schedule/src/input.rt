@@ -11,8 +11,10 @@ const LEAST_ROOM: usize = 65536;
 
 /// All that the reader gives.
 pub fn read_whole<R: Read>(alloc: Global, reader: &mut R) -> Result<Vec<u8>, ScriptFault>
-    ensures bytes { IfOk result (λ bytes. IfSome (R.remaining reader.old) (λ left. bytes.items ≡ left)) }
-    ensures fault { IfErr result (λ fault. fault ≡ ScriptFault.Read ⊎ fault ≡ ScriptFault.NoMemory) }
+    ensures bytes { IfOk result (λ bytes. IfSome (R.remaining reader.old)
+        (λ left. bytes.items ≡ left)) }
+    ensures fault { IfErr result (λ fault. fault ≡ ScriptFault.Read
+        ⊎ fault ≡ ScriptFault.NoMemory) }
 {
     let mut bytes: Vec<u8> = Vec::new(alloc);
     let mut filled = 0;

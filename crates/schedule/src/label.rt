@@ -15,9 +15,11 @@ pub struct Label {
 impl Label {
     /// The label that a word spells, if it spells one.
     pub fn parse(word: &[u8]) -> Option<Label>
-        ensures label { MatchOption result (¬ IsLabel word.now) (λ label. IsLabel word.now × (label.code ≡ code_of word.now)) }
+        ensures label { MatchOption result (¬ IsLabel word.now)
+            (λ label. IsLabel word.now × (label.code ≡ code_of word.now)) }
         // No other word spells it.
-        ensures one_word { IfSome result (λ label. (other : List ℕ) → IsLabel other → code_of other ≡ label.code → other ≡ word.now) }
+        ensures one_word { IfSome result (λ label. (other : List ℕ) → IsLabel other
+            → code_of other ≡ label.code → other ≡ word.now) }
     {
         let first = word.first()?;
         if !first.is_ascii_lowercase() || word.len() > LONGEST {
@@ -31,6 +33,13 @@ impl Label {
             code = code * 256 + u128::from(*byte);
         }
         Some(Label { code })
+    }
+
+    /// The number whose bytes are its characters.
+    pub fn code(self) -> u128
+        ensures { result ≡ self.code }
+    {
+        self.code
     }
 
     /// What stands before the last character, as a number whose bytes are the last eight of these characters.

@@ -1,6 +1,6 @@
 //! What stands under labels.
-ghost use Rattle.std.specs.Prelude.{◌≡◌, ◌<◌, ◌%◌, Some, slice_get, vec_len};
-ghost use Rattle.schedule.specs.Labels.{front_of};
+ghost use Rattle.std.specs.Prelude.{◌≡◌, ◌<◌, ◌%◌, ℕ, Some, None, OnOk, IfOk, slice_get, vec_len};
+ghost use Rattle.schedule.specs.Stored.{shelf_of, stored, Stores};
 
 use crate::label::Label;
 use std::alloc::{AllocError, Global};
@@ -16,13 +16,16 @@ const MOST_SHELVES: usize = 65536;
 /// found as fast as in one tree, so no choice of labels makes a look-up linear.
 #[derive(Drop)]
 pub struct Labelled<V> {
-    shelves: Vec<BTreeMap<Label, V>>,
+    shelves: Vec<BTreeMap<u128, V>>,
     ghost has_shelf: { 0 < vec_len shelves },
 }
 
-impl<V: Drop> Labelled<V> {
+impl<V: Copy> Labelled<V> {
     /// An empty one with about so many shelves.
-    pub fn new(alloc: Global, shelf_count: usize) -> Result<Self, AllocError> {
+    pub fn new(alloc: Global, shelf_count: usize) -> Result<Self, AllocError>
+        ensures empty { IfOk result (λ labelled. (code : ℕ)
+            → stored labelled.shelves.items code ≡ None) }
+    {
         // An odd number, since labels are numbers in base 256.
         let count = shelf_count.min(MOST_SHELVES) / 2 * 2 + 1;
         let mut shelves = Vec::with_capacity(alloc, count)?;
@@ -34,21 +37,37 @@ impl<V: Drop> Labelled<V> {
 
     /// The number of the shelf that a label belongs on.
     fn shelf_number(&self, label: Label) -> usize
-        ensures { result ≡ front_of label % vec_len self.now.shelves }
+        ensures { result ≡ shelf_of self.now.shelves.items label.code }
     {
         label.front() as usize % self.shelves.len()
     }
 
-    /// The shelf that a label belongs on.
-    pub fn shelf(&self, label: Label) -> &BTreeMap<Label, V>
-        ensures { slice_get self.now.shelves.items (front_of label % vec_len self.now.shelves) ≡ Some result.now }
+    /// What stands under a label.
+    pub fn get(&self, label: Label) -> Option<V>
+        ensures { result ≡ stored self.now.shelves.items label.code }
     {
-        &self.shelves[self.shelf_number(label)]
+        self.shelves[self.shelf_number(label)]
+            .get(&label.code())
+            .copied()
     }
 
-    /// The same, to be changed.
-    pub fn shelf_mut(&mut self, label: Label) -> &mut BTreeMap<Label, V> {
+    /// Puts a value under a label, in the place of what stood there.
+    pub fn insert(&mut self, label: Label, value: V) -> Result<(), AllocError>
+        ensures stored { OnOk result (Stores label.code (Some value) self.old.shelves.items
+            self.new.shelves.items) }
+    {
         let at = self.shelf_number(label);
-        &mut self.shelves[at]
+        match self.shelves[at].insert(label.code(), value) {
+            Ok(_) => Ok(()),
+            Err(_) => Err(AllocError),
+        }
+    }
+
+    /// Takes out what stands under a label.
+    pub fn remove(&mut self, label: Label)
+        ensures { Stores label.code None self.old.shelves.items self.new.shelves.items }
+    {
+        let at = self.shelf_number(label);
+        let _ = self.shelves[at].remove(&label.code());
     }
 }

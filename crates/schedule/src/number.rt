@@ -4,7 +4,8 @@ ghost use Rattle.std.specs.Fmt.{decimal};
 
 /// The number whose plain decimal numeral the word is, if it is one's of 64 bits.
 pub fn parse_number(word: &[u8]) -> Option<u64>
-    ensures { MatchOption result ((n : ℕ) → n ≤ u64.MAX → word.now ≢ decimal n) (λ n. word.now ≡ decimal n) }
+    ensures { MatchOption result ((n : ℕ) → n ≤ u64.MAX → word.now ≢ decimal n)
+        (λ n. word.now ≡ decimal n) }
 {
     let first = word.first()?;
     if *first == b'0' && word.len() > 1 {

@@ -1,42 +1,32 @@
-//! Script lines of the oneshot channel.
+//! Script lines of the two channels of one value.
+ghost use Rattle.std.specs.Prelude.{◌≡◌, ◌≢◌, MatchOption, option_copied};
+ghost use Rattle.schedule.specs.Tables.{oneshot_call, only_opening};
 
-use crate::scripted::{Request, Scripted};
-use crate::words::Words;
-use fi_channels::OneshotState;
-use fi_parts::Slot;
+use crate::row::Row;
+use crate::scripted::Scripted;
+use crate::verb::Verb;
+use fi_channels::{OneshotBroadcastState, OneshotState};
 use fi_run::OneshotCall;
 
 impl Scripted for OneshotState<u64, u64> {
     ghost use Rattle.fi_run.specs.declared.oneshot.OneshotCall.TheVariants.{NextWake};
-    ghost use Rattle.schedule.specs.Openings.{spells_nothing};
-    ghost use Rattle.schedule.specs.Owed.{oneshot_owed, oneshot_without, oneshot_takes};
+    ghost use Rattle.schedule.specs.Tables.{oneshot_language};
+    ghost use Rattle.schedule.specs.Oldest.{oneshot_takes, oneshot_hides};
 
-    type Kind = ();
+    ghost language = { oneshot_language };
 
     ghost take_waker = { NextWake };
 
-    ghost owed = { oneshot_owed };
-
-    ghost without_wakers = { oneshot_without };
-
-    ghost spells = { spells_nothing };
-
     ghost takes_oldest = { oneshot_takes };
 
-    fn opening(_words: &mut Words<'_>) -> Option<()> {
-        Some(())
+    ghost hides = { oneshot_hides };
+
+    fn opening(words: Option<&[u8]>) -> Option<()> {
+        open_channel(words)
     }
 
-    fn parse(verb: &[u8], words: &mut Words<'_>) -> Option<Request<OneshotCall<u64, u64>, ()>> {
-        parse_oneshot(verb, words)
-    }
-
-    fn poll(_kind: (), slot: Slot, words: &mut Words<'_>) -> Option<OneshotCall<u64, u64>> {
-        Some(OneshotCall::Poll(slot, words.number()?))
-    }
-
-    fn cancel(_kind: (), slot: Slot) -> OneshotCall<u64, u64> {
-        OneshotCall::Cancel(slot)
+    fn call(row: Row) -> Option<OneshotCall<u64, u64>> {
+        call_oneshot(row)
     }
 
     fn next_wake() -> OneshotCall<u64, u64> {
@@ -44,15 +34,54 @@ impl Scripted for OneshotState<u64, u64> {
     }
 }
 
+impl Scripted for OneshotBroadcastState<u64, u64> {
+    ghost use Rattle.fi_run.specs.declared.oneshot.OneshotCall.TheVariants.{NextWake};
+    ghost use Rattle.schedule.specs.Tables.{oneshot_language};
+    ghost use Rattle.schedule.specs.Oldest.{is_same, broadcast_takes, oneshot_hides};
+
+    ghost language = { oneshot_language };
+
+    ghost take_waker = { NextWake };
+
+    ghost takes_oldest = { broadcast_takes is_same };
+
+    ghost hides = { oneshot_hides };
+
+    fn opening(words: Option<&[u8]>) -> Option<()> {
+        open_channel(words)
+    }
+
+    fn call(row: Row) -> Option<OneshotCall<u64, u64>> {
+        call_oneshot(row)
+    }
+
+    fn next_wake() -> OneshotCall<u64, u64> {
+        OneshotCall::NextWake
+    }
+}
+
+/// The opening of a channel, after whose name no word stands.
+pub fn open_channel(words: Option<&[u8]>) -> Option<()>
+    ensures { MatchOption result
+        ((opening : Unit {0}) → option_copied words.entry ≢ only_opening opening)
+        (λ opening. option_copied words.entry ≡ only_opening opening) }
+{
+    match words {
+        None => Some(()),
+        Some(_) => None,
+    }
+}
+
 /// The calls that both channels of one value have.
-pub fn parse_oneshot(
-    verb: &[u8],
-    words: &mut Words<'_>,
-) -> Option<Request<OneshotCall<u64, u64>, ()>> {
-    match verb {
-        b"receive" => Some(Request::Make(words.label()?, (), OneshotCall::Receive)),
-        b"send" => Some(Request::Call(OneshotCall::Send(words.number()?))),
-        b"close" => Some(Request::Call(OneshotCall::Close)),
+fn call_oneshot(row: Row) -> Option<OneshotCall<u64, u64>>
+    ensures { result ≡ oneshot_call row }
+{
+    match row {
+        Row::Make(Verb::Receive, None) => Some(OneshotCall::Receive),
+        Row::Poll(slot, Some(waker)) => Some(OneshotCall::Poll(slot, waker)),
+        Row::Cancel(slot, None) => Some(OneshotCall::Cancel(slot)),
+        Row::Plain(Verb::Send, Some(value)) => Some(OneshotCall::Send(value)),
+        Row::Plain(Verb::Close, None) => Some(OneshotCall::Close),
         _ => None,
     }
 }

@@ -2,6 +2,7 @@
 
 ghost use Rattle.std.specs.Prelude.{◌≡◌, ◌++◌, ◌∷◌, [], Some, OnOk, IfErr};
 ghost use Rattle.std.specs.Io.KnownBytes.{Appends};
+ghost use Rattle.schedule.specs.Begun.{Begins};
 ghost use Rattle.schedule.specs.Outputs.{GoesOn, SameWriter, IsOfOutput};
 ghost use Rattle.std.specs.Fmt.{decimal};
 
@@ -14,14 +15,18 @@ pub const COLLECTED: usize = 65536;
 
 /// Writes all of the bytes. An error and a write that takes no byte are failures, and are not tried again.
 pub fn write_whole<W: Write>(writer: &mut W, bytes: &[u8]) -> Result<(), ScriptFault>
-    ensures written { OnOk result (Appends (W.contents writer.old) (W.contents writer.new) bytes.now) }
+    ensures written { OnOk result (Appends (W.contents writer.old) (W.contents writer.new)
+        bytes.now) }
+    // Where it fails, a beginning of them was written.
+    ensures begun { Begins (W.contents writer.old) (W.contents writer.new) bytes.now }
     ensures fault { IfErr result (λ fault. fault ≡ ScriptFault.Write) }
 {
     let mut written = 0;
     while written < bytes.len() {
         match writer.write(&bytes[written..]) {
-            Ok(0) | Err(_) => return Err(ScriptFault::Write),
+            Ok(0) => return Err(ScriptFault::Write),
             Ok(count) => written += count,
+            Err(_) => return Err(ScriptFault::Write),
         }
     }
     Ok(())
@@ -75,7 +80,8 @@ impl<'a, W: Write> Output<'a, W> {
 
     /// Adds a number in plain decimal to the output.
     pub fn put_number(&mut self, number: u64) -> Result<(), ScriptFault>
-        ensures numeral { OnOk result (GoesOn W.contents self.old self.new (Some (decimal number))) }
+        ensures numeral { OnOk result (GoesOn W.contents self.old self.new
+            (Some (decimal number))) }
         ensures fault { IfErr result IsOfOutput }
         ensures same_writer { SameWriter self.old self.new }
     {
@@ -85,7 +91,8 @@ impl<'a, W: Write> Output<'a, W> {
 
     /// Writes what was collected.
     pub fn flush(&mut self) -> Result<(), ScriptFault>
-        ensures written { OnOk result (Appends (W.contents self.old.writer.now) (W.contents self.new.writer.now) self.old.collected.now.items) }
+        ensures written { OnOk result (Appends (W.contents self.old.writer.now)
+            (W.contents self.new.writer.now) self.old.collected.now.items) }
         ensures emptied { OnOk result (self.new.collected.now.items ≡ []) }
         ensures fault { IfErr result (λ fault. fault ≡ ScriptFault.Write) }
         ensures same_writer { SameWriter self.old self.new }

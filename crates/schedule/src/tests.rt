@@ -12,6 +12,7 @@ mod channels;
 mod edges;
 mod event;
 mod faults;
+mod program;
 
 /// What stands between a row's line and its answer.
 const ANSWERED: &str = " -> ";

@@ -51,7 +51,8 @@ pub fn put_waker<W: Write>(
     is_first: bool,
     output: &mut Output<'_, W>,
 ) -> Result<(), ScriptFault>
-    ensures text { OnOk result (GoesOn W.contents output.old output.new (Some (waker_text is_first waker))) }
+    ensures text { OnOk result (GoesOn W.contents output.old output.new
+        (Some (waker_text is_first waker))) }
     ensures fault { IfErr result IsOfOutput }
     ensures same_writer { SameWriter output.old output.new }
 {
@@ -60,7 +61,8 @@ pub fn put_waker<W: Write>(
 }
 
 fn put_some<W: Write>(number: u64, output: &mut Output<'_, W>) -> Result<(), ScriptFault>
-    ensures text { OnOk result (GoesOn W.contents output.old output.new (with_number (Some (codes "some")) number)) }
+    ensures text { OnOk result (GoesOn W.contents output.old output.new
+        (with_number (Some (codes "some")) number)) }
     ensures fault { IfErr result IsOfOutput }
     ensures same_writer { SameWriter output.old output.new }
 {
@@ -93,7 +95,8 @@ fn put_back<W: Write>(
     fault: Fault,
     output: &mut Output<'_, W>,
 ) -> Result<(), ScriptFault>
-    ensures text { OnOk result (GoesOn W.contents output.old output.new (with_number (fault_text fault) value)) }
+    ensures text { OnOk result (GoesOn W.contents output.old output.new
+        (with_number (fault_text fault) value)) }
     ensures memory { fault_text fault ≡ None → result ≡ Err ScriptFault.NoMemory }
     ensures fault { IfErr result IsOfOutput }
     ensures same_writer { SameWriter output.old output.new }

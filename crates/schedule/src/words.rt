@@ -1,9 +1,12 @@
 //! Lines and their words.
-ghost use Rattle.std.specs.Prelude.{◌≡◌, Some, is_none, option_copied};
-ghost use Rattle.schedule.specs.Cuts.{IsCut, NextLine, NextWord};
+ghost use Rattle.std.specs.Prelude.{◌≡◌, ◌≢◌, ℕ, List, Some, MatchOption, codes, option_copied};
+ghost use Rattle.schedule.specs.Cuts.{IsCut, NextLine};
+ghost use Rattle.schedule.specs.Lines.{joined};
+ghost use Rattle.schedule.specs.Spelled.{IsSpelled, IsNotSpelled};
 
 use crate::label::Label;
 use crate::number::parse_number;
+use crate::verb::Verb;
 use memchr::memchr;
 
 /// What stands before the first separator, and what stands after it, if there is one.
@@ -14,6 +17,14 @@ pub fn split_at_first(bytes: &[u8], separator: u8) -> (&[u8], Option<&[u8]>)
         Some(at) => (&bytes[..at], Some(&bytes[at + 1..])),
         None => (bytes, None),
     }
+}
+
+/// What follows `hold` in a line that holds its wakers back.
+pub fn after_hold(line: &[u8]) -> Option<&[u8]>
+    ensures { MatchOption result ((call : List ℕ) → line.now ≢ joined (codes "hold") (Some call))
+        (λ call. line.now ≡ joined (codes "hold") (Some call.now)) }
+{
+    line.strip_prefix(b"hold ".as_slice())
 }
 
 /// The lines of a script that were not read yet.
@@ -40,7 +51,8 @@ impl<'a> Lines<'a> {
 
     /// The next line. A line feed at the very end ends the last line.
     pub fn line(&mut self) -> Option<&'a [u8]>
-        ensures { NextLine (option_copied self.old.rest) (option_copied result) (option_copied self.new.rest) }
+        ensures { NextLine (option_copied self.old.rest) (option_copied result)
+            (option_copied self.new.rest) }
     {
         let rest = self.rest?;
         if rest.is_empty() {
@@ -52,49 +64,47 @@ impl<'a> Lines<'a> {
     }
 }
 
-/// The words of a line that were not read yet.
-#[derive(Clone, Copy)]
-pub struct Words<'a> {
-    rest: Option<&'a [u8]>,
+/// The words of a line of calls.
+#[derive(Clone, Copy, Debug)]
+pub struct Words {
+    pub verb: Verb,
+    pub label: Option<Label>,
+    pub number: Option<u64>,
 }
 
-impl<'a> Words<'a> {
-    pub fn of(line: &'a [u8]) -> Self
-        ensures { option_copied result.rest ≡ Some line.now }
+impl Words {
+    /// Reads a verb, then a label if there is one, then a number if there is one. Words are parted by single spaces.
+    pub fn read(line: &[u8]) -> Option<Words>
+        ensures { MatchOption result (IsNotSpelled line.now) (IsSpelled line.now) }
     {
-        Words { rest: Some(line) }
-    }
-
-    /// The next word, which is empty between two spaces.
-    #[inline(always)]
-    pub fn word(&mut self) -> Option<&'a [u8]>
-        ensures { NextWord (option_copied self.old.rest) (option_copied result) (option_copied self.new.rest) }
-    {
-        let (word, rest) = split_at_first(self.rest?, b' ');
-        self.rest = rest;
-        Some(word)
-    }
-
-    /// The next word as a label.
-    #[inline(always)]
-    pub fn label(&mut self) -> Option<Label> {
-        Label::parse(self.word()?)
-    }
-
-    /// The next word as a number of 64 bits.
-    pub fn number(&mut self) -> Option<u64> {
-        parse_number(self.word()?)
-    }
-
-    /// The next word as a number of things in memory.
-    pub fn count(&mut self) -> Option<usize> {
-        usize::try_from(self.number()?).ok()
-    }
-
-    /// No word is left.
-    pub fn is_at_end(&self) -> bool
-        ensures { result ≡ is_none self.now.rest }
-    {
-        self.rest.is_none()
+        let (word, rest) = split_at_first(line, b' ');
+        let verb = Verb::by(word)?;
+        let Some(rest) = rest else {
+            return Some(Words {
+                verb,
+                label: None,
+                number: None,
+            });
+        };
+        let (word, after) = split_at_first(rest, b' ');
+        let Some(label) = Label::parse(word) else {
+            return Some(Words {
+                verb,
+                label: None,
+                number: Some(parse_number(rest)?),
+            });
+        };
+        let Some(numeral) = after else {
+            return Some(Words {
+                verb,
+                label: Some(label),
+                number: None,
+            });
+        };
+        Some(Words {
+            verb,
+            label: Some(label),
+            number: Some(parse_number(numeral)?),
+        })
     }
 }

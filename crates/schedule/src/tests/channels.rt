@@ -67,3 +67,16 @@ poll c 3 -> none
 send 11 -> closed 11";
     check_row(&rt, rt.alloc(), row)
 }
+
+/// The number that is asked for counts.
+#[test]
+fn state_broadcast_asked_number(rt: HostRuntime) -> Result<(), Fail> {
+    let row = "state-broadcast
+send 9 -> ok
+try-receive 1 -> none
+try-receive 0 -> some 1 9
+send 8 -> ok
+try-receive 2 -> none
+try-receive 1 -> some 2 8";
+    check_row(&rt, rt.alloc(), row)
+}

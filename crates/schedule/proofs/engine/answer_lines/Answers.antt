@@ -1,26 +1,52 @@
 use Rattle.std.specs.Prelude.{option_copied}
-use Rattle.std.proofs.Common.{arith, ◌∙◌}
+use Rattle.std.proofs.Common.{arith, rules, refl, ◌∙◌}
+use Rattle.std.proofs.lemmas.Grind.{common_steps}
+use Rattle.schedule.specs.InUse.{labels_of}
+use Rattle.schedule.specs.Labels.{code_of}
+use Rattle.schedule.specs.Language.{spoken}
 use Rattle.schedule.proofs.Cuts.{line_shortens}
 use Rattle.schedule.proofs.Answered.{so_far_goes_on, rest_answered, front_answered, if_bad_more, if_err_same}
 use Rattle.schedule.proofs.engine.answer_lines.Goals as goal
 
+pub loop-line-init : goal.loop-line-init
+loop-line-init g c = (
+  first_of (search rules, grind (arith, common_steps)),
+  (
+    c.in-Ok.primitive,
+    labels_of c.in-Ok-new.futures,
+    c.in-Ok.ensures.opened,
+    (λ word. c.in-Ok-new.ensures.empty (code_of word)),
+    λ more end after last later left are answered goes. (more, later, are, answered, goes, omega arith),
+  ),
+  refl,
+)
+
 pub loop-line-preserved : goal.loop-line-preserved
 loop-line-preserved g c = (
   omega (arith, c.loop-line.invariant.0, line_shortens _ _ _ c.in-Some.ensures),
-  so_far_goes_on g.P.Primitive.opens g.P.Primitive.step g.P.Scripted.owed g.P.Scripted.without_wakers g.W.Write.contents c.args.opening (option_copied c.args.lines.rest) c.args.output.now
-      c.loop-line.number (option_copied c.loop-line.lines.rest) c.loop-line.session.primitive c.loop-line.output c.in-Some.line.now (option_copied c.line.new.self.rest) c.answer_line.new.self.primitive
+  so_far_goes_on (spoken g.P.Primitive.opens g.P.Primitive.step g.P.Scripted.language) g.W.Write.contents c.args.opening
+      (option_copied c.args.lines.rest) c.args.output.now
+      c.loop-line.number (option_copied c.loop-line.lines.rest) (labels_of c.loop-line.session.futures)
+      c.loop-line.session.primitive c.loop-line.output c.in-Some.line.now
+      (option_copied c.line.new.self.rest) (labels_of c.answer_line.new.self.futures) c.answer_line.new.self.primitive
       c.answer_line.new.output c.loop-line.invariant.1 c.in-Some.ensures c.in_ok-answer_line.ensures.answered,
   c.answer_line.ensures.same_writer ∙ c.loop-line.invariant.2,
 )
 
 pub returns-in_err-answer_line-clause-bad : goal.returns-in_err-answer_line-clause-bad
 returns-in_err-answer_line-clause-bad g c =
-    if_err_same c.from_residual.result _ c.in_err-answer_line.field-0.0 c.from_residual.ensures.1 (if_bad_more _ _ c.in_err-answer_line.field-0.0 c.in_err-answer_line.ensures.bad (λ number told.
-    rw (told.0, told.2)
-    (front_answered g.P.Primitive.opens g.P.Primitive.step g.P.Scripted.owed g.P.Scripted.without_wakers g.W.Write.contents c.args.opening (option_copied c.args.lines.rest) c.args.output.now
-    c.loop-line.number (option_copied c.loop-line.lines.rest) c.loop-line.session.primitive c.loop-line.output c.in-Some.line.now _ c.loop-line.invariant.1 c.in-Some.ensures)))
+    if_err_same c.from_residual.result _ c.in_err-answer_line.field-0.0 c.from_residual.ensures.1
+    (if_bad_more _ _ c.in_err-answer_line.field-0.0 c.in_err-answer_line.ensures.bad (λ number told.
+    rw (told.0, told.3)
+    (front_answered (spoken g.P.Primitive.opens g.P.Primitive.step g.P.Scripted.language) g.W.Write.contents
+    c.args.opening (option_copied c.args.lines.rest) c.args.output.now
+    c.loop-line.number (option_copied c.loop-line.lines.rest) (labels_of c.loop-line.session.futures)
+    c.loop-line.session.primitive c.loop-line.output c.in-Some.line.now _
+    c.loop-line.invariant.1 c.in-Some.ensures told.1)))
 
 pub returns-clause-answered : goal.returns-clause-answered
 returns-clause-answered g c =
-    rest_answered g.P.Primitive.opens g.P.Primitive.step g.P.Scripted.owed g.P.Scripted.without_wakers g.W.Write.contents c.args.opening (option_copied c.args.lines.rest) c.args.output.now
-    c.loop-line.number (option_copied c.loop-line.lines.rest) c.loop-line.session.primitive c.loop-line.output _ c.loop-line.invariant.1 c.in_default-line.ensures
+    rest_answered (spoken g.P.Primitive.opens g.P.Primitive.step g.P.Scripted.language) g.W.Write.contents
+    c.args.opening (option_copied c.args.lines.rest) c.args.output.now
+    c.loop-line.number (option_copied c.loop-line.lines.rest) (labels_of c.loop-line.session.futures)
+    c.loop-line.session.primitive c.loop-line.output _ c.loop-line.invariant.1 c.in_default-line.ensures

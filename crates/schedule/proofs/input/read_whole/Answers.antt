@@ -18,11 +18,14 @@ loop-filled-preserved g c =
           ∙ ap (take before) w.in_ok-make_room.ensures.kept)
       | else-len-filled-lt-LEAST_ROOM w ↦ ap (λ b. take before b.items) w.bytes-is
     ] in
-    let kept : take before c.deref_mut.result.now ≡ take before c.loop-filled.bytes.items = ap (take before) c.deref_mut.ensures.value ∙ same in
+    let kept : take before c.deref_mut.result.now ≡ take before c.loop-filled.bytes.items = ap (take before)
+    c.deref_mut.ensures.value ∙ same in
     let some : before ≤ length c.deref_mut.result.now = grind (arith, common_steps) in
     let read = Consumes (g.R.Read.remaining c.args.reader.now) (g.R.Read.remaining c.read.new.self) in (
       room,
-      subst read (sym (read_more before c.in-Ok.count longer.len c.deref_mut.result.now c.read.new.buf _ _ some c.in-Ok.ensures.bound.0 room))
-          (consumes_twice _ _ _ _ _ (subst (Consumes (g.R.Read.remaining c.args.reader.now) (g.R.Read.remaining c.loop-filled.reader)) (sym kept) c.loop-filled.invariant.1)
+      subst read (sym (read_more before c.in-Ok.count longer.len c.deref_mut.result.now c.read.new.buf _ _ some
+          c.in-Ok.ensures.bound.0 room))
+          (consumes_twice _ _ _ _ _ (subst (Consumes (g.R.Read.remaining c.args.reader.now)
+          (g.R.Read.remaining c.loop-filled.reader)) (sym kept) c.loop-filled.invariant.1)
           c.in-Ok.ensures.bytes.0),
     )

@@ -17,7 +17,13 @@ returns-then-not-is_ascii_digit c = λ n small e.
 pub returns-in_err-checked_mul : goal.returns-in_err-checked_mul
 returns-in_err-checked_mul c =
     rw c.from_residual-in_err-checked_mul.ensures
-    (λ n small e. c.in_err-checked_mul.ensures (omega (arith, small, c.loop-byte.invariant.0, value_so_far c.args.word.now n c.loop-byte.byte-index (omega (arith, small)) e c.loop-byte-test.true)))
+    (λ n small e. c.in_err-checked_mul.ensures (omega (
+      arith,
+      small,
+      c.loop-byte.invariant.0,
+      value_so_far
+          c.args.word.now n c.loop-byte.byte-index (omega (arith, small)) e c.loop-byte-test.true,
+    )))
 
 pub returns-in_err-number : goal.returns-in_err-number
 returns-in_err-number c = grind (arith, common_steps, value_so_far)
@@ -29,6 +35,9 @@ pub returns : goal.returns
 returns c =
     let some : 0 < length c.args.word.now = grind (arith, common_steps) in
     let first : c.in_ok-first.first.now ≡ get_or c.args.word.now 0 0 = grind (arith, common_steps) in
-    let alone : get_or c.args.word.now 0 0 ≡ 48 → length c.args.word.now ≤ 1 = λ zero. elim c.else-first-eq48.either [ inl w ↦ w.1 | inr other ↦ absurd (other (first ∙ zero)) ] in
+    let alone : get_or c.args.word.now 0 0 ≡ 48
+    → length c.args.word.now ≤ 1 = λ zero. elim c.else-first-eq48.either
+    [ inl w ↦ w.1 | inr other ↦ absurd (other (first ∙ zero)) ] in
     is_numeral_of c.args.word.now c.loop-byte.byte-index c.loop-byte.number c.loop-byte.invariant.0 (omega arith)
-    (λ i h. c.loop-byte.invariant.1 i (omega arith)) some (λ zero. omega (arith, some, alone zero)) c.loop-byte.invariant.2
+    (λ i h. c.loop-byte.invariant.1 i (omega arith)) some (λ zero. omega (arith, some, alone zero))
+    c.loop-byte.invariant.2

@@ -6,12 +6,21 @@ use Rattle.schedule.proofs.Labels.{one_more_byte, bytes_fit, is_label, one_word}
 use Rattle.schedule.proofs.label.Label.parse.Goals as goal
 
 pub overflow_mul-code : goal.overflow_mul-code
-overflow_mul-code c = omega (arith, bytes_fit c.loop-byte.byte-index c.loop-byte.code 0 (omega arith) c.loop-byte.invariant.2 (omega arith))
+overflow_mul-code c =
+    omega (
+      arith,
+      bytes_fit c.loop-byte.byte-index c.loop-byte.code 0 (omega arith) c.loop-byte.invariant.2
+          (omega arith),
+    )
 
 pub overflow_add-code : goal.overflow_add-code
 overflow_add-code c =
     let small : c.from.result < 256 = grind (arith, common_steps) in
-    omega (arith, bytes_fit c.loop-byte.byte-index c.loop-byte.code c.from.result (omega arith) c.loop-byte.invariant.2 small)
+    omega (
+      arith,
+      bytes_fit c.loop-byte.byte-index c.loop-byte.code c.from.result (omega arith) c.loop-byte.invariant.2
+          small,
+    )
 
 pub loop-byte-preserved : goal.loop-byte-preserved
 loop-byte-preserved c =
@@ -25,7 +34,9 @@ loop-byte-preserved c =
     )
 
 pub returns-clause-label : goal.returns-clause-label
-returns-clause-label c = is_label c.args.word.now c.loop-byte.byte-index c.loop-byte.code (omega arith) (grind (arith, common_steps)) (omega arith)
+returns-clause-label c =
+    is_label c.args.word.now c.loop-byte.byte-index c.loop-byte.code (omega arith) (grind (arith, common_steps))
+    (omega arith)
     (grind (arith, common_steps)) c.loop-byte.invariant.1 c.loop-byte.invariant.0
 
 pub returns-clause-one_word : goal.returns-clause-one_word

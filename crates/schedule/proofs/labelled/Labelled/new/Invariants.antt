@@ -1,5 +1,7 @@
 use Rattle.std.proofs.Common.{◌≡◌, vec_len}
+use Rattle.std.specs.Prelude.{All}
+use Rattle.std.specs.BTreeMap.{IsEmpty}
 use Rattle.schedule.proofs.labelled.Labelled.new.Given as goal
 
 abbrev pub invariant-loop : goal.invariant-loop
-invariant-loop g l = vec_len l.shelves ≡ l.counter
+invariant-loop g l = (vec_len l.shelves ≡ l.counter) × All (λ shelf. IsEmpty shelf) l.shelves.items

@@ -1,0 +1,310 @@
+-- A line is read in one way.
+use Rattle.std.proofs.Common.{◌≡◌, ◌≢◌, ℕ, ◌<◌, ◌^◌, ◌++◌, List, [], ◌∷◌, refl, sym, subst, ap, ◌∙◌, arith, zero, suc, inl, inr}
+use Rattle.std.proofs.lemmas.Bool.{true≢false, eq-eqb}
+use Rattle.std.specs.Prelude.{Bool, true, false, cond, Option, Some, None, All, IfSome, codes, eqb}
+use Rattle.std.specs.Fmt.{decimal}
+use Rattle.std.proofs.lemmas.Fmt.{digits_value-decimal}
+use Rattle.std.specs.Str.Parse.{digits_value}
+use Rattle.schedule.specs.Cuts.{IsCut}
+use Rattle.schedule.specs.Labels.{IsLabel, code_of}
+use Rattle.schedule.specs.Lines.{joined, numeral, words_after, HasWords, Labels, row_of, HoldsLine, IsNoCall, IsBad}
+use Rattle.schedule.specs.declared.row.Row.{Row}
+use Rattle.schedule.specs.Names.{name_of}
+use Rattle.schedule.specs.Spelled.{IsNotSpelled}
+use Rattle.schedule.specs.Verbs.{verb_text, IsNoVerb}
+use Rattle.schedule.specs.declared.named.Named.{Named}
+use Rattle.schedule.specs.declared.named.Named.TheVariants as named
+use Rattle.schedule.specs.declared.verb.Verb.{Verb}
+use Rattle.schedule.specs.declared.verb.Verb.TheVariants.{Cancel, Close, IsSet, Poll, Receive, Reset, Send, Set, TryReceive, Wait}
+use Rattle.schedule.proofs.Numerals.{own, numeral_digits}
+
+-- no byte is the separator
+abbrev pub Lacks : ℕ → List ℕ → Type 0
+Lacks separator bytes = All (λ byte. byte ≢ separator) bytes
+
+head_lacks : (separator x : ℕ) (xs : List ℕ) → Lacks separator (x ∷ xs) → x ≢ separator
+head_lacks separator x xs lacks = lacks 0 0 (omega arith)
+
+rest_lacks : (separator x : ℕ) (xs : List ℕ) → Lacks separator (x ∷ xs) → Lacks separator xs
+rest_lacks separator x xs lacks = λ k d h. lacks (suc k) d (omega (arith, h))
+
+has_one : (separator : ℕ) (xs rest : List ℕ) → Lacks separator (xs ++ separator ∷ rest) → ⊥
+has_one separator [] rest lacks = head_lacks separator separator rest lacks refl
+has_one separator (x ∷ xs) rest lacks =
+    has_one separator xs rest (rest_lacks separator x (xs ++ separator ∷ rest) lacks)
+
+both : (separator : ℕ) (xs ys rest rest' : List ℕ) → xs ++ separator ∷ rest ≡ ys ++ separator ∷ rest'
+    → Lacks separator xs → Lacks separator ys → (xs ≡ ys) × (rest ≡ rest')
+both separator [] [] rest rest' e lacks lacks' = (refl, cc)
+both separator [] (y ∷ ys) rest rest' e lacks lacks' = absurd (head_lacks separator y ys lacks' (cc))
+both separator (x ∷ xs) [] rest rest' e lacks lacks' = absurd (head_lacks separator x xs lacks (cc))
+both separator (x ∷ xs) (y ∷ ys) rest rest' e lacks lacks' =
+    let first : x ≡ y = cc in
+    let more = both separator xs ys rest rest' (cc) (rest_lacks separator x xs lacks) (rest_lacks separator y ys lacks')
+    in
+    (ap (λ c. c ∷ xs) first ∙ ap (λ cs. y ∷ cs) more.0, more.1)
+
+-- A cut is at one place.
+pub one_place : (separator : ℕ) (xs ys : List ℕ) (rest rest' : Option (List ℕ)) (bytes : List ℕ)
+    → IsCut separator bytes xs rest → IsCut separator bytes ys rest'
+    → (xs ≡ ys) × (rest ≡ rest')
+one_place separator xs ys None None bytes cut cut' = (sym cut.0 ∙ cut'.0, refl)
+one_place separator xs ys None (Some rest') bytes cut cut' =
+    absurd (has_one separator ys rest' (subst (Lacks separator) (sym cut.0 ∙ cut'.0) cut.1))
+one_place separator xs ys (Some rest) None bytes cut cut' =
+    absurd (has_one separator xs rest (subst (Lacks separator) (sym cut'.0 ∙ cut.0) cut'.1))
+one_place separator xs ys (Some rest) (Some rest') bytes cut cut' =
+    let same = both separator xs ys rest rest' (sym cut.0 ∙ cut'.0) cut.1 cut'.1 in (same.0, ap (λ r. Some r) same.1)
+
+-- joined words are cut at the space
+pub cut_of : (bytes word : List ℕ) (rest : Option (List ℕ)) → bytes ≡ joined word rest → Lacks 32 word
+    → IsCut 32 bytes word rest
+cut_of bytes word None e lacks = (e, lacks)
+cut_of bytes word (Some rest) e lacks = (e, lacks)
+
+pub of_cut : (bytes word : List ℕ) (rest : Option (List ℕ)) → IsCut 32 bytes word rest → bytes ≡ joined word rest
+of_cut bytes word None cut = cut.0
+of_cut bytes word (Some rest) cut = cut.0
+
+pub cut_is : (bytes word word' : List ℕ) (rest rest' : Option (List ℕ)) → IsCut 32 bytes word rest → word ≡ word'
+    → rest ≡ rest' → IsCut 32 bytes word' rest'
+cut_is bytes word word' rest rest' cut e e' =
+    subst (λ r. IsCut 32 bytes word' r) e' (subst (λ w. IsCut 32 bytes w rest) e cut)
+
+-- ---- words without a space
+lacks_byte : ℕ → List ℕ → Bool
+lacks_byte separator [] = true
+lacks_byte separator (x ∷ xs) = cond (eqb x separator) false (lacks_byte separator xs)
+
+neither : (b c : Bool) → cond b false c ≡ true → (b ≡ false) × (c ≡ true)
+neither true c e = absurd (true≢false (sym e))
+neither false c e = (refl, e)
+
+lacks_by_test : (separator : ℕ) (xs : List ℕ) → lacks_byte separator xs ≡ true → Lacks separator xs
+unfolding lacks_byte
+lacks_by_test separator [] e k d h same = omega (arith, h)
+lacks_by_test separator (x ∷ xs) e zero d h same =
+    true≢false (sym (eq-eqb x separator same) ∙ (neither (eqb x separator) (lacks_byte separator xs) e).0)
+lacks_by_test separator (x ∷ xs) e (suc k) d h same =
+    lacks_by_test separator xs (neither (eqb x separator) (lacks_byte separator xs) e).1 k d (omega (arith, h)) same
+
+verb_lacks : (verb : Verb) → Lacks 32 (verb_text verb)
+unfolding lacks_byte
+verb_lacks Cancel = lacks_by_test 32 (verb_text Cancel) refl
+verb_lacks Close = lacks_by_test 32 (verb_text Close) refl
+verb_lacks IsSet = lacks_by_test 32 (verb_text IsSet) refl
+verb_lacks Poll = lacks_by_test 32 (verb_text Poll) refl
+verb_lacks Receive = lacks_by_test 32 (verb_text Receive) refl
+verb_lacks Reset = lacks_by_test 32 (verb_text Reset) refl
+verb_lacks Send = lacks_by_test 32 (verb_text Send) refl
+verb_lacks Set = lacks_by_test 32 (verb_text Set) refl
+verb_lacks TryReceive = lacks_by_test 32 (verb_text TryReceive) refl
+verb_lacks Wait = lacks_by_test 32 (verb_text Wait) refl
+
+pub name_lacks : (named : Named) → Lacks 32 (name_of named)
+unfolding lacks_byte
+name_lacks named.Event = lacks_by_test 32 (name_of named.Event) refl
+name_lacks named.Oneshot = lacks_by_test 32 (name_of named.Oneshot) refl
+name_lacks named.OneshotBroadcast = lacks_by_test 32 (name_of named.OneshotBroadcast) refl
+name_lacks named.StateBroadcast = lacks_by_test 32 (name_of named.StateBroadcast) refl
+
+hold_lacks : Lacks 32 (codes "hold")
+unfolding lacks_byte
+hold_lacks = lacks_by_test 32 (codes "hold") refl
+
+label_lacks : (word : List ℕ) → IsLabel word → Lacks 32 word
+label_lacks word label =
+    λ i d h same. elim (label.3 i d h) [
+      | inl letter ↦ omega (arith, letter.0, same)
+      | inr digit ↦ omega
+          (arith, digit.0, same)
+    ]
+
+-- ---- each word is read in one way
+same_verb : (v w : Verb) → verb_text v ≡ verb_text w → v ≡ w
+same_verb Cancel Cancel e = refl
+same_verb Close Close e = refl
+same_verb IsSet IsSet e = refl
+same_verb Poll Poll e = refl
+same_verb Receive Receive e = refl
+same_verb Reset Reset e = refl
+same_verb Send Send e = refl
+same_verb Set Set e = refl
+same_verb TryReceive TryReceive e = refl
+same_verb Wait Wait e = refl
+same_verb v w e = absurd (omega (arith, ap code_of e))
+
+pub same_name : (v w : Named) → name_of v ≡ name_of w → v ≡ w
+same_name named.Event named.Event e = refl
+same_name named.Oneshot named.Oneshot e = refl
+same_name named.OneshotBroadcast named.OneshotBroadcast e = refl
+same_name named.StateBroadcast named.StateBroadcast e = refl
+same_name v w e = absurd (omega (arith, ap code_of e))
+
+verb_is_no_hold : (v : Verb) → verb_text v ≡ codes "hold" → ⊥
+verb_is_no_hold Cancel e = omega (arith, ap code_of e)
+verb_is_no_hold Close e = omega (arith, ap code_of e)
+verb_is_no_hold IsSet e = omega (arith, ap code_of e)
+verb_is_no_hold Poll e = omega (arith, ap code_of e)
+verb_is_no_hold Receive e = omega (arith, ap code_of e)
+verb_is_no_hold Reset e = omega (arith, ap code_of e)
+verb_is_no_hold Send e = omega (arith, ap code_of e)
+verb_is_no_hold Set e = omega (arith, ap code_of e)
+verb_is_no_hold TryReceive e = omega (arith, ap code_of e)
+verb_is_no_hold Wait e = omega (arith, ap code_of e)
+
+same_number : (n m : ℕ) → n < 2 ^ 64 → m < 2 ^ 64 → decimal n ≡ decimal m → n ≡ m
+same_number n m small small' e =
+    sym (digits_value-decimal own n small) ∙ ap (digits_value 10) e ∙ digits_value-decimal own m small'
+
+same_numeral : (n m : Option ℕ) → IfSome n (λ k. k < 2 ^ 64) → IfSome m (λ k. k < 2 ^ 64) → numeral n ≡ numeral m
+    → n ≡ m
+same_numeral None None small small' e = refl
+same_numeral None (Some m) small small' e = cc
+same_numeral (Some n) None small small' e = cc
+same_numeral (Some n) (Some m) small small' e = ap (λ k. Some k) (same_number n m small small' (cc))
+
+-- No numeral begins as a label does.
+pub not_label : (word : List ℕ) (rest : Option (List ℕ)) (n : ℕ) → n < 2 ^ 64 → IsLabel word
+    → joined word rest ≡ decimal n → ⊥
+not_label [] rest n small label e = omega (arith, label.0)
+not_label (x ∷ xs) None n small label e =
+    let digit = numeral_digits (x ∷ xs) n small e 0 (omega arith) in omega (arith, digit.1, label.2.0)
+not_label (x ∷ xs) (Some rest) n small label e =
+    let digit = numeral_digits (x ∷ (xs ++ 32 ∷ rest)) n small e 0 (omega arith) in omega (arith, digit.1, label.2.0)
+
+no_number : (label : List ℕ) (n m : Option ℕ) → IfSome m (λ k. k < 2 ^ 64) → IsLabel label
+    → Some (joined label (numeral n)) ≡ numeral m → ⊥
+no_number label n None small is e = cc
+no_number label n (Some m) small is e = not_label label (numeral n) m small is (cc)
+
+same_after : (l k : Option (List ℕ)) (n m : Option ℕ) → IfSome l IsLabel → IfSome k IsLabel → IfSome n (λ i. i < 2 ^ 64)
+    → IfSome m (λ i. i < 2 ^ 64)
+    → words_after l n ≡ words_after k m → (l ≡ k) × (n ≡ m)
+same_after None None n m label label' small small' e = (refl, same_numeral n m small small' e)
+same_after None (Some k) n m label label' small small' e = absurd (no_number k m n small label' (sym e))
+same_after (Some l) None n m label label' small small' e = absurd (no_number l n m small' label e)
+same_after (Some l) (Some k) n m label label' small small' e =
+    let line : joined l (numeral n) ≡ joined k (numeral m) = cc in
+    let same = one_place 32 l k (numeral n) (numeral m) (joined l (numeral n))
+    (cut_of _ l (numeral n) refl (label_lacks l label)) (cut_of _ k (numeral m) line (label_lacks k label')) in
+    (ap (λ w. Some w) same.0, same_numeral n m small small' same.1)
+
+pub same_words : (line : List ℕ) (v w : Verb) (l k : Option (List ℕ)) (n m : Option ℕ) → HasWords line v l n
+    → HasWords line w k m → (v ≡ w) × (l ≡ k) × (n ≡ m)
+same_words line v w l k n m words words' =
+    let same = one_place 32 (verb_text v) (verb_text w) (words_after l n) (words_after k m) line
+    (cut_of line _ _ words.text (verb_lacks v)) (cut_of line _ _ words'.text (verb_lacks w)) in
+    let after = same_after l k n m words.label_is words'.label_is words.number_fits words'.number_fits same.1 in
+    (same_verb v w same.0, after.0, after.1)
+
+none_is_not : {C : Type 0} {call : C} → None ≡ Some call → ⊥
+none_is_not e = cc
+
+not_last : (last : List ℕ) (number : Option ℕ) → IfSome number (λ n. n < 2 ^ 64)
+    → ((n : ℕ) → n < 2 ^ 64 → last ≢ decimal n) → Some last ≡ numeral number → ⊥
+not_last last None fits no_numeral e = none_is_not (sym e)
+not_last last (Some n) fits no_numeral e = no_numeral n fits (cc)
+
+-- ---- what reading finds
+rest_words : (line : List ℕ) (v verb : Verb) (rest label : Option (List ℕ)) (number : Option ℕ)
+    → IsCut 32 line (verb_text v) rest → HasWords line verb label number → rest ≡ words_after label number
+rest_words line v verb rest label number cut words =
+    (one_place 32 _ _ _ _ line cut (cut_of line _ _ words.text (verb_lacks verb))).1
+
+pub no_verb : (line word : List ℕ) (rest : Option (List ℕ)) → IsCut 32 line word rest → IsNoVerb word
+    → IsNotSpelled line
+no_verb line word rest cut none =
+    λ verb label number words. none verb (one_place 32 _ _ _ _ line cut
+    (cut_of line _ _ words.text (verb_lacks verb))).0
+
+-- no numeral of 64 bits
+abbrev pub IsNoNumeral : List ℕ → Type 0
+IsNoNumeral word = (n : ℕ) → n < 2 ^ 64 → word ≢ decimal n
+
+neither_word : (rest word : List ℕ) (after : Option (List ℕ)) → IsCut 32 rest word after → (¬ IsLabel word)
+    → IsNoNumeral rest → (label : Option (List ℕ)) (number : Option ℕ)
+    → IfSome label IsLabel → IfSome number (λ n. n < 2 ^ 64) → Some rest ≡ words_after label number → ⊥
+neither_word rest word after cut no_label no_numeral None None is fits e = none_is_not (sym e)
+neither_word rest word after cut no_label no_numeral None (Some n) is fits e = no_numeral n fits (cc)
+neither_word rest word after cut no_label no_numeral (Some l) number is fits e =
+    let text : rest ≡ joined l (numeral number) = cc in
+    no_label (subst IsLabel (sym (one_place 32 word l after (numeral number) rest cut
+    (cut_of rest l (numeral number) text (label_lacks l is))).0) is)
+
+pub no_plain : (line : List ℕ) (v : Verb) (rest word : List ℕ) (after : Option (List ℕ))
+    → IsCut 32 line (verb_text v) (Some rest) → IsCut 32 rest word after → (¬ IsLabel word) → IsNoNumeral rest
+    → IsNotSpelled line
+no_plain line v rest word after cut cut' no_label no_numeral = λ verb label number words.
+    neither_word rest word after cut' no_label no_numeral label number words.label_is words.number_fits
+    (rest_words line v verb (Some rest) label number cut words)
+
+no_number_after : (rest word last : List ℕ) → IsCut 32 rest word (Some last) → IsLabel word → IsNoNumeral last
+    → (label : Option (List ℕ)) (number : Option ℕ)
+    → IfSome label IsLabel → IfSome number (λ n. n < 2 ^ 64) → Some rest ≡ words_after label number → ⊥
+no_number_after rest word last cut is_label no_numeral None None is fits e = none_is_not (sym e)
+no_number_after rest word last cut is_label no_numeral None (Some n) is fits e =
+    let text : rest ≡ decimal n = cc in
+    not_label word (Some last) n fits is_label (sym (of_cut rest word (Some last) cut) ∙ text)
+no_number_after rest word last cut is_label no_numeral (Some l) number is fits e =
+    let text : rest ≡ joined l (numeral number) = cc in
+    not_last last number fits no_numeral (one_place 32 word l (Some last) (numeral number) rest cut
+    (cut_of rest l (numeral number) text (label_lacks l is))).1
+
+pub no_labelled : (line : List ℕ) (v : Verb) (rest word last : List ℕ) → IsCut 32 line (verb_text v) (Some rest)
+    → IsCut 32 rest word (Some last) → IsLabel word → IsNoNumeral last
+    → IsNotSpelled line
+no_labelled line v rest word last cut cut' is_label no_numeral = λ verb label number words.
+    no_number_after rest word last cut' is_label no_numeral label number words.label_is words.number_fits
+    (rest_words line v verb (Some rest) label number cut words)
+
+pub labelled_words : (line : List ℕ) (v : Verb) (rest word : List ℕ) (after : Option (List ℕ)) (number : Option ℕ)
+    → IsCut 32 line (verb_text v) (Some rest) → IsCut 32 rest word after → IsLabel word
+    → after ≡ numeral number → IfSome number (λ n. n < 2 ^ 64) → HasWords line v (Some word) number
+labelled_words line v rest word after number cut cut' is_label is fits = record {
+  text =
+      of_cut line (verb_text v) (Some rest) cut ∙ ap (λ r. joined (verb_text v) (Some r))
+      (of_cut rest word after cut' ∙ ap (λ r. joined word r) is);
+  label_is = is_label;
+  number_fits = fits;
+}
+
+-- ---- what a line does not stand for
+held_once : (call own : List ℕ) → joined (codes "hold") (Some call) ≡ joined (codes "hold") (Some own) → call ≡ own
+held_once call own e = cc
+
+module _ {C : Type 0} (call_of : Row → Option C) (labels : Labels) where
+  pub no_call : (line : List ℕ) (v : Verb) (l : Option (List ℕ)) (n : Option ℕ) (r : Option Row) → HasWords line v l n
+      → r ≡ row_of labels v l n
+      → IfSome r (λ row. call_of row ≡ None) → IsNoCall call_of labels line
+  no_call line v l n r words is none row label call stands =
+      let same = same_words line _ _ _ _ _ _ stands.words words in
+      let rows : row_of labels stands.verb label stands.number ≡ row_of labels v l n =
+      ap (λ w. row_of labels w label stands.number) same.0 ∙ ap (λ w. row_of labels v w stands.number) same.1 ∙ ap
+      (λ w. row_of labels v l w) same.2 in
+      let found : r ≡ Some row = is ∙ sym rows ∙ stands.row_is in
+      let nothing : call_of row ≡ None = subst (λ it. IfSome it (λ one. call_of one ≡ None)) found none in
+      none_is_not (sym nothing ∙ stands.call_is)
+
+  held_calls : (line call : List ℕ) → line ≡ joined (codes "hold") (Some call) → IsNoCall call_of labels call
+      → (holds : Bool) (own : List ℕ) → HoldsLine holds line own → IsNoCall call_of labels own
+  held_calls line call held none true own is = subst (IsNoCall call_of labels) (held_once call own (sym held ∙ is)) none
+  held_calls line call held none false own is = λ row label one stands.
+      verb_is_no_hold stands.verb (one_place 32 (verb_text stands.verb) (codes "hold") (words_after label stands.number)
+      (Some call) own
+      (cut_of own (verb_text stands.verb) (words_after label stands.number) stands.words.text (verb_lacks stands.verb))
+      (cut_of own (codes "hold") (Some call) (sym is ∙ held) hold_lacks)).0
+
+  pub bad_held : (line call : List ℕ) → line ≢ codes "wakes" → line ≡ joined (codes "hold") (Some call)
+      → IsNoCall call_of labels call → IsBad call_of labels line
+  bad_held line call not_wakes held none = record { not_wakes = not_wakes; no_call = held_calls line call held none }
+
+  other_calls : (line : List ℕ) → ((call : List ℕ) → line ≢ joined (codes "hold") (Some call))
+      → IsNoCall call_of labels line → (holds : Bool) (own : List ℕ) → HoldsLine holds line own
+      → IsNoCall call_of labels own
+  other_calls line not_held none true own is = absurd (not_held own is)
+  other_calls line not_held none false own is = subst (IsNoCall call_of labels) is none
+
+  pub bad_line : (line : List ℕ) → line ≢ codes "wakes" → ((call : List ℕ) → line ≢ joined (codes "hold") (Some call))
+      → IsNoCall call_of labels line → IsBad call_of labels line
+  bad_line line not_wakes not_held none = record { not_wakes = not_wakes; no_call = other_calls line not_held none }

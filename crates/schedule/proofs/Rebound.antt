@@ -1,0 +1,46 @@
+-- Labels after a store or a removal.
+use Rattle.std.proofs.Common.{◌≡◌, ◌≢◌, ℕ, List, sym, subst}
+use Rattle.std.specs.Prelude.{Option, None, Some}
+use Rattle.std.specs.BTreeMap.{BTreeMap}
+use Rattle.fi_parts.specs.declared.errors.Slot.{Slot}
+use Rattle.fi_run.specs.declared.answer.Answer.{Answer}
+use Rattle.fi_run.specs.declared.answer.Answer.TheVariants.{Made}
+use Rattle.schedule.specs.InUse.{labels_of}
+use Rattle.schedule.specs.Labels.{IsLabel, code_of}
+use Rattle.schedule.specs.Lines.{Rebinds, LabelsAfter}
+use Rattle.schedule.specs.Spelled.{IsLabelOf}
+use Rattle.schedule.specs.Stored.{stored, Stores}
+use Rattle.schedule.specs.declared.label.Label.{Label}
+use Rattle.schedule.specs.declared.labelled.Labelled.{Labelled}
+use Rattle.schedule.specs.declared.row.Row.{Row}
+use Rattle.schedule.specs.declared.row.Row.TheVariants.{Make, Cancel}
+use Rattle.schedule.specs.declared.verb.Verb.{Verb}
+use Rattle.schedule.proofs.Labels.{one_word}
+
+rebinds : (word : List ℕ) (slot : Option Slot) (code : ℕ) (old new : Labelled Slot) → IsLabel word → code ≡ code_of word
+    → Stores code slot old.shelves.items new.shelves.items
+    → Rebinds word slot (labels_of old) (labels_of new)
+rebinds word slot code old new label is stores =
+    let here : Stores (code_of word) slot old.shelves.items new.shelves.items = subst
+    (λ c. Stores c slot old.shelves.items new.shelves.items) is stores in
+    (here.0, λ other label' apart. here.1 (code_of other) (λ same. apart (one_word other word label' label same)))
+
+module _ (old new : Labelled Slot) (label : Option Label) (l : Label) (is : label ≡ Some l) where
+  pub bound : (slot : Slot) (row : Row) (verb : Verb) (number : Option ℕ) (answer : Answer ℕ ℕ) → row ≡ Make verb number
+      → answer ≡ Made slot
+      → Stores l.code (Some slot) old.shelves.items new.shelves.items → (word : Option (List ℕ)) → IsLabelOf word label
+      → LabelsAfter row word answer (labels_of old) (labels_of new)
+  bound slot row verb number answer is_row is_answer stores None labelled =
+      absurd (subst (λ (o : Option Label). IsLabelOf None o) is labelled)
+  bound slot row verb number answer is_row is_answer stores (Some word) labelled =
+      let it = subst (λ (o : Option Label). IsLabelOf (Some word) o) is labelled in
+      rw (is_row, is_answer) (rebinds word (Some slot) l.code old new it.0 it.1 stores)
+
+  pub unbound : (slot : Slot) (row : Row) (number : Option ℕ) (answer : Answer ℕ ℕ) → row ≡ Cancel slot number
+      → Stores l.code None old.shelves.items new.shelves.items → (word : Option (List ℕ)) → IsLabelOf word label
+      → LabelsAfter row word answer (labels_of old) (labels_of new)
+  unbound slot row number answer is_row stores None labelled =
+      absurd (subst (λ (o : Option Label). IsLabelOf None o) is labelled)
+  unbound slot row number answer is_row stores (Some word) labelled =
+      let it = subst (λ (o : Option Label). IsLabelOf (Some word) o) is labelled in
+      rw is_row (rebinds word None l.code old new it.0 it.1 stores)

@@ -1,0 +1,17 @@
+-- How a run of the program ends.
+use Rattle.std.specs.Prelude.{◌≡◌, ◌⊎◌, ℕ, List, Option, codes}
+use Rattle.schedule.specs.Begun.{Begins, fault_line}
+use Rattle.schedule.specs.Script.{IfFault}
+use Rattle.schedule.specs.Statuses.{status_of}
+use Rattle.schedule.specs.declared.fault.ScriptFault.{ScriptFault}
+
+-- All lines were answered, or a fault ended the run and was told.
+abbrev pub EndsScript : ℕ → Type 0 → Type 0 → (ℕ → Type 0) → Option (List ℕ) → Option (List ℕ) → Type 0
+EndsScript status untouched answered refused before after = ((status ≡ 0) × answered)
+    ⊎ ((fault : ScriptFault) × (status ≡ status_of fault) × IfFault untouched refused fault
+    × Begins before after (fault_line fault))
+
+-- The arguments were refused, or could not be read for want of memory.
+abbrev pub EndsAtOnce : ℕ → Option (List ℕ) → Option (List ℕ) → Type 0
+EndsAtOnce status before after = ((status ≡ 2) × Begins before after (codes "schedule: takes no arguments\n"))
+    ⊎ ((status ≡ 3) × Begins before after (codes "schedule: no memory\n"))

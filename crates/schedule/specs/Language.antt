@@ -1,0 +1,35 @@
+-- How scripts speak of a primitive.
+use Rattle.std.specs.Prelude.{◌≡◌, ℕ, Bool, true, false, List, [], ◌∷◌, Option, None, Some, codes, drop}
+use Rattle.fi_run.specs.declared.answer.Answer.{Answer}
+use Rattle.fi_run.specs.declared.answer.Answer.TheVariants.{Woken}
+use Rattle.schedule.specs.declared.row.Row.{Row}
+
+-- The words of its openings, the calls of its lines, and the wakers that it has to hand out.
+pub record Language (S O C : Type 0) : Type 0 where
+  -- what stands after its name for an opening
+  pub opening_text : O → Option (List ℕ)
+  -- the call that a line asks for
+  pub call_of : Row → Option C
+  -- the wakers that are still to be taken out, oldest first
+  pub owed : S → List ℕ
+  -- what is left when all of them are taken out
+  pub without_wakers : S → S
+
+-- A primitive's machine, and how scripts speak of it.
+pub record Spoken (S O C : Type 0) : Type 1 where
+  pub opens : O → S → Type 0
+  pub step : S → C → Answer ℕ ℕ → S → Type 0
+  pub language : Language S O C
+
+abbrev pub spoken : {S O C : Type 0} → (O → S → Type 0) → (S → C → Answer ℕ ℕ → S → Type 0) → Language S O C
+    → Spoken S O C
+spoken opens step language = record { opens = opens; step = step; language = language }
+
+abbrev pub first_of : List ℕ → Option ℕ
+first_of [] = None
+first_of (waker ∷ wakers) = Some waker
+
+-- The answer is the oldest waker, which is taken out, and all else stays.
+abbrev pub HandsOutOldest : {S O C : Type 0} → Language S O C → S → Answer ℕ ℕ → S → Type 0
+HandsOutOldest language old answer new = (answer ≡ Woken (first_of (language.owed old)))
+    × (language.owed new ≡ drop 1 (language.owed old)) × (language.without_wakers new ≡ language.without_wakers old)

@@ -1,0 +1,109 @@
+-- The call for the oldest waker.
+use Rattle.std.specs.Prelude.{◌≡◌, ◌≢◌, ℕ, Option, None, Some, List, [], ◌∷◌, drop}
+use Rattle.std.proofs.Common.{ap, refl, ◌∙◌}
+use Rattle.fi_parts.specs.Pairs.{oldest, wakers_of}
+use Rattle.fi_channels.specs.Event.{EventMachine}
+use Rattle.fi_channels.specs.Oneshot.{OneshotMachine, Gives, Takes, Clones}
+use Rattle.fi_channels.specs.StateBroadcast.{StateMachine}
+use Rattle.schedule.specs.Language.{first_of, HandsOutOldest}
+use Rattle.schedule.specs.Tables.{event_call, oneshot_call, state_call, event_language, oneshot_language, state_language}
+use Rattle.schedule.specs.declared.row.Row.{Row}
+use Rattle.schedule.specs.declared.row.Row.TheVariants.{Plain, Make, Poll, Cancel}
+use Rattle.schedule.specs.declared.verb.Verb.TheVariants as verb
+use Rattle.fi_run.specs.Event as event
+use Rattle.fi_run.specs.Oneshot as oneshot
+use Rattle.fi_run.specs.State as state
+use Rattle.fi_run.specs.declared.answer.Answer.{Answer}
+use Rattle.fi_run.specs.declared.answer.Answer.TheVariants.{Woken, Refused}
+use Rattle.fi_run.specs.declared.event.EventCall.TheVariants as event_calls
+use Rattle.fi_run.specs.declared.oneshot.OneshotCall.TheVariants as oneshot_calls
+use Rattle.fi_run.specs.declared.state.StateCall.TheVariants as state_calls
+
+-- how a number's clone goes with it
+abbrev pub is_same : ℕ → ℕ → Type 0
+is_same value copy = copy ≡ value
+
+first_in : (out : List (ℕ × ℕ)) → oldest out ≡ first_of (wakers_of out)
+first_in [] = refl
+first_in (pair ∷ out) = refl
+
+rest_in : (out : List (ℕ × ℕ)) → wakers_of (drop 1 out) ≡ drop 1 (wakers_of out)
+rest_in [] = refl
+rest_in (pair ∷ out) = refl
+
+answered : (waker : Option ℕ) (out : List (ℕ × ℕ)) → waker ≡ oldest out
+    → ◌≡◌ {A = Answer ℕ ℕ} (Woken waker) (Woken (first_of (wakers_of out)))
+answered waker out is = ap (λ found. Woken found) (is ∙ first_in out)
+
+-- What each primitive does with the call for the oldest waker.
+pub event_takes : (old : EventMachine ℕ) (answer : Answer ℕ ℕ) (new : EventMachine ℕ)
+    → event.Step old event_calls.NextWake answer new → HandsOutOldest event_language old answer new
+event_takes old (Woken waker) new taken = (
+  answered waker old.out taken.0,
+  ap event_language.owed taken.1 ∙ rest_in old.out,
+  ap event_language.without_wakers
+      taken.1,
+)
+event_takes old (Refused fault) new taken = absurd taken.0
+event_takes old answer new taken = absurd taken
+
+gives_takes : (gives : Gives ℕ ℕ) (may_lack : oneshot.MayLack ℕ ℕ) (old : OneshotMachine ℕ ℕ) (answer : Answer ℕ ℕ)
+    (new : OneshotMachine ℕ ℕ)
+    → oneshot.StepBy gives may_lack old oneshot_calls.NextWake answer new
+    → HandsOutOldest oneshot_language old answer new
+gives_takes gives may_lack old (Woken waker) new taken = (
+  answered waker old.out taken.0,
+  ap oneshot_language.owed taken.1 ∙ rest_in old.out,
+  ap
+      oneshot_language.without_wakers taken.1,
+)
+gives_takes gives may_lack old (Refused fault) new taken = absurd taken.0
+gives_takes gives may_lack old answer new taken = absurd taken
+
+pub oneshot_takes : (old : OneshotMachine ℕ ℕ) (answer : Answer ℕ ℕ) (new : OneshotMachine ℕ ℕ)
+    → oneshot.Step old oneshot_calls.NextWake answer new → HandsOutOldest oneshot_language old answer new
+oneshot_takes old answer new taken = gives_takes Takes oneshot.lacks_never old answer new taken
+
+pub broadcast_takes : (is_clone : ℕ → ℕ → Type 0) (old : OneshotMachine ℕ ℕ) (answer : Answer ℕ ℕ)
+    (new : OneshotMachine ℕ ℕ)
+    → oneshot.BroadcastStep is_clone old oneshot_calls.NextWake answer new
+    → HandsOutOldest oneshot_language old answer new
+broadcast_takes is_clone old answer new taken = gives_takes (Clones is_clone) oneshot.lacks_clone old answer new taken
+
+pub state_takes : (is_clone : ℕ → ℕ → Type 0) (old : StateMachine ℕ ℕ) (answer : Answer ℕ ℕ) (new : StateMachine ℕ ℕ)
+    → state.Step is_clone old state_calls.NextWake answer new → HandsOutOldest state_language old answer new
+state_takes is_clone old (Woken waker) new taken = (
+  answered waker old.out taken.0,
+  ap state_language.owed taken.1 ∙ rest_in old.out,
+  ap state_language.without_wakers
+      taken.1,
+)
+state_takes is_clone old (Refused fault) new taken = absurd taken.0
+state_takes is_clone old answer new taken = absurd taken
+
+-- No line asks for it.
+pub event_hides : (row : Row) → event_call row ≢ Some event_calls.NextWake
+event_hides (Make verb.Wait None) e = cc
+event_hides (Poll slot (Some waker)) e = cc
+event_hides (Cancel slot None) e = cc
+event_hides (Plain verb.Set None) e = cc
+event_hides (Plain verb.Reset None) e = cc
+event_hides (Plain verb.IsSet None) e = cc
+event_hides row e = cc
+
+pub oneshot_hides : (row : Row) → oneshot_call row ≢ Some oneshot_calls.NextWake
+oneshot_hides (Make verb.Receive None) e = cc
+oneshot_hides (Poll slot (Some waker)) e = cc
+oneshot_hides (Cancel slot None) e = cc
+oneshot_hides (Plain verb.Send (Some value)) e = cc
+oneshot_hides (Plain verb.Close None) e = cc
+oneshot_hides row e = cc
+
+pub state_hides : (row : Row) → state_call row ≢ Some state_calls.NextWake
+state_hides (Make verb.Receive (Some seen)) e = cc
+state_hides (Poll slot (Some waker)) e = cc
+state_hides (Cancel slot None) e = cc
+state_hides (Plain verb.TryReceive (Some seen)) e = cc
+state_hides (Plain verb.Send (Some value)) e = cc
+state_hides (Plain verb.Close None) e = cc
+state_hides row e = cc

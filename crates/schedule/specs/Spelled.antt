@@ -1,0 +1,20 @@
+-- What a line spells.
+use Rattle.std.specs.Prelude.{◌≡◌, ⊤, ℕ, List, Option, None, Some}
+use Rattle.schedule.specs.Labels.{IsLabel, code_of}
+use Rattle.schedule.specs.Lines.{HasWords}
+use Rattle.schedule.specs.declared.label.Label.{Label}
+use Rattle.schedule.specs.declared.verb.Verb.{Verb}
+use Rattle.schedule.specs.declared.words.Words.{Words}
+
+-- the label that a word spells
+abbrev pub IsLabelOf : Option (List ℕ) → Option Label → Type 0
+IsLabelOf None None = ⊤
+IsLabelOf (Some word) (Some label) = IsLabel word × (label.code ≡ code_of word)
+IsLabelOf word label = ⊥
+
+abbrev pub IsSpelled : List ℕ → Words → Type 0
+IsSpelled line words =
+    (label : Option (List ℕ)) × HasWords line words.verb label words.number × IsLabelOf label words.label
+
+abbrev pub IsNotSpelled : List ℕ → Type 0
+IsNotSpelled line = (verb : Verb) (label : Option (List ℕ)) (number : Option ℕ) → HasWords line verb label number → ⊥

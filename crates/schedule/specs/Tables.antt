@@ -1,0 +1,77 @@
+-- The lines of each primitive, and the calls that they ask for.
+use Rattle.std.specs.Prelude.{ℕ, Bool, true, false, List, [], Option, None, Some, codes}
+use Rattle.fi_parts.specs.Pairs.{wakers_of}
+use Rattle.fi_channels.specs.Event.{EventMachine}
+use Rattle.fi_channels.specs.Oneshot.{OneshotMachine}
+use Rattle.fi_channels.specs.StateBroadcast.{StateMachine}
+use Rattle.fi_run.specs.declared.event.EventCall.{EventCall}
+use Rattle.fi_run.specs.declared.event.EventCall.TheVariants as event
+use Rattle.fi_run.specs.declared.oneshot.OneshotCall.{OneshotCall}
+use Rattle.fi_run.specs.declared.oneshot.OneshotCall.TheVariants as oneshot
+use Rattle.fi_run.specs.declared.state.StateCall.{StateCall}
+use Rattle.fi_run.specs.declared.state.StateCall.TheVariants as state
+use Rattle.schedule.specs.Language.{Language}
+use Rattle.schedule.specs.declared.row.Row.{Row}
+use Rattle.schedule.specs.declared.row.Row.TheVariants.{Plain, Make, Poll, Cancel}
+use Rattle.schedule.specs.declared.verb.Verb.TheVariants as verb
+
+-- ---- the event
+abbrev pub event_opening : Bool → Option (List ℕ)
+event_opening true = Some (codes "set")
+event_opening false = Some (codes "reset")
+
+abbrev pub event_call : Row → Option (EventCall ℕ)
+event_call (Make verb.Wait None) = Some event.Wait
+event_call (Poll slot (Some waker)) = Some (event.Poll slot waker)
+event_call (Cancel slot None) = Some (event.Cancel slot)
+event_call (Plain verb.Set None) = Some event.Set
+event_call (Plain verb.Reset None) = Some event.Reset
+event_call (Plain verb.IsSet None) = Some event.IsSet
+event_call row = None
+
+abbrev pub event_language : Language (EventMachine ℕ) Bool (EventCall ℕ)
+event_language = record {
+  opening_text = event_opening;
+  call_of = event_call;
+  owed = λ event. wakers_of event.out;
+  without_wakers = λ event. record event { out = [] };
+}
+
+-- ---- the channels, whose openings are one
+abbrev pub only_opening : Unit {0} → Option (List ℕ)
+only_opening opening = None
+
+-- ---- the two channels of one value
+abbrev pub oneshot_call : Row → Option (OneshotCall ℕ ℕ)
+oneshot_call (Make verb.Receive None) = Some oneshot.Receive
+oneshot_call (Poll slot (Some waker)) = Some (oneshot.Poll slot waker)
+oneshot_call (Cancel slot None) = Some (oneshot.Cancel slot)
+oneshot_call (Plain verb.Send (Some value)) = Some (oneshot.Send value)
+oneshot_call (Plain verb.Close None) = Some oneshot.Close
+oneshot_call row = None
+
+abbrev pub oneshot_language : Language (OneshotMachine ℕ ℕ) (Unit {0}) (OneshotCall ℕ ℕ)
+oneshot_language = record {
+  opening_text = only_opening;
+  call_of = oneshot_call;
+  owed = λ channel. wakers_of channel.out;
+  without_wakers = λ channel. record channel { out = [] };
+}
+
+-- ---- the state broadcast
+abbrev pub state_call : Row → Option (StateCall ℕ ℕ)
+state_call (Make verb.Receive (Some seen)) = Some (state.Receive seen)
+state_call (Poll slot (Some waker)) = Some (state.Poll slot waker)
+state_call (Cancel slot None) = Some (state.Cancel slot)
+state_call (Plain verb.TryReceive (Some seen)) = Some (state.TryReceive seen)
+state_call (Plain verb.Send (Some value)) = Some (state.Send value)
+state_call (Plain verb.Close None) = Some state.Close
+state_call row = None
+
+abbrev pub state_language : Language (StateMachine ℕ ℕ) (Unit {0}) (StateCall ℕ ℕ)
+state_language = record {
+  opening_text = only_opening;
+  call_of = state_call;
+  owed = λ channel. wakers_of channel.out;
+  without_wakers = λ channel. record channel { out = [] };
+}

@@ -1,0 +1,20 @@
+-- The verbs of script lines.
+use Rattle.std.specs.Prelude.{◌≢◌, ℕ, List, codes}
+use Rattle.schedule.specs.declared.verb.Verb.{Verb}
+use Rattle.schedule.specs.declared.verb.Verb.TheVariants.{Cancel, Close, IsSet, Poll, Receive, Reset, Send, Set, TryReceive, Wait}
+
+abbrev pub verb_text : Verb → List ℕ
+verb_text Cancel = codes "cancel"
+verb_text Close = codes "close"
+verb_text IsSet = codes "is-set"
+verb_text Poll = codes "poll"
+verb_text Receive = codes "receive"
+verb_text Reset = codes "reset"
+verb_text Send = codes "send"
+verb_text Set = codes "set"
+verb_text TryReceive = codes "try-receive"
+verb_text Wait = codes "wait"
+
+-- no verb is spelled so
+abbrev pub IsNoVerb : List ℕ → Type 0
+IsNoVerb word = (verb : Verb) → word ≢ verb_text verb

@@ -1,0 +1,39 @@
+//! The verbs of script lines.
+ghost use Rattle.std.specs.Prelude.{◌≡◌, MatchOption};
+ghost use Rattle.schedule.specs.Verbs.{verb_text, IsNoVerb};
+
+/// What a line asks for.
+#[derive(Clone, Copy, Debug, PartialEq, Eq)]
+pub enum Verb {
+    Cancel,
+    Close,
+    IsSet,
+    Poll,
+    Receive,
+    Reset,
+    Send,
+    Set,
+    TryReceive,
+    Wait,
+}
+
+impl Verb {
+    /// The verb that a word spells, if it spells one.
+    pub fn by(word: &[u8]) -> Option<Verb>
+        ensures { MatchOption result (IsNoVerb word.now) (λ verb. word.now ≡ verb_text verb) }
+    {
+        match word {
+            b"poll" => Some(Verb::Poll),
+            b"cancel" => Some(Verb::Cancel),
+            b"wait" => Some(Verb::Wait),
+            b"set" => Some(Verb::Set),
+            b"reset" => Some(Verb::Reset),
+            b"is-set" => Some(Verb::IsSet),
+            b"receive" => Some(Verb::Receive),
+            b"send" => Some(Verb::Send),
+            b"close" => Some(Verb::Close),
+            b"try-receive" => Some(Verb::TryReceive),
+            _ => None,
+        }
+    }
+}
