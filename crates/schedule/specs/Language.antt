@@ -2,6 +2,8 @@
 use Rattle.std.specs.Prelude.{◌≡◌, ℕ, Bool, true, false, List, [], ◌∷◌, Option, None, Some, codes, drop}
 use Rattle.fi_run.specs.declared.answer.Answer.{Answer}
 use Rattle.fi_run.specs.declared.answer.Answer.TheVariants.{Woken}
+use Rattle.fi_parts.specs.Pairs.{wakers_of}
+use Rattle.fi_parts.specs.Machine.{Machine}
 use Rattle.schedule.specs.declared.row.Row.{Row}
 
 -- The words of its openings, the calls of its lines, and the wakers that it has to hand out.
@@ -14,6 +16,15 @@ pub record Language (S O C : Type 0) : Type 0 where
   pub owed : S → List ℕ
   -- what is left when all of them are taken out
   pub without_wakers : S → S
+
+-- Every machine has its wakers in the same place.
+abbrev pub machine_language : {S D O C : Type 0} → (O → Option (List ℕ)) → (Row → Option C) → Language (Machine S D ℕ) O C
+machine_language opening_text call_of = record {
+  opening_text = opening_text;
+  call_of = call_of;
+  owed = λ machine. wakers_of machine.waiting.out;
+  without_wakers = λ machine. record machine { waiting = record machine.waiting { out = [] } };
+}
 
 -- A primitive's machine, and how scripts speak of it.
 pub record Spoken (S O C : Type 0) : Type 1 where

@@ -1,12 +1,15 @@
 -- The call for the oldest waker.
-use Rattle.std.specs.Prelude.{◌≡◌, ◌≢◌, ℕ, Option, None, Some, List, [], ◌∷◌, drop}
+use Rattle.std.specs.Prelude.{◌≡◌, ◌≢◌, ⊤, ℕ, Option, None, Some, List, [], ◌∷◌, drop}
 use Rattle.std.proofs.Common.{ap, refl, ◌∙◌}
 use Rattle.fi_parts.specs.Pairs.{oldest, wakers_of}
 use Rattle.fi_channels.specs.Event.{EventMachine}
 use Rattle.fi_channels.specs.Oneshot.{OneshotMachine, Gives, Takes, Clones}
 use Rattle.fi_channels.specs.StateBroadcast.{StateMachine}
-use Rattle.schedule.specs.Language.{first_of, HandsOutOldest}
-use Rattle.schedule.specs.Tables.{event_call, oneshot_call, state_call, event_language, oneshot_language, state_language}
+use Rattle.fi_parts.specs.Effects.WaiterEffect.{PopsOldest}
+use Rattle.fi_parts.specs.Machine.{Machine, StepsTo}
+use Rattle.schedule.specs.Language.{first_of, machine_language, HandsOutOldest}
+use Rattle.schedule.specs.Tables.{event_opening, only_opening, event_call, oneshot_call, state_call}
+use Rattle.schedule.specs.Tables.{event_language, oneshot_language, state_language}
 use Rattle.schedule.specs.declared.row.Row.{Row}
 use Rattle.schedule.specs.declared.row.Row.TheVariants.{Plain, Make, Poll, Cancel}
 use Rattle.schedule.specs.declared.verb.Verb.TheVariants as verb
@@ -19,9 +22,12 @@ use Rattle.fi_run.specs.declared.event.EventCall.TheVariants as event_calls
 use Rattle.fi_run.specs.declared.oneshot.OneshotCall.TheVariants as oneshot_calls
 use Rattle.fi_run.specs.declared.state.StateCall.TheVariants as state_calls
 
--- how a number's clone goes with it
+-- a number's clone is the number, and can't fail
 abbrev pub is_same : ℕ → ℕ → Type 0
 is_same value copy = copy ≡ value
+
+abbrev pub never_fails : ℕ → Type 0
+never_fails value = ⊤
 
 first_in : (out : List (ℕ × ℕ)) → oldest out ≡ first_of (wakers_of out)
 first_in [] = refl
@@ -35,51 +41,45 @@ answered : (waker : Option ℕ) (out : List (ℕ × ℕ)) → waker ≡ oldest o
     → ◌≡◌ {A = Answer ℕ ℕ} (Woken waker) (Woken (first_of (wakers_of out)))
 answered waker out is = ap (λ found. Woken found) (is ∙ first_in out)
 
--- What each primitive does with the call for the oldest waker.
+-- What a machine does with the call for the oldest waker.
+pops_oldest : {S D O C : Type 0} (opening_text : O → Option (List ℕ)) (call_of : Row → Option C) (old : Machine S D ℕ)
+    (waker : Option ℕ) (new : Machine S D ℕ)
+    → StepsTo old old.own (PopsOldest waker) new
+    → HandsOutOldest (machine_language opening_text call_of) old (Woken waker) new
+pops_oldest opening_text call_of old waker new did = (
+  answered waker old.waiting.out did.1.0,
+  ap (λ waiting. wakers_of waiting.out) did.1.1 ∙ rest_in old.waiting.out,
+  λ i. record { own = did.0 i; waiting = record (did.1.1 i) { out = [] } },
+)
+
 pub event_takes : (old : EventMachine ℕ) (answer : Answer ℕ ℕ) (new : EventMachine ℕ)
     → event.Step old event_calls.NextWake answer new → HandsOutOldest event_language old answer new
-event_takes old (Woken waker) new taken = (
-  answered waker old.out taken.0,
-  ap event_language.owed taken.1 ∙ rest_in old.out,
-  ap event_language.without_wakers
-      taken.1,
-)
-event_takes old (Refused fault) new taken = absurd taken.0
-event_takes old answer new taken = absurd taken
+event_takes old (Woken waker) new did = pops_oldest event_opening event_call old waker new did
+event_takes old (Refused fault) new did = absurd did.0
+event_takes old answer new did = absurd did
 
 gives_takes : (gives : Gives ℕ ℕ) (may_lack : oneshot.MayLack ℕ ℕ) (old : OneshotMachine ℕ ℕ) (answer : Answer ℕ ℕ)
     (new : OneshotMachine ℕ ℕ)
     → oneshot.StepBy gives may_lack old oneshot_calls.NextWake answer new
     → HandsOutOldest oneshot_language old answer new
-gives_takes gives may_lack old (Woken waker) new taken = (
-  answered waker old.out taken.0,
-  ap oneshot_language.owed taken.1 ∙ rest_in old.out,
-  ap
-      oneshot_language.without_wakers taken.1,
-)
-gives_takes gives may_lack old (Refused fault) new taken = absurd taken.0
-gives_takes gives may_lack old answer new taken = absurd taken
+gives_takes gives may_lack old (Woken waker) new did = pops_oldest only_opening oneshot_call old waker new did
+gives_takes gives may_lack old (Refused fault) new did = absurd did.0
+gives_takes gives may_lack old answer new did = absurd did
 
 pub oneshot_takes : (old : OneshotMachine ℕ ℕ) (answer : Answer ℕ ℕ) (new : OneshotMachine ℕ ℕ)
     → oneshot.Step old oneshot_calls.NextWake answer new → HandsOutOldest oneshot_language old answer new
-oneshot_takes old answer new taken = gives_takes Takes oneshot.lacks_never old answer new taken
+oneshot_takes old answer new did = gives_takes Takes oneshot.lacks_never old answer new did
 
-pub broadcast_takes : (is_clone : ℕ → ℕ → Type 0) (old : OneshotMachine ℕ ℕ) (answer : Answer ℕ ℕ)
-    (new : OneshotMachine ℕ ℕ)
-    → oneshot.BroadcastStep is_clone old oneshot_calls.NextWake answer new
+pub broadcast_takes : (old : OneshotMachine ℕ ℕ) (answer : Answer ℕ ℕ) (new : OneshotMachine ℕ ℕ)
+    → oneshot.BroadcastStep is_same never_fails old oneshot_calls.NextWake answer new
     → HandsOutOldest oneshot_language old answer new
-broadcast_takes is_clone old answer new taken = gives_takes (Clones is_clone) oneshot.lacks_clone old answer new taken
+broadcast_takes old answer new did = gives_takes (Clones is_same) (oneshot.lacks_clone never_fails) old answer new did
 
-pub state_takes : (is_clone : ℕ → ℕ → Type 0) (old : StateMachine ℕ ℕ) (answer : Answer ℕ ℕ) (new : StateMachine ℕ ℕ)
-    → state.Step is_clone old state_calls.NextWake answer new → HandsOutOldest state_language old answer new
-state_takes is_clone old (Woken waker) new taken = (
-  answered waker old.out taken.0,
-  ap state_language.owed taken.1 ∙ rest_in old.out,
-  ap state_language.without_wakers
-      taken.1,
-)
-state_takes is_clone old (Refused fault) new taken = absurd taken.0
-state_takes is_clone old answer new taken = absurd taken
+pub state_takes : (old : StateMachine ℕ ℕ) (answer : Answer ℕ ℕ) (new : StateMachine ℕ ℕ)
+    → state.Step is_same never_fails old state_calls.NextWake answer new → HandsOutOldest state_language old answer new
+state_takes old (Woken waker) new did = pops_oldest only_opening state_call old waker new did
+state_takes old (Refused fault) new did = absurd did.0
+state_takes old answer new did = absurd did
 
 -- No line asks for it.
 pub event_hides : (row : Row) → event_call row ≢ Some event_calls.NextWake

@@ -20,7 +20,7 @@ use Rattle.schedule.specs.Answered.{AnswersRest, AnswersFront}
 use Rattle.schedule.specs.Cuts.{IsCut}
 use Rattle.schedule.specs.Language.{Spoken, spoken}
 use Rattle.schedule.specs.Lines.{joined}
-use Rattle.schedule.specs.Oldest.{is_same}
+use Rattle.schedule.specs.Oldest.{is_same, never_fails}
 use Rattle.schedule.specs.Tables.{event_language, oneshot_language, state_language}
 
 -- This holds of the primitive of this name.
@@ -29,10 +29,10 @@ OfPrimitive Event P = P (EventMachine ℕ) Bool (EventCall ℕ) (spoken event.Op
 OfPrimitive Oneshot P =
     P (OneshotMachine ℕ ℕ) (Unit {0}) (OneshotCall ℕ ℕ) (spoken oneshot.Opens oneshot.Step oneshot_language)
 OfPrimitive OneshotBroadcast P =
-    P (OneshotMachine ℕ ℕ) (Unit {0}) (OneshotCall ℕ ℕ) (spoken oneshot.Opens (oneshot.BroadcastStep is_same)
+    P (OneshotMachine ℕ ℕ) (Unit {0}) (OneshotCall ℕ ℕ) (spoken oneshot.Opens (oneshot.BroadcastStep is_same never_fails)
     oneshot_language)
 OfPrimitive StateBroadcast P =
-    P (StateMachine ℕ ℕ) (Unit {0}) (StateCall ℕ ℕ) (spoken state.Opens (state.Step is_same) state_language)
+    P (StateMachine ℕ ℕ) (Unit {0}) (StateCall ℕ ℕ) (spoken state.Opens (state.Step is_same never_fails) state_language)
 
 -- The first line is the primitive's name, and what stands after it for the opening.
 abbrev pub IsFirst : {S O C : Type 0} → Named → Spoken S O C → List ℕ → O → Type 0

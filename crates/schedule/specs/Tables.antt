@@ -1,6 +1,5 @@
 -- The lines of each primitive, and the calls that they ask for.
 use Rattle.std.specs.Prelude.{ℕ, Bool, true, false, List, [], Option, None, Some, codes}
-use Rattle.fi_parts.specs.Pairs.{wakers_of}
 use Rattle.fi_channels.specs.Event.{EventMachine}
 use Rattle.fi_channels.specs.Oneshot.{OneshotMachine}
 use Rattle.fi_channels.specs.StateBroadcast.{StateMachine}
@@ -10,7 +9,7 @@ use Rattle.fi_run.specs.declared.oneshot.OneshotCall.{OneshotCall}
 use Rattle.fi_run.specs.declared.oneshot.OneshotCall.TheVariants as oneshot
 use Rattle.fi_run.specs.declared.state.StateCall.{StateCall}
 use Rattle.fi_run.specs.declared.state.StateCall.TheVariants as state
-use Rattle.schedule.specs.Language.{Language}
+use Rattle.schedule.specs.Language.{Language, machine_language}
 use Rattle.schedule.specs.declared.row.Row.{Row}
 use Rattle.schedule.specs.declared.row.Row.TheVariants.{Plain, Make, Poll, Cancel}
 use Rattle.schedule.specs.declared.verb.Verb.TheVariants as verb
@@ -30,12 +29,7 @@ event_call (Plain verb.IsSet None) = Some event.IsSet
 event_call row = None
 
 abbrev pub event_language : Language (EventMachine ℕ) Bool (EventCall ℕ)
-event_language = record {
-  opening_text = event_opening;
-  call_of = event_call;
-  owed = λ event. wakers_of event.out;
-  without_wakers = λ event. record event { out = [] };
-}
+event_language = machine_language event_opening event_call
 
 -- ---- the channels, whose openings are one
 abbrev pub only_opening : Unit {0} → Option (List ℕ)
@@ -51,12 +45,7 @@ oneshot_call (Plain verb.Close None) = Some oneshot.Close
 oneshot_call row = None
 
 abbrev pub oneshot_language : Language (OneshotMachine ℕ ℕ) (Unit {0}) (OneshotCall ℕ ℕ)
-oneshot_language = record {
-  opening_text = only_opening;
-  call_of = oneshot_call;
-  owed = λ channel. wakers_of channel.out;
-  without_wakers = λ channel. record channel { out = [] };
-}
+oneshot_language = machine_language only_opening oneshot_call
 
 -- ---- the state broadcast
 abbrev pub state_call : Row → Option (StateCall ℕ ℕ)
@@ -69,9 +58,4 @@ state_call (Plain verb.Close None) = Some state.Close
 state_call row = None
 
 abbrev pub state_language : Language (StateMachine ℕ ℕ) (Unit {0}) (StateCall ℕ ℕ)
-state_language = record {
-  opening_text = only_opening;
-  call_of = state_call;
-  owed = λ channel. wakers_of channel.out;
-  without_wakers = λ channel. record channel { out = [] };
-}
+state_language = machine_language only_opening state_call

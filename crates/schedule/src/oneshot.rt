@@ -37,13 +37,13 @@ impl Scripted for OneshotState<u64, u64> {
 impl Scripted for OneshotBroadcastState<u64, u64> {
     ghost use Rattle.fi_run.specs.declared.oneshot.OneshotCall.TheVariants.{NextWake};
     ghost use Rattle.schedule.specs.Tables.{oneshot_language};
-    ghost use Rattle.schedule.specs.Oldest.{is_same, broadcast_takes, oneshot_hides};
+    ghost use Rattle.schedule.specs.Oldest.{broadcast_takes, oneshot_hides};
 
     ghost language = { oneshot_language };
 
     ghost take_waker = { NextWake };
 
-    ghost takes_oldest = { broadcast_takes is_same };
+    ghost takes_oldest = { broadcast_takes };
 
     ghost hides = { oneshot_hides };
 

@@ -11,13 +11,13 @@ use fi_run::StateCall;
 impl Scripted for StateBroadcastState<u64, u64> {
     ghost use Rattle.fi_run.specs.declared.state.StateCall.TheVariants.{NextWake};
     ghost use Rattle.schedule.specs.Tables.{state_language};
-    ghost use Rattle.schedule.specs.Oldest.{is_same, state_takes, state_hides};
+    ghost use Rattle.schedule.specs.Oldest.{state_takes, state_hides};
 
     ghost language = { state_language };
 
     ghost take_waker = { NextWake };
 
-    ghost takes_oldest = { state_takes is_same };
+    ghost takes_oldest = { state_takes };
 
     ghost hides = { state_hides };
 
