@@ -1,6 +1,6 @@
 -- What a line does, from what its parts do.
-use Rattle.std.specs.Prelude.{◌≡◌, ◌≢◌, ◌⊎◌, ℕ, ◌++◌, Bool, true, false, List, [], ◌∷◌, codes, ◌+◌, length, Option, Some, None, Result, Ok, Err, IfErr, IsErrAnd}
-use Rattle.std.proofs.Common.{refl, sym, ◌∙◌, subst, inl, inr, arith}
+use Rattle.std.specs.Prelude.{◌≡◌, ℕ, ◌++◌, Bool, true, false, List, [], ◌∷◌, ◌+◌, length, Option, Some, None, Result, Ok, Err, IfErr, IsErrAnd}
+use Rattle.std.proofs.Common.{refl, sym, subst, inl, inr, arith}
 use Rattle.schedule.specs.declared.output.Output.{Output}
 use Rattle.fi_run.specs.declared.answer.Answer.{Answer}
 use Rattle.schedule.specs.Asked.{Asks, Performs}

@@ -4,7 +4,7 @@ use Rattle.std.specs.Prelude.{Option, None, Some}
 use Rattle.std.proofs.lemmas.List.{append-nil, take-append-drop}
 use Rattle.std.specs.Io.KnownBytes.{Appends, Keeps}
 use Rattle.schedule.specs.Begun.{Begins}
-use Rattle.schedule.proofs.Bytes.{appends_none, appends_twice}
+use Rattle.schedule.proofs.Bytes.{appends_twice}
 
 -- the first n bytes are a beginning
 pub begins_at : (old new : Option (List ℕ)) (n : ℕ) (bytes : List ℕ) → Appends old new (take n bytes)

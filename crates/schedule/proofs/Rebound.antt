@@ -1,7 +1,6 @@
 -- Labels after a store or a removal.
-use Rattle.std.proofs.Common.{◌≡◌, ◌≢◌, ℕ, List, sym, subst}
+use Rattle.std.proofs.Common.{◌≡◌, ℕ, List, subst}
 use Rattle.std.specs.Prelude.{Option, None, Some}
-use Rattle.std.specs.BTreeMap.{BTreeMap}
 use Rattle.fi_parts.specs.declared.errors.Slot.{Slot}
 use Rattle.fi_run.specs.declared.answer.Answer.{Answer}
 use Rattle.fi_run.specs.declared.answer.Answer.TheVariants.{Made}
@@ -9,7 +8,7 @@ use Rattle.schedule.specs.InUse.{labels_of}
 use Rattle.schedule.specs.Labels.{IsLabel, code_of}
 use Rattle.schedule.specs.Lines.{Rebinds, LabelsAfter}
 use Rattle.schedule.specs.Spelled.{IsLabelOf}
-use Rattle.schedule.specs.Stored.{stored, Stores}
+use Rattle.schedule.specs.Stored.{Stores}
 use Rattle.schedule.specs.declared.label.Label.{Label}
 use Rattle.schedule.specs.declared.labelled.Labelled.{Labelled}
 use Rattle.schedule.specs.declared.row.Row.{Row}

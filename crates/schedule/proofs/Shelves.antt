@@ -1,6 +1,6 @@
 -- Shelves without labels.
 use Rattle.std.proofs.Common.{◌≡◌, ℕ, List, [], ◌∷◌, refl, ap, arith, zero, suc}
-use Rattle.std.specs.Prelude.{All, Option, None, slice_get}
+use Rattle.std.specs.Prelude.{All, None, slice_get}
 use Rattle.std.specs.BTreeMap.{BTreeMap, IsEmpty, is_at}
 use Rattle.std.specs.Map.{lookup}
 use Rattle.std.specs.Ordering.{nat_cmp}

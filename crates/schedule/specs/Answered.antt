@@ -1,5 +1,5 @@
 -- What one line does.
-use Rattle.std.specs.Prelude.{◌≡◌, ◌≢◌, ◌⊎◌, ⊤, ℕ, Bool, true, false, List, [], ◌∷◌, ◌++◌, ◌+◌, length, Option, None, Some, codes}
+use Rattle.std.specs.Prelude.{◌≡◌, ◌⊎◌, ⊤, ℕ, Bool, true, false, List, [], ◌∷◌, ◌++◌, ◌+◌, length, Option, None, Some, codes}
 use Rattle.schedule.specs.Cuts.{NextLine}
 use Rattle.schedule.specs.Language.{Spoken}
 use Rattle.schedule.specs.Lines.{Labels, NoLabels, LabelsAfter, HoldsLine, StandsFor, IsBad}

@@ -1,5 +1,5 @@
 -- What a line asks a session for.
-use Rattle.std.specs.Prelude.{◌≡◌, ℕ, Bool, true, false, List, Option, None, Some, codes}
+use Rattle.std.specs.Prelude.{◌≡◌, ℕ, Bool, false, List, Option, None, Some, codes}
 use Rattle.schedule.specs.Lines.{Labels, LabelsAfter, StandsFor, HoldsLine}
 use Rattle.schedule.specs.Spelled.{IsLabelOf}
 use Rattle.schedule.specs.declared.engine.Request.{Request}

@@ -1,5 +1,5 @@
 -- What a line of calls stands for.
-use Rattle.std.specs.Prelude.{◌≡◌, ◌≢◌, ⊤, ℕ, Bool, true, false, List, ◌∷◌, ◌++◌, Option, None, Some, IfSome, codes, ◌<◌, ◌^◌}
+use Rattle.std.specs.Prelude.{◌≡◌, ◌≢◌, ℕ, Bool, true, false, List, ◌∷◌, ◌++◌, Option, None, Some, IfSome, codes, ◌<◌, ◌^◌}
 use Rattle.std.specs.Fmt.{decimal}
 use Rattle.fi_parts.specs.declared.errors.Slot.{Slot}
 use Rattle.fi_run.specs.declared.answer.Answer.{Answer}

@@ -1,5 +1,5 @@
 -- What a whole script's answer is.
-use Rattle.std.specs.Prelude.{◌≡◌, ◌⊎◌, ⊤, ℕ, Bool, List, [], Option, Some, IfSome}
+use Rattle.std.specs.Prelude.{◌≡◌, ◌⊎◌, ⊤, ℕ, Bool, List, [], Option, IfSome}
 use Rattle.std.specs.Io.KnownBytes.{Appends}
 use Rattle.fi_channels.specs.Event.{EventMachine}
 use Rattle.fi_channels.specs.Oneshot.{OneshotMachine}
@@ -7,7 +7,6 @@ use Rattle.fi_channels.specs.StateBroadcast.{StateMachine}
 use Rattle.fi_run.specs.Event as event
 use Rattle.fi_run.specs.Oneshot as oneshot
 use Rattle.fi_run.specs.State as state
-use Rattle.fi_run.specs.declared.answer.Answer.{Answer}
 use Rattle.fi_run.specs.declared.event.EventCall.{EventCall}
 use Rattle.fi_run.specs.declared.oneshot.OneshotCall.{OneshotCall}
 use Rattle.fi_run.specs.declared.state.StateCall.{StateCall}

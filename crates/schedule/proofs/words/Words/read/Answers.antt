@@ -1,5 +1,5 @@
-use Rattle.std.specs.Prelude.{Option, None, Some, option_copied}
-use Rattle.std.proofs.Common.{refl, arith, ap, ◌∙◌}
+use Rattle.std.specs.Prelude.{None, Some, option_copied}
+use Rattle.std.proofs.Common.{refl, arith, ap}
 use Rattle.schedule.specs.Cuts.{IsCut}
 use Rattle.schedule.specs.Verbs.{verb_text}
 use Rattle.schedule.proofs.Reading.{cut_is, no_verb, no_plain, no_labelled, labelled_words}
