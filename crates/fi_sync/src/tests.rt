@@ -216,8 +216,9 @@ impl<F: Future> Future for Counting<'_, F> {
     ghost gives = { λ c. F.gives c.future };
 
     fn poll(&mut self, cx: &mut Context<'_>) -> Poll<F::Output> {
+        let polled = self.future.poll(cx);
         self.polls.fetch_add(1, Ordering::SeqCst);
-        self.future.poll(cx)
+        polled
     }
 }
 
@@ -245,13 +246,35 @@ fn a_join_does_not_spin(rt: HostRuntime) -> Result<(), Fail> {
     Ok(())
 }
 
+// Whether so many polls were made in the end. It looks a bounded number of times.
+fn were_polled(polls: &AtomicU64, count: u64) -> bool {
+    for _ in 0..10_000_000u32 {
+        if polls.load(Ordering::SeqCst) >= count {
+            return true;
+        }
+        thread::yield_now();
+    }
+    false
+}
+
+// The event is set once the wait is registered.
 #[test]
 fn an_executor_waits(rt: HostRuntime) -> Result<(), Fail> {
     let event = &ManualResetEvent::new(rt.alloc(), rt, false);
+    let polls = &AtomicU64::new(0);
     let rt = &rt;
-    let wait = move || block_on(rt, event.wait().ok()?).ok();
-    let (answer, ()) = thread::join(rt, wait, move || event.set());
+    let wait = move || {
+        let future = event.wait().ok()?;
+        block_on(rt, Counting { future, polls }).ok()
+    };
+    let setter = move || {
+        let was_polled = were_polled(polls, 1);
+        event.set();
+        was_polled
+    };
+    let (answer, was_polled) = thread::join(rt, wait, setter);
     assert_eq!(*rt; answer, Some(Ok(())));
+    assert!(*rt; was_polled);
     Ok(())
 }
 
@@ -330,33 +353,36 @@ fn no_wake_is_owed_behind_the_lock(rt: HostRuntime) {
 }
 
 // Waits for the signal.
-fn is_told_to_stop<R>(rt: &R, shutdown: &ManualResetEvent<R>) -> bool
+fn is_told_to_stop<R>(rt: &R, shutdown: &ManualResetEvent<R>, polls: &AtomicU64) -> bool
 where
     R: Wait + RandomSource + AllocGlobal,
 {
     match shutdown.wait() {
-        Ok(signal) => matches!(block_on(rt, signal), Ok(Ok(()))),
+        Ok(future) => matches!(block_on(rt, Counting { future, polls }), Ok(Ok(()))),
         Err(_) => false,
     }
 }
 
-// Three workers wait, and one thread tells them all to stop.
+// Three workers wait, and once all are registered one thread tells them to stop.
 #[test]
 fn shutdown_signal(rt: HostRuntime) -> Result<(), Fail> {
     let rt = &rt;
     let shutdown = &ManualResetEvent::new(rt.alloc(), *rt, false);
     let stopped = &AtomicU64::new(0);
+    let polls = &AtomicU64::new(0);
     thread::scope(thread::scope_env(), rt, |scope| {
         for _ in 0..3 {
             let worker = move || {
-                if is_told_to_stop(rt, shutdown) {
+                if is_told_to_stop(rt, shutdown, polls) {
                     stopped.fetch_add(1, Ordering::SeqCst);
                 }
             };
             let _ = scope.spawn(worker);
         }
+        let _ = were_polled(polls, 3);
         shutdown.set();
     });
     assert_eq!(*rt; stopped.load(Ordering::SeqCst), 3);
+    assert!(*rt; polls.load(Ordering::SeqCst) >= 6);
     Ok(())
 }

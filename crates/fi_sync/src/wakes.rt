@@ -73,12 +73,16 @@ impl Owed {
     pub fn pay<S: HasOutbox, R: Wait>(self, rt: &R, state: &Mutex<S>) {
         let Owed { count } = self;
         for _ in 0..count {
-            // Bound first: a `match` on the call would hold the lock over its arms.
-            let woken = state.lock(rt).next_wake();
-            match woken {
+            match take_oldest(rt, state) {
                 Some(waker) => waker.wake(),
                 None => return,
             }
         }
     }
+}
+
+// Takes out the oldest waker, in a hold of the lock that is over when it comes back: a waker's wake and its drop are its
+// owner's code, and may take the same lock.
+fn take_oldest<S: HasOutbox, R: Wait>(rt: &R, state: &Mutex<S>) -> Option<Waker> {
+    state.lock(rt).next_wake()
 }
