@@ -31,7 +31,7 @@ module _ {W : Type 0} where
   registered_as (Some Ended) is = absurd (both_ways false refl is)
 
 module _ {D W : Type 0} where
-  -- how the phase of each name after a effect
+  -- the phase of each name after an effect
   abbrev pub After : WaiterEffect D W → Waiting D W → Waiting D W → Type 0
   After NoChange old new = (q : ℕ) → phase_of new.side q ≡ phase_of old.side q
   After (Inserts name asks) old new = Becomes old.side new.side name (Some Fresh)
@@ -102,7 +102,7 @@ module _ {D W : Type 0} where
     effect_sound (PopsOldest waker) old new is was taken = by new _ taken.1 (sound-drop known old.side old.out was)
     effect_sound (AndThen one other) old new is was taken = effect_sound other taken.0 new is.1 (effect_sound one old taken.0 is.0 was taken.1) taken.2
 
-  -- How the phase of each name after a effect. It needs the queue's order alone.
+  -- The phase of each name after an effect. It needs the queue's order alone.
   pub effect_after : (known : Option (Phase W) → Bool) → AllowsBasics known → (effect : WaiterEffect D W) (old new : Waiting D W) → AllowsEffect known effect → AreSound known old.side old.out → TakesEffect effect old new → After effect old new
   effect_after known knows NoChange old new is was taken = same_phases old new old taken refl
   effect_after known knows (Inserts name asks) old new is was taken = to old new _ name (Some Fresh) taken.1 (becomes-made old.side name asks)
@@ -124,7 +124,7 @@ module _ {D W : Type 0} where
   effect_after known knows (AndThen one other) old new is was taken =
       (taken.0, effect_after known knows one old taken.0 is.0 was taken.1, effect_after known knows other taken.0 new is.1 (effect_sound known knows one old taken.0 is.0 was taken.1) taken.2)
 
-  -- the moves that a poll of this name may make
+  -- the effects that a poll of this name may have
   abbrev pub IsOf : ℕ → WaiterEffect D W → Type 0
   IsOf name (Registers other waker) = name ≡ other
   IsOf name (KeepsWaiting other waker) = name ≡ other

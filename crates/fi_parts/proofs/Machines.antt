@@ -91,7 +91,7 @@ module _ {S D W : Type 0} (rules : WaiterRules S D W) where
       is_registered (phase_of new.side q) ≡ true → rules.lacks after (asks_of new.side q)
   as_before old new before after was still q phases asks is = rw asks (still (asks_of old.side q) (was q (sym (ap is_registered phases) ∙ is)))
 
-  -- Who is registered after a effect was so before, or is the one that it registers.
+  -- Who is registered after an effect was so before, or is the one that it registers.
   lack_after : (effect : WaiterEffect D W) (old new : Waiting D W) (before after : S) → AreSound rules.phases old.side old.out → AllowsEffect rules.phases effect → TakesEffect effect old new → After effect old new →
       LacksAfter rules.lacks before after old.side effect → Lack before old → Lack after new
   lack_after NoChange old new before after sound is taken stand lack was q now = as_before old new before after was lack q (stand q) (asks_to new old q taken) now

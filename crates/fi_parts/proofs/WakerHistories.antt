@@ -21,7 +21,7 @@ module _ {D W : Type 0} where
   abbrev OthersStay : ℕ → Waiting D W → Waiting D W → Type 0
   OthersStay name old new = (q : ℕ) (waker : W) → name ≢ q → HasWaker old q waker → HasWaker new q waker
 
-  -- what a step with this on_wakers does to the wakers
+  -- what a step with this effect on the wakers keeps
   abbrev CarriesOn : WakerEffect W → Waiting D W → Waiting D W → Type 0
   CarriesOn (Pends name waker) old new = HasWaker new name waker × OthersStay name old new
   CarriesOn (Leaves name) old new = OthersStay name old new

@@ -21,7 +21,7 @@ pub data WaiterEffect (D W : Type 0) : Type 0 where
   Ends : ℕ → WaiterEffect D W
   -- it ends, and leaves the queue, where it was registered
   EndsRegistered : ℕ → WaiterEffect D W
-  -- it is forgotten, its place in the queue with it
+  -- it is removed, with its place in the queue
   Removes : ℕ → WaiterEffect D W
   -- the oldest of the queue, if there is one, is named and leaves the queue
   NotifiesOldest : Notice → WaiterEffect D W
@@ -38,7 +38,7 @@ module _ {D W : Type 0} where
   oldest_notified phase [] waiting = waiting
   oldest_notified phase (name ∷ others) waiting = record { side = noticed phase waiting.side name others; out = waiting.out ++ pair waiting.side name }
 
-  -- The effect made these of those. A poll or a cancel takes out the future's pair first.
+  -- This effect led from old to new. A poll or a cancel takes out the future's pair first.
   abbrev pub TakesEffect : WaiterEffect D W → Waiting D W → Waiting D W → Type 0
   TakesEffect NoChange old new = new ≡ old
   TakesEffect (Inserts name asks) old new = (phase_of old.side name ≡ None) × (new ≡ record old { side = made old.side name asks })

@@ -33,7 +33,7 @@ module _ {S D W : Type 0} where
   abbrev pub initial : S → Machine S D W
   initial own = record { own = own; waiting = nobody }
 
-  -- Afterwards the machine has these data of its own, and the futures have made this effect.
+  -- Afterwards the machine has these data of its own, and the waiters took this effect.
   abbrev pub StepsTo : Machine S D W → S → WaiterEffect D W → Machine S D W → Type 0
   StepsTo old own effect new = (new.own ≡ own) × TakesEffect effect old.waiting new.waiting
 
@@ -47,7 +47,7 @@ module _ {S D W : Type 0} where
   AllLack lacks machine = (name : ℕ) → is_registered (phase_at machine name) ≡ true → lacks machine.own (asks_of machine.waiting.side name)
 
 module _ {D W : Type 0} where
-  -- what a effect is to the wakers; one that comes second names futures alone
+  -- what an effect is to the wakers; of two, the second only names futures
   abbrev pub waker_effect : WaiterEffect D W → WakerEffect W
   waker_effect (Inserts name asks) = Leaves name
   waker_effect (Registers name waker) = Pends name waker

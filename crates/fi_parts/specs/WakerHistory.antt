@@ -1,4 +1,4 @@
--- Which wakers wait after a history. A history is a list of calls with their answers, the newest first.
+-- Which wakers a history has left waiting. A history is a list of calls with their answers, the newest first.
 use Rattle.std.specs.Prelude.{◌≡◌, ◌⊎◌, ℕ, ◌==◌, if◌then◌else◌, Option, Some, None, List, [], ◌∷◌}
 use Rattle.fi_parts.specs.declared.phase.Phase.TheVariants.{Registered}
 use Rattle.fi_parts.specs.Waiting.{Waiting, phase_of, displaced}

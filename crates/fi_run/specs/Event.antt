@@ -11,7 +11,7 @@ use Rattle.fi_run.specs.declared.event.EventCall.TheVariants.{Wait, Poll, Cancel
 use Rattle.fi_channels.specs.Event.{EventMachine, opened, can_be_polled, Makes, Polls, Cancels, Sets, Resets, Wakes}
 
 module _ {W : Type 0} where
-  -- where a call may be refused so
+  -- when a call may be refused with this fault
   abbrev pub MayRefuse : EventMachine W → EventCall W → Fault → Type 0
   MayRefuse old Wait NoMemory = Unit {0}
   MayRefuse old (Poll slot waker) NoSlot = can_be_polled (phase_at old slot.0) ≡ false

@@ -75,7 +75,7 @@ module _ {W : Type 0} where
   abbrev pub WakersAreKept : EventMachine W → List (EventCall W × Answer ℕ W) → EventMachine W → Type 0
   WakersAreKept first history state = KeepsWakers (λ entry. on_wakers (subject entry.0) entry.1) first.waiting history state.waiting
 
-  -- What a first state and the history since say of the state now.
+  -- What holds of a first state, the history since, and the state now.
   pub record HistoryHolds (first : EventMachine W) (history : List (EventCall W × Answer ℕ W)) (state : EventMachine W) : Type 0 where
     pub flag : flag_after first history ≡ state.own
     pub phases : (name : ℕ) → was_set_since_first_poll name first history ≡ seen_by (phase_at state name)
