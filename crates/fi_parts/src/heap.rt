@@ -117,7 +117,7 @@ impl<T: Ord> PairingHeap<T> {
         let _ = &self.nodes;
     }
 
-    /// Adds a live slot that isn't in the heap. It takes a constant number of steps.
+    /// Adds a live slot that isn't in the heap.
     ///
     /// Keeps `PairingHeap::insert` of futures-intrusive.
     pub fn insert(&mut self, slot: Slot)
@@ -131,7 +131,7 @@ impl<T: Ord> PairingHeap<T> {
     }
 
     /// A slot in the heap that no slot in the heap has a lesser value than, or `None` where the
-    /// heap is empty. It takes a constant number of steps.
+    /// heap is empty.
     ///
     /// Keeps `PairingHeap::peek_min` of futures-intrusive.
     pub fn peek_min(&self) -> Option<Slot>
@@ -143,8 +143,7 @@ impl<T: Ord> PairingHeap<T> {
         }
     }
 
-    /// Takes a slot out of the heap, the least or any other. It stays live. Over a sequence of calls
-    /// the number of steps is logarithmic in the number of slots in the heap.
+    /// Takes a slot out of the heap, the least or any other. It stays live.
     ///
     /// Keeps `PairingHeap::remove` of futures-intrusive.
     pub fn remove(&mut self, slot: Slot)
