@@ -82,7 +82,7 @@ module _ {D W : Type 0} where
         ];
       }
 
-  -- the oldest was named, and stands so
+  -- the oldest was named, and has this phase
   pub sound-pop_oldest : (allowed : Option (Phase W) → Bool) (phase : Phase W) (side : Side D W) (out : List (ℕ × W)) →
       allowed (Some phase) ≡ true → may_be_named (Some phase) ≡ true →
       AreSound allowed side out → AreSound allowed (pop_oldest phase side) (out ++ pair_of_oldest side)
