@@ -2,6 +2,8 @@ ghost use Rattle.std.specs.Prelude.{◌≡◌};
 ghost use Rattle.futures.specs.Poll.{OnPending};
 ghost use Rattle.fi_channels.specs.Event.{IsSound, OwesNoWake};
 
+mod wakes;
+
 use crate::{ManualResetEvent, WaitForEventFuture};
 use fi_channels::EventState;
 use futures::Future;
