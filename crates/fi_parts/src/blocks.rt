@@ -13,6 +13,7 @@ mod owner;
 mod raw_box;
 #[cfg(test)]
 mod tests;
+mod vacancies;
 
 use crate::errors::NoRoom;
 use block::BlockPtr;
@@ -51,7 +52,7 @@ impl<T> Blocks<T> {
     {
         Blocks {
             slab: Slab::new(alloc),
-            linked: LinkedBlocks::new(),
+            linked: LinkedBlocks::new(alloc),
             alloc,
         }
     }
@@ -128,7 +129,10 @@ impl<T> Blocks<T> {
             return Err(NoRoom(value));
         }
         let slot = self.slab.vacant_key();
-        match self.linked.claim(self.alloc, value, slot) {
+        match self
+            .linked
+            .claim(self.alloc, value, slot, self.slab.capacity())
+        {
             Ok(at) => Ok(self.slab.insert_reserved(at)),
             Err(refused) => Err(refused),
         }

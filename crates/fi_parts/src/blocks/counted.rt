@@ -8,25 +8,28 @@ ghost use Rattle.fi_parts.specs.CountedBlocks.{block_in, links_in, data_in, item
 use crate::blocks::block::{Block, BlockPtr, Links};
 use crate::blocks::owner::BlockOwner;
 use crate::blocks::raw_box::RawBox;
+use crate::blocks::vacancies::Vacancies;
 use crate::errors::NoRoom;
 use crate::visits::Visits;
-use std::alloc::{AllocFailed, Global};
+use std::alloc::Global;
 
 /// The blocks, and how often the links of one were reached.
 pub struct CountedBlocks<T> {
     owner: BlockOwner<T>,
     visits: Visits,
+    vacancies: Vacancies<T>,
 }
 
 impl<T> CountedBlocks<T> {
     /// No block.
-    pub fn new() -> CountedBlocks<T>
+    pub fn new(alloc: Global) -> CountedBlocks<T>
         ensures blocks { result.owner.blocks ≡ [] }
         ensures visits { result.visits.count ≡ 0 }
     {
         CountedBlocks {
             owner: BlockOwner::new(),
             visits: Visits::new(),
+            vacancies: Vacancies::new(alloc),
         }
     }
 
@@ -66,8 +69,14 @@ impl<T> CountedBlocks<T> {
         &mut self.owner.whole_mut(at).links
     }
 
-    /// A new block that is not in the list. Where there is no memory the item comes back.
-    pub fn claim(&mut self, alloc: Global, item: T, slot: usize) -> Result<BlockPtr<T>, NoRoom<T>>
+    /// A new block that is not in the list, one of at most so many. Where there is no memory the item comes back.
+    pub fn claim(
+        &mut self,
+        alloc: Global,
+        item: T,
+        slot: usize,
+        most: usize,
+    ) -> Result<BlockPtr<T>, NoRoom<T>>
     where
         T: Drop,
         ensures fresh { IfOk result (λ p. block_in self.old p ≡ None) }
@@ -76,27 +85,18 @@ impl<T> CountedBlocks<T> {
         ensures refused { OnErr result (self.new ≡ self.old) }
         ensures handed_back { IfErr result (λ failed. failed.0 ≡ item) }
     {
+        let Some(room) = self.vacancies.take(alloc, most) else {
+            return Err(NoRoom(item));
+        };
         let block = Block {
             item,
             links: Links::loose(),
             slot,
         };
-        match Box::new(alloc, block) {
-            Ok(whole) => Ok(self.owner.put(RawBox::of(whole))),
-            Err(failed) => {
-                let AllocFailed {
-                    value: Block {
-                        item,
-                        links: _,
-                        slot: _,
-                    },
-                } = failed;
-                Err(NoRoom(item))
-            }
-        }
+        Ok(self.owner.put(RawBox::fill(room, block)))
     }
 
-    /// Frees a block and gives its item back.
+    /// Frees a block and gives its item back. Its memory is kept for the next one.
     pub fn free(&mut self, alloc: Global, at: BlockPtr<T>) -> T
     where
         T: Drop,
@@ -106,12 +106,13 @@ impl<T> CountedBlocks<T> {
         ensures gone { block_in self.new at ≡ None }
         ensures visits { self.new.visits ≡ self.old.visits }
     {
-        let whole = self.owner.take(alloc, at).into_box();
+        let (block, room) = self.owner.take(alloc, at).vacate();
+        self.vacancies.keep(room);
         let Block {
             item,
             links: _,
             slot: _,
-        } = Box::into_inner(whole);
+        } = block;
         item
     }
 
@@ -119,7 +120,11 @@ impl<T> CountedBlocks<T> {
     pub fn end(self)
         requires { self.owner.blocks ≡ [] }
     {
-        let CountedBlocks { owner, visits: _ } = self;
+        let CountedBlocks {
+            owner,
+            visits: _,
+            vacancies: _,
+        } = self;
         owner.end();
     }
 }

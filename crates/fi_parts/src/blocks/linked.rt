@@ -21,14 +21,14 @@ pub struct LinkedBlocks<T> {
 
 impl<T> LinkedBlocks<T> {
     /// No block, and an empty list.
-    pub fn new() -> LinkedBlocks<T>
+    pub fn new(alloc: Global) -> LinkedBlocks<T>
         ensures blocks { result.blocks.owner.blocks ≡ [] }
         ensures first { result.first ≡ None }
         ensures last { result.last ≡ None }
         ensures visits { result.blocks.visits.count ≡ 0 }
     {
         LinkedBlocks {
-            blocks: CountedBlocks::new(),
+            blocks: CountedBlocks::new(alloc),
             first: Neighbour::none(),
             last: Neighbour::none(),
         }
@@ -73,8 +73,14 @@ impl<T> LinkedBlocks<T> {
         self.blocks.item_mut(at)
     }
 
-    /// A new block that is not in the list. Where there is no memory the item comes back.
-    pub fn claim(&mut self, alloc: Global, item: T, slot: usize) -> Result<BlockPtr<T>, NoRoom<T>>
+    /// A new block that is not in the list, one of at most so many. Where there is no memory the item comes back.
+    pub fn claim(
+        &mut self,
+        alloc: Global,
+        item: T,
+        slot: usize,
+        most: usize,
+    ) -> Result<BlockPtr<T>, NoRoom<T>>
     where
         T: Drop,
         ensures fresh { IfOk result (λ p. block_at self.old p ≡ None) }
@@ -83,7 +89,7 @@ impl<T> LinkedBlocks<T> {
         ensures refused { OnErr result (self.new ≡ self.old) }
         ensures handed_back { IfErr result (λ failed. failed.0 ≡ item) }
     {
-        self.blocks.claim(alloc, item, slot)
+        self.blocks.claim(alloc, item, slot, most)
     }
 
     /// Frees a block and gives its item back. Links that name it are the caller's care.

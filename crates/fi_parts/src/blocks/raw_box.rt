@@ -4,6 +4,7 @@ ghost use Rattle.std_alloc.specs.Box.Ownership.{box_owns};
 
 use std::alloc::Allocator;
 use std::marker::Model;
+use std_alloc::room::Vacant;
 
 /// A box that was taken apart: its pointer and its allocator. It still owns the value.
 pub struct RawBox<T, A: Allocator> {
@@ -31,5 +32,27 @@ impl<T: Drop, A: Allocator> RawBox<T, A> {
     {
         let RawBox { at, alloc } = self;
         unsafe { Box::from_raw(alloc, at) }
+    }
+}
+
+impl<T, A: Allocator> RawBox<T, A> {
+    /// Takes the value out, and keeps the memory.
+    pub fn vacate(self) -> (T, Vacant<T, A>)
+        ensures { result.0 ≡ self.value }
+    {
+        let RawBox { at, alloc } = self;
+        let value = unsafe { at.read() };
+        (value, Vacant { ptr: at, alloc })
+    }
+
+    /// Puts a value into memory that holds none.
+    pub fn fill(room: Vacant<T, A>, value: T) -> RawBox<T, A>
+        ensures { result.value ≡ value }
+    {
+        let Vacant { ptr, alloc } = room;
+        unsafe {
+            ptr.write(value);
+        }
+        RawBox { at: ptr, alloc }
     }
 }
