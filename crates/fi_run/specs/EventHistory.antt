@@ -52,7 +52,8 @@ module _ {W : Type 0} where
   -- was polled before the first state has a phase there that says it.
   abbrev pub was_set_since_first_poll : ℕ → EventMachine W → List (EventCall W × Answer ℕ W) → Option Bool
   was_set_since_first_poll name first [] = seen_by (phase_at first name)
-  was_set_since_first_poll name first (entry ∷ history) = seen_step name entry.0 entry.1 (flag_after first history) (was_set_since_first_poll name first history)
+  was_set_since_first_poll name first (entry ∷ history) =
+      seen_step name entry.0 entry.1 (flag_after first history) (was_set_since_first_poll name first history)
 
   abbrev pub PollIsRight : EventCall W → Answer ℕ W → (ℕ → Option Bool) → Type 0
   PollIsRight call (Refused fault) was_set = ⊤
@@ -63,7 +64,8 @@ module _ {W : Type 0} where
   -- Each poll that was not refused is ready exactly if the event was set at some moment from the wait's first poll to then.
   abbrev pub PollsAreRight : EventMachine W → List (EventCall W × Answer ℕ W) → Type 0
   PollsAreRight first [] = ⊤
-  PollsAreRight first (entry ∷ history) = PollIsRight entry.0 entry.1 (λ name. was_set_since_first_poll name first (entry ∷ history)) × PollsAreRight first history
+  PollsAreRight first (entry ∷ history) =
+      PollIsRight entry.0 entry.1 (λ name. was_set_since_first_poll name first (entry ∷ history)) × PollsAreRight first history
 
   -- whom a call concerns
   abbrev pub subject : EventCall W → Subject W

@@ -165,7 +165,8 @@ module _ {W : Type 0} where
 
   -- the trait's laws
   pub event_starts : (opening : Bool) (state : EventMachine W) → Opens opening state → IsSound state × OwesNoWake state
-  event_starts opening state opens = subst (λ (s : EventMachine W). IsSound s × OwesNoWake s) (sym opens) (laws.opened_holds {W = W} opening)
+  event_starts opening state opens =
+      subst (λ (s : EventMachine W). IsSound s × OwesNoWake s) (sym opens) (laws.opened_holds {W = W} opening)
 
   pub event_history_initial : (state : EventMachine W) → HistoryHolds state [] state
   event_history_initial state = record {
@@ -177,14 +178,20 @@ module _ {W : Type 0} where
 
   pub event_history_preserved : (first : EventMachine W) (history : List (EventCall W × Answer ℕ W)) (old : EventMachine W)
       (call : EventCall W) (answer : Answer ℕ W) (new : EventMachine W) →
-      IsSound old → OwesNoWake old → HistoryHolds first history old → Step old call answer new → HistoryHolds first ((call, answer) ∷ history) new
+      IsSound old → OwesNoWake old → HistoryHolds first history old → Step old call answer new →
+      HistoryHolds first ((call, answer) ∷ history) new
   event_history_preserved first history old call answer new sound no_wake was did =
       let seen : (q : ℕ) → was_set_since_first_poll q first ((call, answer) ∷ history) ≡ seen_by (phase_at new q) =
-      λ q. rw was.flag (seen_after_step (λ n. was_set_since_first_poll n first history) old new sound was.phases call answer no_wake did q) in
+      λ q. rw was.flag (seen_after_step (λ n. was_set_since_first_poll n first history) old new sound was.phases
+      call answer no_wake did q) in
       record {
         flag = ap (flag_step call answer) was.flag ∙ flag_after_step old call answer new sound did;
         phases = seen;
-        polls = (right_after_step (λ name. was_set_since_first_poll name first ((call, answer) ∷ history)) old call answer new sound seen did, was.polls);
+        polls = (
+          right_after_step (λ name. was_set_since_first_poll name first ((call, answer) ∷ history))
+              old call answer new sound seen did,
+          was.polls,
+        );
         wakers = line_keeps_wakers rules (λ entry. on_wakers (subject entry.0) entry.1) first.waiting history (call, answer) old new sound
             (is_line old call answer new did) was.wakers;
       }

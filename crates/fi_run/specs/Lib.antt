@@ -6,8 +6,6 @@ pub mod EventLaws
 pub mod Oneshot
 pub mod OneshotHistory
 pub mod OneshotLaws
-pub mod BroadcastHistory
-pub mod BroadcastLaws
 pub mod State
 pub mod StateAnswer
 pub mod StateHistory

@@ -1,9 +1,11 @@
--- What a history of a channel of one value says. A history is a list of calls with their answers, the newest first, since some first state.
-use Rattle.std.specs.Prelude.{◌≡◌, ◌⊎◌, ℕ, ◌+◌, ◌≤◌, List, [], ◌∷◌, length}
-use Rattle.fi_parts.specs.WakerHistory.{KeepsWakers}
-use Rattle.fi_channels.specs.declared.one_value.Content.{Content}
-use Rattle.fi_channels.specs.declared.one_value.Content.TheVariants.{Empty, Full, Spent}
-use Rattle.fi_channels.specs.Oneshot.{OneshotMachine}
+-- What a history of a channel of one value says. A history is a list of calls with their answers, the newest first, since some
+-- first state.
+use Rattle.std.specs.Prelude.{◌≡◌, ⊤, ◌⊎◌, ℕ, ◌+◌, ◌≤◌, true, false, List, [], ◌∷◌, length}
+use Rattle.fi_parts.specs.declared.errors.Fault.TheVariants.{NoMemory, NoSlot}
+use Rattle.fi_parts.specs.WakerHistory.{IsIn, KeepsWakers}
+use Rattle.fi_channels.specs.declared.content.Content.{Content}
+use Rattle.fi_channels.specs.declared.content.Content.TheVariants.{Empty, Full, Spent}
+use Rattle.fi_channels.specs.Oneshot.{OneshotMachine, Giving}
 use Rattle.fi_run.specs.declared.answer.Answer.{Answer}
 use Rattle.fi_run.specs.declared.answer.Answer.TheVariants.{Item, Done, Newly, Refused}
 use Rattle.fi_run.specs.declared.oneshot.OneshotCall.{OneshotCall}
@@ -16,11 +18,17 @@ module _ {T : Type 0} where
   abbrev pub IsTaken : List T → List T → Type 0
   IsTaken sent got = (value : T) × (sent ≡ value ∷ []) × (got ≡ value ∷ [])
 
-  -- What a oneshot holds says which values were put in and received and which closes there were.
-  abbrev pub TakenFits : Content T → List T → List T → ℕ → Type 0
-  TakenFits Empty sent got closes = (sent ≡ []) × (got ≡ []) × (closes ≡ 0)
-  TakenFits (Full value) sent got closes = (sent ≡ value ∷ []) × (got ≡ []) × (closes ≡ 0)
-  TakenFits Spent sent got closes = ((sent ≡ []) × (got ≡ []) × (closes ≡ 1)) ⊎ (IsTaken sent got × (closes ≡ 0))
+  -- one value was put in, and what is given of it was received once
+  abbrev pub IsGivenOnce : (T → T → Type 0) → List T → List T → Type 0
+  IsGivenOnce gives sent got = (value given : T) × gives value given × (sent ≡ value ∷ []) × (got ≡ given ∷ [])
+
+  -- What a channel that gives its value so holds says which values were put in and received and which closes there were: one that
+  -- doesn't keep its value gives it once, and is spent then; one that keeps it is spent only by a close.
+  abbrev pub Fits : Giving T → Content T → List T → List T → ℕ → Type 0
+  Fits giving Empty sent got closes = (sent ≡ []) × (got ≡ []) × (closes ≡ 0)
+  Fits giving (Full value) sent got closes = (sent ≡ value ∷ []) × (giving.keeps ≡ false → got ≡ []) × (closes ≡ 0)
+  Fits giving Spent sent got closes =
+      ((sent ≡ []) × (got ≡ []) × (closes ≡ 1)) ⊎ ((giving.keeps ≡ false) × IsGivenOnce giving.gives sent got × (closes ≡ 0))
 
   abbrev pub held : Content T → List T
   held (Full value) = value ∷ []
@@ -83,11 +91,42 @@ module _ {T W : Type 0} where
   abbrev pub NeverEmptyAgain : OneshotMachine T W → OneshotMachine T W → Type 0
   NeverEmptyAgain first now = now.own ≡ Empty → first.own ≡ Empty
 
-  abbrev pub ContentFits : OneshotMachine T W → List (OneshotCall T W × Answer T W) → Content T → Type 0
-  ContentFits first history content = TakenFits content (accepted first history) (received history) (new_closes first history)
+  -- a channel that was not empty at first holds the same now
+  abbrev pub KeepsContent : OneshotMachine T W → OneshotMachine T W → Type 0
+  KeepsContent first now = (first.own ≡ Empty) ⊎ (now.own ≡ first.own)
 
-  -- What holds of a first state, the history since, and the state of a oneshot now.
-  pub record HistoryHolds (first : OneshotMachine T W) (history : List (OneshotCall T W × Answer T W)) (state : OneshotMachine T W) : Type 0 where
-    pub content : ContentFits first history state.own
+  abbrev pub ContentFits : Giving T → OneshotMachine T W → List (OneshotCall T W × Answer T W) → Content T → Type 0
+  ContentFits giving first history content = Fits giving content (accepted first history) (received history) (new_closes first history)
+
+  -- the channel held this value at first, or a send of it was accepted since
+  abbrev pub WasPutIn : OneshotMachine T W → List (OneshotCall T W × Answer T W) → T → Type 0
+  WasPutIn first history value = IsIn value (accepted first history)
+
+  -- what is given of this value, or a refusal for want of memory, if that may be lacking
+  abbrev pub GivesOf : Giving T → T → Answer T W → Type 0
+  GivesOf giving value (Item given) = giving.gives value given
+  GivesOf giving value (Refused NoMemory) = giving.may_lack value
+  GivesOf giving value answer = ⊥
+
+  -- a call and its answer, once these values were put in
+  abbrev pub DeliversAfter : Giving T → List T → OneshotCall T W → Answer T W → Type 0
+  DeliversAfter giving [] call answer = ⊤
+  DeliversAfter giving (value ∷ earlier) (Poll slot waker) (Refused NoSlot) = ⊤
+  DeliversAfter giving (value ∷ earlier) (Poll slot waker) answer = GivesOf giving value answer
+  DeliversAfter giving (value ∷ earlier) call answer = ⊤
+
+  -- Once a value was put in every poll gives of it, whatever is closed later, or is refused: for want of memory, or as no receive
+  -- of this name can be polled.
+  abbrev pub Delivers : Giving T → OneshotMachine T W → List (OneshotCall T W × Answer T W) → Type 0
+  Delivers giving first [] = ⊤
+  Delivers giving first (entry ∷ history) = DeliversAfter giving (accepted first history) entry.0 entry.1 × Delivers giving first history
+
+  -- What holds of a first state, the history since, and the state now of a channel that gives its value so. One that keeps its
+  -- value keeps what it holds, and delivers.
+  pub record HistoryHolds (giving : Giving T) (first : OneshotMachine T W) (history : List (OneshotCall T W × Answer T W))
+      (state : OneshotMachine T W) : Type 0 where
+    pub content : ContentFits giving first history state.own
     pub left : NeverEmptyAgain first state
+    pub kept : giving.keeps ≡ true → KeepsContent first state
+    pub deliveries : giving.keeps ≡ true → Delivers giving first history
     pub wakers : WakersAreKept first history state

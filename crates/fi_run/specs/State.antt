@@ -6,7 +6,8 @@ use Rattle.fi_parts.specs.declared.errors.Fault.{Fault}
 use Rattle.fi_parts.specs.declared.errors.Fault.TheVariants.{NoMemory, NoSlot, Closed}
 use Rattle.fi_parts.specs.Machine.{phase_at}
 use Rattle.fi_channels.specs.Oneshot.{can_receive}
-use Rattle.fi_channels.specs.StateBroadcast.{StateMachine, opened, newer_than, newer_at, MayLackClone, MayLackNewer, Makes, Polls, TriesReceive, Cancels, Sends, Closes, Wakes}
+use Rattle.fi_channels.specs.StateBroadcast.{StateMachine, opened, newer_than, newer_at, MayLackClone, MayLackNewer, Makes, Polls}
+use Rattle.fi_channels.specs.StateBroadcast.{TriesReceive, Cancels, Sends, Closes, Wakes}
 use Rattle.fi_run.specs.declared.answer.Answer.{Answer}
 use Rattle.fi_run.specs.declared.answer.Answer.TheVariants.{Made, Pending, State, Nothing, Done, Newly, Already, Woken, Back, Refused}
 use Rattle.fi_run.specs.declared.state.StateCall.{StateCall}
@@ -27,7 +28,8 @@ module _ {T W : Type 0} where
   Step is_clone is_infallible old call (Refused fault) new = MayRefuse is_infallible old call fault × (new ≡ old)
   Step is_clone is_infallible old (Receive asked) (Made slot) new = Makes old asked slot.0 new
   Step is_clone is_infallible old (Poll slot waker) Pending new = Polls is_clone old slot.0 waker polled.Pending new
-  Step is_clone is_infallible old (Poll slot waker) (State id value) new = Polls is_clone old slot.0 waker (polled.Ready (Some (id, value))) new
+  Step is_clone is_infallible old (Poll slot waker) (State id value) new =
+      Polls is_clone old slot.0 waker (polled.Ready (Some (id, value))) new
   Step is_clone is_infallible old (Poll slot waker) Nothing new = Polls is_clone old slot.0 waker (polled.Ready None) new
   Step is_clone is_infallible old (Cancel slot) Done new = Cancels old slot.0 new
   Step is_clone is_infallible old (TryReceive asked) (State id value) new = TriesReceive is_clone old asked (Some (id, value)) × (new ≡ old)

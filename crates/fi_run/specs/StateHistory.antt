@@ -66,7 +66,8 @@ module _ {T W : Type 0} where
   abbrev pub StatesAreNewest : (T → T → Type 0) → StateMachine T W → List (StateCall T W × Answer T W) → Type 0
   StatesAreNewest is_clone first [] = ⊤
   StatesAreNewest is_clone first (entry ∷ history) =
-      GivesNewest is_clone first (sends history) (λ name. asked_by first name history) entry.0 entry.1 × StatesAreNewest is_clone first history
+      GivesNewest is_clone first (sends history) (λ name. asked_by first name history) entry.0 entry.1
+      × StatesAreNewest is_clone first history
 
   abbrev pub closes_step : StateCall T W → Answer T W → ℕ → ℕ
   closes_step call (Refused fault) n = n

@@ -43,7 +43,8 @@ open_at_first : (is_open : Bool) → OpenFits is_open is_open 0
 open_at_first true = refl
 open_at_first false = (refl, refl)
 
-copy_is : {T : Type 0} (is_clone : T → T → Type 0) (newer : Option T) (number id : ℕ) (copy : T) → CopyOf is_clone number newer (Some (id, copy)) →
+copy_is : {T : Type 0} (is_clone : T → T → Type 0) (newer : Option T) (number id : ℕ) (copy : T) →
+    CopyOf is_clone number newer (Some (id, copy)) →
     (value : T) × (newer ≡ Some value) × is_clone value copy × (id ≡ number)
 copy_is is_clone None number id copy cloned = absurd (none_some (id, copy) (sym cloned))
 copy_is {T} is_clone (Some value) number id copy cloned =
@@ -62,7 +63,8 @@ module _ {T W : Type 0} where
     given_waiting true did = subst (WasGiven is_clone old name) (sym did.0) tt
     given_waiting false did = subst (WasGiven is_clone old name) (sym did.0) tt
 
-    given_fresh : (newer : Option T) → newer_at old name ≡ newer → FreshPolls is_clone newer old name waker answer new → WasGiven is_clone old name answer
+    given_fresh : (newer : Option T) → newer_at old name ≡ newer → FreshPolls is_clone newer old name waker answer new →
+        WasGiven is_clone old name answer
     given_fresh None is did = given_waiting old.own.is_open did
     given_fresh (Some value) is did = subst (WasGiven is_clone old name) (sym did.2) (value, is, did.1, refl)
 
@@ -84,7 +86,8 @@ module _ {T W : Type 0} where
   AfterClose old new AlreadyClosed = new.own ≡ old.own
 
   module _ (old new : StateMachine T W) where
-    send_after : (value : T) (answer : Result (Unit {0}) (ChannelSendError T)) (can : Bool) → SendsAt can old value answer new → AfterSend old new value answer
+    send_after : (value : T) (answer : Result (Unit {0}) (ChannelSendError T)) (can : Bool) → SendsAt can old value answer new →
+        AfterSend old new value answer
     send_after value answer true did = subst (AfterSend old new value) (sym did.0) did.1.0
     send_after value answer false did = subst (AfterSend old new value) (sym did.0) did.1.0
 
@@ -93,17 +96,20 @@ module _ {T W : Type 0} where
     send_asks value answer true did q = asks_after (NotifiesAll Renew) old.waiting new.waiting did.1.1 q
     send_asks value answer false did q = asks_after NoChange old.waiting new.waiting did.1.1 q
 
-    close_after : (status : CloseStatus) (is_open : Bool) → old.own.is_open ≡ is_open → ClosesAt is_open old status new → AfterClose old new status
+    close_after : (status : CloseStatus) (is_open : Bool) → old.own.is_open ≡ is_open → ClosesAt is_open old status new →
+        AfterClose old new status
     close_after status true is did = subst (AfterClose old new) (sym did.0) (is, did.1.0)
     close_after status false is did = subst (AfterClose old new) (sym did.0) did.1.0
 
-    close_asks : (status : CloseStatus) (is_open : Bool) → ClosesAt is_open old status new → (q : ℕ) → asks_of new.waiting.side q ≡ asks_of old.waiting.side q
+    close_asks : (status : CloseStatus) (is_open : Bool) → ClosesAt is_open old status new → (q : ℕ) →
+        asks_of new.waiting.side q ≡ asks_of old.waiting.side q
     close_asks status true did q = asks_after (NotifiesAll Renew) old.waiting new.waiting did.1.1 q
     close_asks status false did q = asks_after NoChange old.waiting new.waiting did.1.1 q
 
   -- a state that is newer than the one asked is the newest that was sent
   newest_by : (is_clone : T → T → Type 0) (first : StateMachine T W) (sent : List T) (old : StateMachine T W) (asked : ℕ) (value copy : T) →
-      Counts first sent old → newer_than old.own asked ≡ Some value → is_clone value copy → IsNewest is_clone first sent (Some asked) old.own.number copy
+      Counts first sent old → newer_than old.own asked ≡ Some value → is_clone value copy →
+      IsNewest is_clone first sent (Some asked) old.own.number copy
   newest_by is_clone first sent old asked value copy counted newer cloned = each (nat_lt asked old.own.number) refl
     where
       each : (b : Bool) → nat_lt asked old.own.number ≡ b → IsNewest is_clone first sent (Some asked) old.own.number copy
@@ -113,7 +119,8 @@ module _ {T W : Type 0} where
           (counted.0, ltb-true asked old.own.number is, subst (λ (o : Option T). IsCopyOf is_clone o copy) held cloned)
       each false is = absurd (none_some value (sym (if_false (nat_lt asked old.own.number) old.own.value None is) ∙ newer))
 
-  newest_for : (is_clone : T → T → Type 0) (first : StateMachine T W) (sent : List T) (asked_now : ℕ → Option ℕ) (old : StateMachine T W) (name : ℕ)
+  newest_for : (is_clone : T → T → Type 0) (first : StateMachine T W) (sent : List T) (asked_now : ℕ → Option ℕ)
+      (old : StateMachine T W) (name : ℕ)
       (asked : Option ℕ) (value copy : T) → asks_of old.waiting.side name ≡ asked → Counts first sent old → AsksAs asked_now old →
       newer_for old.own asked ≡ Some value → is_clone value copy → IsNewest is_clone first sent (asked_now name) old.own.number copy
   newest_for is_clone first sent asked_now old name None value copy is counted asks newer cloned = absurd (none_some value newer)
@@ -127,7 +134,8 @@ module _ {T W : Type 0} (is_clone : T → T → Type 0) (is_infallible : T → T
   is_line old call (Refused fault) new numbered did = unchanged rules old new did.1
   is_line old (Receive asked) (Made slot) new numbered did = inserts rules slot.0 asked old new did
   is_line old (Poll slot waker) Pending new numbered did = (laws.polled old slot.0 waker polled.Pending new is_clone numbered did).line
-  is_line old (Poll slot waker) (State id value) new numbered did = (laws.polled old slot.0 waker (polled.Ready (Some (id, value))) new is_clone numbered did).line
+  is_line old (Poll slot waker) (State id value) new numbered did =
+      (laws.polled old slot.0 waker (polled.Ready (Some (id, value))) new is_clone numbered did).line
   is_line old (Poll slot waker) Nothing new numbered did = (laws.polled old slot.0 waker (polled.Ready None) new is_clone numbered did).line
   is_line old (Cancel slot) Done new numbered did = removes rules slot.0 old new did
   is_line old (TryReceive asked) (State id value) new numbered did = unchanged rules old new did.1
@@ -143,7 +151,8 @@ module _ {T W : Type 0} (is_clone : T → T → Type 0) (is_infallible : T → T
   abbrev Says : StateMachine T W → List T → ℕ → (ℕ → Option ℕ) → StateMachine T W → Type 0
   Says first sent closes asked state = Counts first sent state × OpenFits first.own.is_open state.own.is_open closes × AsksAs asked state
 
-  same_says : (first : StateMachine T W) (sent : List T) (closes : ℕ) (asked : ℕ → Option ℕ) (old new : StateMachine T W) → Says first sent closes asked old →
+  same_says : (first : StateMachine T W) (sent : List T) (closes : ℕ) (asked : ℕ → Option ℕ) (old new : StateMachine T W) →
+      Says first sent closes asked old →
       new.own ≡ old.own → ((q : ℕ) → asks_of new.waiting.side q ≡ asks_of old.waiting.side q) → Says first sent closes asked new
   same_says first sent closes asked old new was same asks = (
     subst (λ (n : Newest T). (n.number ≡ first.own.number + length sent) × (n.value ≡ newest_after first.own.value sent)) (sym same) was.0,
@@ -151,7 +160,8 @@ module _ {T W : Type 0} (is_clone : T → T → Type 0) (is_infallible : T → T
     λ name number is. was.2 name number (sym (asks name) ∙ is),
   )
 
-  whole : (first : StateMachine T W) (sent : List T) (closes : ℕ) (asked : ℕ → Option ℕ) (old new : StateMachine T W) → Says first sent closes asked old → new ≡ old →
+  whole : (first : StateMachine T W) (sent : List T) (closes : ℕ) (asked : ℕ → Option ℕ) (old new : StateMachine T W) →
+      Says first sent closes asked old → new ≡ old →
       Says first sent closes asked new
   whole first sent closes asked old new was same = subst (Says first sent closes asked) (sym same) was
 
@@ -161,7 +171,8 @@ module _ {T W : Type 0} (is_clone : T → T → Type 0) (is_infallible : T → T
   made_asks slot asked before old new was asks name number is = elim (cases_eq slot name) [
     | inl same ↦
         let here = eq-eqb slot name same in
-        if_true (slot == name) (Some asked) (before name) here ∙ sym (if_true (slot == name) (Some asked) (asks_of old.waiting.side name) here)
+        if_true (slot == name) (Some asked) (before name) here
+        ∙ sym (if_true (slot == name) (Some asked) (asks_of old.waiting.side name) here)
         ∙ sym (asks name) ∙ is
     | inr ne ↦
         let off = ne_eqb slot name ne in
@@ -173,7 +184,8 @@ module _ {T W : Type 0} (is_clone : T → T → Type 0) (is_infallible : T → T
       ((q : ℕ) → asks_of new.waiting.side q ≡ (if slot == q then None else asks_of old.waiting.side q)) → AsksAs before new
   removed_asks slot before old new was asks name number is = elim (cases_eq slot name) [
     | inl same ↦
-        absurd (none_some number (sym (if_true (slot == name) None (asks_of old.waiting.side name) (eq-eqb slot name same)) ∙ sym (asks name) ∙ is))
+        absurd (none_some number (sym (if_true (slot == name) None (asks_of old.waiting.side name) (eq-eqb slot name same))
+        ∙ sym (asks name) ∙ is))
     | inr ne ↦
         was name number (sym (if_false (slot == name) None (asks_of old.waiting.side name) (ne_eqb slot name ne)) ∙ sym (asks name) ∙ is)
   ]
@@ -190,7 +202,8 @@ module _ {T W : Type 0} (is_clone : T → T → Type 0) (is_infallible : T → T
         Says first (sends_step call answer sent) (closes_step call answer closes) (λ name. asked_step name call answer (asked name)) new
     says_after call (Refused fault) new did = whole first sent closes asked old new was did.1
     says_after (Receive number) (Made slot) new did = (
-      subst (λ (n : Newest T). (n.number ≡ first.own.number + length sent) × (n.value ≡ newest_after first.own.value sent)) (sym did.0) was.0,
+      subst (λ (n : Newest T). (n.number ≡ first.own.number + length sent) × (n.value ≡ newest_after first.own.value sent))
+          (sym did.0) was.0,
       subst (λ (n : Newest T). OpenFits first.own.is_open n.is_open closes) (sym did.0) was.1,
       made_asks slot.0 number asked old new was.2 (asks_after (Inserts slot.0 number) old.waiting new.waiting did.1),
     )
@@ -198,7 +211,8 @@ module _ {T W : Type 0} (is_clone : T → T → Type 0) (is_infallible : T → T
     says_after (Poll slot waker) (State id value) new did = says_polled slot.0 waker (polled.Ready (Some (id, value))) new did
     says_after (Poll slot waker) Nothing new did = says_polled slot.0 waker (polled.Ready None) new did
     says_after (Cancel slot) Done new did = (
-      subst (λ (n : Newest T). (n.number ≡ first.own.number + length sent) × (n.value ≡ newest_after first.own.value sent)) (sym did.0) was.0,
+      subst (λ (n : Newest T). (n.number ≡ first.own.number + length sent) × (n.value ≡ newest_after first.own.value sent))
+          (sym did.0) was.0,
       subst (λ (n : Newest T). OpenFits first.own.is_open n.is_open closes) (sym did.0) was.1,
       removed_asks slot.0 asked old new was.2 (asks_after (Removes slot.0) old.waiting new.waiting did.1),
     )
@@ -227,7 +241,8 @@ module _ {T W : Type 0} (is_clone : T → T → Type 0) (is_infallible : T → T
         same_says first sent closes asked old new was did.0 (asks_after (PopsOldest waker) old.waiting new.waiting did.1)
     says_after call answer new did = absurd did
 
-  gives_newest : (first : StateMachine T W) (sent : List T) (asked : ℕ → Option ℕ) (old : StateMachine T W) (call : StateCall T W) (answer : Answer T W)
+  gives_newest : (first : StateMachine T W) (sent : List T) (asked : ℕ → Option ℕ) (old : StateMachine T W)
+      (call : StateCall T W) (answer : Answer T W)
       (new : StateMachine T W) → Counts first sent old → AsksAs asked old → Step is_clone is_infallible old call answer new →
       GivesNewest is_clone first sent asked call answer
   gives_newest first sent asked old (Poll slot waker) (State id copy) new counted asks did =
@@ -236,18 +251,21 @@ module _ {T W : Type 0} (is_clone : T → T → Type 0) (is_infallible : T → T
       (newest_for is_clone first sent asked old slot.0 (asks_of old.waiting.side slot.0) was.0 copy refl counted asks was.1 was.2)
   gives_newest first sent asked old (TryReceive number) (State id copy) new counted asks did =
       let was = copy_is is_clone (newer_than old.own number) old.own.number id copy did.0 in
-      subst (λ (n : ℕ). IsNewest is_clone first sent (Some number) n copy) (sym was.3) (newest_by is_clone first sent old number was.0 copy counted was.1 was.2)
+      subst (λ (n : ℕ). IsNewest is_clone first sent (Some number) n copy) (sym was.3)
+      (newest_by is_clone first sent old number was.0 copy counted was.1 was.2)
   gives_newest first sent asked old call answer new counted asks did = tt
 
   -- the trait's laws
   abbrev Holds : StateMachine T W → Type 0
   Holds state = IsSound state × OwesNoWake state
 
-  pub state_keeps : (old : StateMachine T W) (call : StateCall T W) (answer : Answer T W) (new : StateMachine T W) → IsSound old → OwesNoWake old →
+  pub state_keeps : (old : StateMachine T W) (call : StateCall T W) (answer : Answer T W) (new : StateMachine T W) → IsSound old →
+      OwesNoWake old →
       Step is_clone is_infallible old call answer new → Holds new
   state_keeps old call answer new sound no_wake did = keeps call answer did
     where
-      line : (call : StateCall T W) (answer : Answer T W) → Step is_clone is_infallible old call answer new → Line rules (on_wakers (subject call) answer) old new
+      line : (call : StateCall T W) (answer : Answer T W) → Step is_clone is_infallible old call answer new →
+          Line rules (on_wakers (subject call) answer) old new
       line call answer did = is_line old call answer new sound.numbered did
 
       same : (call : StateCall T W) (answer : Answer T W) → Step is_clone is_infallible old call answer new → new.own ≡ old.own → Holds new
@@ -259,9 +277,11 @@ module _ {T W : Type 0} (is_clone : T → T → Type 0) (is_infallible : T → T
       keeps (Poll slot waker) Pending did = same (Poll slot waker) Pending did (own_polled old slot.0 waker polled.Pending new is_clone did)
       keeps (Poll slot waker) (State id value) did =
           same (Poll slot waker) (State id value) did (own_polled old slot.0 waker (polled.Ready (Some (id, value))) new is_clone did)
-      keeps (Poll slot waker) Nothing did = same (Poll slot waker) Nothing did (own_polled old slot.0 waker (polled.Ready None) new is_clone did)
+      keeps (Poll slot waker) Nothing did =
+          same (Poll slot waker) Nothing did (own_polled old slot.0 waker (polled.Ready None) new is_clone did)
       keeps (Cancel slot) Done did = same (Cancel slot) Done did did.0
-      keeps (TryReceive asked) (State id value) did = same (TryReceive asked) (State id value) did (ap (λ (s : StateMachine T W). s.own) did.1)
+      keeps (TryReceive asked) (State id value) did =
+          same (TryReceive asked) (State id value) did (ap (λ (s : StateMachine T W). s.own) did.1)
       keeps (TryReceive asked) Nothing did = same (TryReceive asked) Nothing did (ap (λ (s : StateMachine T W). s.own) did.1)
       keeps (Send value) Done did = sends_preserve old new value (Ok tt) did (sound, no_wake)
       keeps (Send value) (Back back Closed) did = sends_preserve old new value (Err (record { 0 = value })) did.1 (sound, no_wake)
@@ -282,17 +302,24 @@ module _ {T W : Type 0} (is_clone : T → T → Type 0) (is_infallible : T → T
     wakers = kept_at_first {E = StateCall T W × Answer T W} (λ entry. on_wakers (subject entry.0) entry.1) state.waiting;
   }
 
-  pub state_history_preserved : (first : StateMachine T W) (history : List (StateCall T W × Answer T W)) (old : StateMachine T W) (call : StateCall T W)
+  pub state_history_preserved : (first : StateMachine T W) (history : List (StateCall T W × Answer T W))
+      (old : StateMachine T W) (call : StateCall T W)
       (answer : Answer T W) (new : StateMachine T W) → IsSound old → OwesNoWake old → HistoryHolds is_clone first history old →
       Step is_clone is_infallible old call answer new → HistoryHolds is_clone first ((call, answer) ∷ history) new
   state_history_preserved first history old call answer new sound no_wake was did =
-      let says = says_after first (sends history) (new_closes history) (λ name. asked_by first name history) old (was.counts, was.is_open, was.asked)
+      let says = says_after first (sends history) (new_closes history)
+      (λ name. asked_by first name history) old (was.counts, was.is_open, was.asked)
       sound.numbered call answer new did in
       record {
         counts = says.0;
         is_open = says.1;
         asked = says.2;
-        states = (gives_newest first (sends history) (λ name. asked_by first name history) old call answer new was.counts was.asked did, was.states);
-        wakers = line_keeps_wakers rules (λ entry. on_wakers (subject entry.0) entry.1) first.waiting history (call, answer) old new sound.waiters
+        states = (
+          gives_newest first (sends history) (λ name. asked_by first name history) old call answer new
+              was.counts was.asked did,
+          was.states,
+        );
+        wakers = line_keeps_wakers rules (λ entry. on_wakers (subject entry.0) entry.1) first.waiting history
+            (call, answer) old new sound.waiters
             (is_line old call answer new sound.numbered did) was.wakers;
       }

@@ -2,7 +2,6 @@
 #![tactic(auto)]
 
 mod answer;
-mod broadcast;
 mod event;
 mod oneshot;
 mod runs;
@@ -11,8 +10,7 @@ mod state;
 mod tests;
 
 pub use answer::Answer;
-pub use broadcast::every_run_of_a_oneshot_broadcast;
 pub use event::{EventCall, every_run_of_an_event};
-pub use oneshot::{OneshotCall, every_run_of_a_oneshot};
+pub use oneshot::{OneshotCall, every_run_of_a_oneshot, every_run_of_a_oneshot_broadcast};
 pub use runs::{Primitive, every_run, run};
 pub use state::{StateCall, every_run_of_a_state_broadcast};

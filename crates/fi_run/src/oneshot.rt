@@ -1,15 +1,20 @@
-//! The oneshot channel as a primitive.
-ghost use Rattle.std.specs.Prelude.{◌≡◌, List, [], IsOk, IfOk, IfErr};
-ghost use Rattle.fi_channels.specs.Oneshot.{OneshotMachine, IsSound, OwesNoWake};
+//! The two channels of one value as primitives.
+ghost use Rattle.std.specs.Prelude.{◌≡◌, true, IsOk, IfOk, IfErr};
+ghost use Rattle.fi_parts.specs.Machine.{phase_at};
+ghost use Rattle.fi_parts.specs.declared.errors.Slot.{Slot};
+ghost use Rattle.fi_channels.specs.Oneshot.{OneshotMachine, taking, cloning, can_receive, IsSound, OwesNoWake};
 ghost use Rattle.fi_run.specs.Oneshot.{Opens, Step};
-ghost use Rattle.fi_run.specs.OneshotHistory.{ContentFits, NeverEmptyAgain, GivesOnce, IsSettledOnce, WakersAreKept};
+ghost use Rattle.fi_run.specs.OneshotHistory.{ContentFits, NeverEmptyAgain, KeepsContent, GivesOnce, IsSettledOnce, Delivers, WasPutIn, GivesOf, WakersAreKept};
 ghost use Rattle.fi_run.specs.Run.{AfterEveryRun};
 ghost use Rattle.fi_run.specs.declared.answer.Answer.{Answer};
 ghost use Rattle.fi_run.specs.declared.oneshot.OneshotCall.{OneshotCall};
+ghost use Rattle.fi_run.specs.declared.oneshot.OneshotCall.TheVariants as calls;
 
 use crate::answer::Answer;
 use crate::runs::{Primitive, every_run};
-use fi_channels::{ChannelReceiveAccess, OneshotState};
+use fi_channels::{
+    ChannelReceiveAccess, GivesValue, OneValueState, OneshotBroadcastState, OneshotState,
+};
 use fi_parts::{ChannelSendError, CloseStatus, Fault, Slot};
 use futures::task::Poll;
 use std::alloc::Global;
@@ -31,7 +36,7 @@ pub enum OneshotCall<T, W> {
     NextWake,
 }
 
-impl<T: Drop, W: Drop> Primitive for OneshotState<T, W> {
+impl<T: Drop, W: Drop, G: GivesValue<T>> Primitive for OneValueState<T, W, G> {
     ghost use Rattle.fi_channels.specs.Oneshot.{IsSound, OwesNoWake};
     ghost use Rattle.fi_run.specs.Oneshot.{Opens, Step};
     ghost use Rattle.fi_run.specs.OneshotHistory.{HistoryHolds};
@@ -43,7 +48,7 @@ impl<T: Drop, W: Drop> Primitive for OneshotState<T, W> {
 
     type Answer = Answer<T, W>;
 
-    ghost step = { Step };
+    ghost step = { Step G.giving };
 
     ghost opens = { Opens };
 
@@ -51,15 +56,15 @@ impl<T: Drop, W: Drop> Primitive for OneshotState<T, W> {
 
     ghost owes_no_wake = { OwesNoWake };
 
-    ghost history_invariant = { HistoryHolds };
+    ghost history_invariant = { HistoryHolds G.giving };
 
     ghost starts = { oneshot_starts };
 
-    ghost keeps = { oneshot_keeps };
+    ghost keeps = { oneshot_keeps G.giving };
 
-    ghost history_initial = { oneshot_history_initial };
+    ghost history_initial = { oneshot_history_initial G.giving };
 
-    ghost history_preserved = { oneshot_history_preserved };
+    ghost history_preserved = { oneshot_history_preserved G.giving };
 
     fn open(alloc: Global, _opening: ()) -> Result<Self, Fault>
         ensures opened { IfOk result (λ state. Opens tt state) }
@@ -67,7 +72,7 @@ impl<T: Drop, W: Drop> Primitive for OneshotState<T, W> {
         // It takes no memory.
         ensures succeeds { IsOk result }
     {
-        Ok(OneshotState::new(alloc))
+        Ok(OneValueState::new(alloc))
     }
 
     #[inline(always)]
@@ -109,7 +114,7 @@ impl<T: Drop, W: Drop> Primitive for OneshotState<T, W> {
     }
 
     fn show(&self) {
-        OneshotState::show(self);
+        OneValueState::show(self);
     }
 }
 
@@ -119,12 +124,33 @@ impl<T: Drop, W: Drop> Primitive for OneshotState<T, W> {
 /// A value that the channel held at first counts as put in, and a channel that was spent at first as closed.
 pub fn every_run_of_a_oneshot<T: Drop, W: Drop>()
     ensures opened { (first : OneshotMachine T W) → Opens tt first → IsSound first × OwesNoWake first }
-    ensures once { AfterEveryRun {S = OneshotMachine T W} IsSound OwesNoWake Step (λ first history now. GivesOnce first history) }
-    ensures settled { AfterEveryRun {S = OneshotMachine T W} IsSound OwesNoWake Step (λ first history now. IsSettledOnce first history) }
-    ensures content { AfterEveryRun {S = OneshotMachine T W} IsSound OwesNoWake Step (λ first history now. ContentFits first history now.own) }
-    ensures left { AfterEveryRun {S = OneshotMachine T W} IsSound OwesNoWake Step (λ first history now. NeverEmptyAgain first now) }
-    ensures wakers { AfterEveryRun {S = OneshotMachine T W} IsSound OwesNoWake Step (λ first history now. WakersAreKept first history now) }
-    ensures no_wake { AfterEveryRun {S = OneshotMachine T W} IsSound OwesNoWake Step (λ first history now. IsSound now × OwesNoWake now) }
+    ensures once { AfterEveryRun {S = OneshotMachine T W} IsSound OwesNoWake (Step taking) (λ first history now. GivesOnce first history) }
+    ensures settled { AfterEveryRun {S = OneshotMachine T W} IsSound OwesNoWake (Step taking) (λ first history now. IsSettledOnce first history) }
+    ensures content { AfterEveryRun {S = OneshotMachine T W} IsSound OwesNoWake (Step taking) (λ first history now. ContentFits taking first history now.own) }
+    ensures left { AfterEveryRun {S = OneshotMachine T W} IsSound OwesNoWake (Step taking) (λ first history now. NeverEmptyAgain first now) }
+    ensures wakers { AfterEveryRun {S = OneshotMachine T W} IsSound OwesNoWake (Step taking) (λ first history now. WakersAreKept first history now) }
+    ensures no_wake { AfterEveryRun {S = OneshotMachine T W} IsSound OwesNoWake (Step taking) (λ first history now. IsSound now × OwesNoWake now) }
 {
     every_run::<OneshotState<T, W>>();
+}
+
+/// Every oneshot broadcast channel follows its promises, in every run from a sound state that owes no wake, so from its opening:
+/// once a value was put in every poll of a receive that may be polled gives a clone of it, whatever is closed later, or is refused
+/// for want of the clone's memory (never, if the clone can't fail); at most one value is put in or close answered `Newly`; a
+/// channel that is not empty keeps what it holds; a pending receive's last waker is registered, stands in the outbox, or was
+/// handed out since; and no wake is owed. A value that the channel held at first counts as put in.
+pub fn every_run_of_a_oneshot_broadcast<T: Clone, W: Drop>()
+    ensures opened { (first : OneshotMachine T W) → Opens tt first → IsSound first × OwesNoWake first }
+    ensures deliveries { AfterEveryRun {S = OneshotMachine T W} IsSound OwesNoWake (Step (cloning T.is_clone T.is_infallible)) (λ first history now. Delivers (cloning T.is_clone T.is_infallible) first history) }
+    ensures copies { AfterEveryRun {S = OneshotMachine T W} IsSound OwesNoWake (Step (cloning T.is_clone T.is_infallible)) (λ first history now.
+        (value : T) (slot : Slot) (waker : W) (answer : Answer T W) (new : OneshotMachine T W) → WasPutIn first history value →
+        can_receive (phase_at now slot.0) ≡ true → Step (cloning T.is_clone T.is_infallible) now (calls.Poll slot waker) answer new →
+        GivesOf (cloning T.is_clone T.is_infallible) value answer) }
+    ensures settled { AfterEveryRun {S = OneshotMachine T W} IsSound OwesNoWake (Step (cloning T.is_clone T.is_infallible)) (λ first history now. IsSettledOnce first history) }
+    ensures content { AfterEveryRun {S = OneshotMachine T W} IsSound OwesNoWake (Step (cloning T.is_clone T.is_infallible)) (λ first history now. ContentFits (cloning T.is_clone T.is_infallible) first history now.own) }
+    ensures kept { AfterEveryRun {S = OneshotMachine T W} IsSound OwesNoWake (Step (cloning T.is_clone T.is_infallible)) (λ first history now. KeepsContent first now) }
+    ensures wakers { AfterEveryRun {S = OneshotMachine T W} IsSound OwesNoWake (Step (cloning T.is_clone T.is_infallible)) (λ first history now. WakersAreKept first history now) }
+    ensures no_wake { AfterEveryRun {S = OneshotMachine T W} IsSound OwesNoWake (Step (cloning T.is_clone T.is_infallible)) (λ first history now. IsSound now × OwesNoWake now) }
+{
+    every_run::<OneshotBroadcastState<T, W>>();
 }

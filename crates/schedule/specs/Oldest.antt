@@ -3,7 +3,7 @@ use Rattle.std.specs.Prelude.{◌≡◌, ◌≢◌, ⊤, ℕ, Option, None, Some
 use Rattle.std.proofs.Common.{ap, refl, ◌∙◌}
 use Rattle.fi_parts.specs.Pairs.{oldest, wakers_of}
 use Rattle.fi_channels.specs.Event.{EventMachine}
-use Rattle.fi_channels.specs.Oneshot.{OneshotMachine, Gives, Takes, Clones}
+use Rattle.fi_channels.specs.Oneshot.{OneshotMachine, Giving}
 use Rattle.fi_channels.specs.StateBroadcast.{StateMachine}
 use Rattle.fi_parts.specs.Effects.WaiterEffect.{PopsOldest}
 use Rattle.fi_parts.specs.Machine.{Machine, StepsTo}
@@ -58,22 +58,11 @@ event_takes old (Woken waker) new did = pops_oldest event_opening event_call old
 event_takes old (Refused fault) new did = absurd did.0
 event_takes old answer new did = absurd did
 
-gives_takes : (gives : Gives ℕ ℕ) (may_lack : oneshot.MayLack ℕ ℕ) (old : OneshotMachine ℕ ℕ) (answer : Answer ℕ ℕ)
-    (new : OneshotMachine ℕ ℕ)
-    → oneshot.StepBy gives may_lack old oneshot_calls.NextWake answer new
-    → HandsOutOldest oneshot_language old answer new
-gives_takes gives may_lack old (Woken waker) new did = pops_oldest only_opening oneshot_call old waker new did
-gives_takes gives may_lack old (Refused fault) new did = absurd did.0
-gives_takes gives may_lack old answer new did = absurd did
-
-pub oneshot_takes : (old : OneshotMachine ℕ ℕ) (answer : Answer ℕ ℕ) (new : OneshotMachine ℕ ℕ)
-    → oneshot.Step old oneshot_calls.NextWake answer new → HandsOutOldest oneshot_language old answer new
-oneshot_takes old answer new did = gives_takes Takes oneshot.lacks_never old answer new did
-
-pub broadcast_takes : (old : OneshotMachine ℕ ℕ) (answer : Answer ℕ ℕ) (new : OneshotMachine ℕ ℕ)
-    → oneshot.BroadcastStep is_same never_fails old oneshot_calls.NextWake answer new
-    → HandsOutOldest oneshot_language old answer new
-broadcast_takes old answer new did = gives_takes (Clones is_same) (oneshot.lacks_clone never_fails) old answer new did
+pub oneshot_takes : (giving : Giving ℕ) (old : OneshotMachine ℕ ℕ) (answer : Answer ℕ ℕ) (new : OneshotMachine ℕ ℕ)
+    → oneshot.Step giving old oneshot_calls.NextWake answer new → HandsOutOldest oneshot_language old answer new
+oneshot_takes giving old (Woken waker) new did = pops_oldest only_opening oneshot_call old waker new did
+oneshot_takes giving old (Refused fault) new did = absurd did.0
+oneshot_takes giving old answer new did = absurd did
 
 pub state_takes : (old : StateMachine ℕ ℕ) (answer : Answer ℕ ℕ) (new : StateMachine ℕ ℕ)
     → state.Step is_same never_fails old state_calls.NextWake answer new → HandsOutOldest state_language old answer new

@@ -2,7 +2,7 @@
 use Rattle.std.specs.Prelude.{◌≡◌, ◌⊎◌, ⊤, ℕ, Bool, List, [], Option, IfSome}
 use Rattle.std.specs.Io.KnownBytes.{Appends}
 use Rattle.fi_channels.specs.Event.{EventMachine}
-use Rattle.fi_channels.specs.Oneshot.{OneshotMachine}
+use Rattle.fi_channels.specs.Oneshot.{OneshotMachine, taking, cloning}
 use Rattle.fi_channels.specs.StateBroadcast.{StateMachine}
 use Rattle.fi_run.specs.Event as event
 use Rattle.fi_run.specs.Oneshot as oneshot
@@ -26,10 +26,10 @@ use Rattle.schedule.specs.Tables.{event_language, oneshot_language, state_langua
 abbrev pub OfPrimitive : Named → ((S O C : Type 0) → Spoken S O C → Type 0) → Type 0
 OfPrimitive Event P = P (EventMachine ℕ) Bool (EventCall ℕ) (spoken event.Opens event.Step event_language)
 OfPrimitive Oneshot P =
-    P (OneshotMachine ℕ ℕ) (Unit {0}) (OneshotCall ℕ ℕ) (spoken oneshot.Opens oneshot.Step oneshot_language)
+    P (OneshotMachine ℕ ℕ) (Unit {0}) (OneshotCall ℕ ℕ) (spoken oneshot.Opens (oneshot.Step taking) oneshot_language)
 OfPrimitive OneshotBroadcast P =
-    P (OneshotMachine ℕ ℕ) (Unit {0}) (OneshotCall ℕ ℕ) (spoken oneshot.Opens (oneshot.BroadcastStep is_same never_fails)
-    oneshot_language)
+    P (OneshotMachine ℕ ℕ) (Unit {0}) (OneshotCall ℕ ℕ) (spoken oneshot.Opens
+    (oneshot.Step (cloning is_same never_fails)) oneshot_language)
 OfPrimitive StateBroadcast P =
     P (StateMachine ℕ ℕ) (Unit {0}) (StateCall ℕ ℕ) (spoken state.Opens (state.Step is_same never_fails) state_language)
 

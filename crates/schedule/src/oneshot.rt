@@ -1,14 +1,14 @@
 //! Script lines of the two channels of one value.
 ghost use Rattle.std.specs.Prelude.{◌≡◌, ◌≢◌, MatchOption, option_copied};
-ghost use Rattle.schedule.specs.Tables.{oneshot_call, only_opening};
+ghost use Rattle.schedule.specs.Tables.{only_opening};
 
 use crate::row::Row;
 use crate::scripted::Scripted;
 use crate::verb::Verb;
-use fi_channels::{OneshotBroadcastState, OneshotState};
+use fi_channels::{GivesValue, OneValueState};
 use fi_run::OneshotCall;
 
-impl Scripted for OneshotState<u64, u64> {
+impl<G: GivesValue<u64>> Scripted for OneValueState<u64, u64, G> {
     ghost use Rattle.fi_run.specs.declared.oneshot.OneshotCall.TheVariants.{NextWake};
     ghost use Rattle.schedule.specs.Tables.{oneshot_language};
     ghost use Rattle.schedule.specs.Oldest.{oneshot_takes, oneshot_hides};
@@ -17,7 +17,7 @@ impl Scripted for OneshotState<u64, u64> {
 
     ghost take_waker = { NextWake };
 
-    ghost takes_oldest = { oneshot_takes };
+    ghost takes_oldest = { oneshot_takes G.giving };
 
     ghost hides = { oneshot_hides };
 
@@ -26,33 +26,14 @@ impl Scripted for OneshotState<u64, u64> {
     }
 
     fn call(row: Row) -> Option<OneshotCall<u64, u64>> {
-        call_oneshot(row)
-    }
-
-    fn next_wake() -> OneshotCall<u64, u64> {
-        OneshotCall::NextWake
-    }
-}
-
-impl Scripted for OneshotBroadcastState<u64, u64> {
-    ghost use Rattle.fi_run.specs.declared.oneshot.OneshotCall.TheVariants.{NextWake};
-    ghost use Rattle.schedule.specs.Tables.{oneshot_language};
-    ghost use Rattle.schedule.specs.Oldest.{broadcast_takes, oneshot_hides};
-
-    ghost language = { oneshot_language };
-
-    ghost take_waker = { NextWake };
-
-    ghost takes_oldest = { broadcast_takes };
-
-    ghost hides = { oneshot_hides };
-
-    fn opening(words: Option<&[u8]>) -> Option<()> {
-        open_channel(words)
-    }
-
-    fn call(row: Row) -> Option<OneshotCall<u64, u64>> {
-        call_oneshot(row)
+        match row {
+            Row::Make(Verb::Receive, None) => Some(OneshotCall::Receive),
+            Row::Poll(slot, Some(waker)) => Some(OneshotCall::Poll(slot, waker)),
+            Row::Cancel(slot, None) => Some(OneshotCall::Cancel(slot)),
+            Row::Plain(Verb::Send, Some(value)) => Some(OneshotCall::Send(value)),
+            Row::Plain(Verb::Close, None) => Some(OneshotCall::Close),
+            _ => None,
+        }
     }
 
     fn next_wake() -> OneshotCall<u64, u64> {
@@ -69,19 +50,5 @@ pub fn open_channel(words: Option<&[u8]>) -> Option<()>
     match words {
         None => Some(()),
         Some(_) => None,
-    }
-}
-
-/// The calls that both channels of one value have.
-fn call_oneshot(row: Row) -> Option<OneshotCall<u64, u64>>
-    ensures { result ≡ oneshot_call row }
-{
-    match row {
-        Row::Make(Verb::Receive, None) => Some(OneshotCall::Receive),
-        Row::Poll(slot, Some(waker)) => Some(OneshotCall::Poll(slot, waker)),
-        Row::Cancel(slot, None) => Some(OneshotCall::Cancel(slot)),
-        Row::Plain(Verb::Send, Some(value)) => Some(OneshotCall::Send(value)),
-        Row::Plain(Verb::Close, None) => Some(OneshotCall::Close),
-        _ => None,
     }
 }

@@ -10,4 +10,5 @@ pub returns-clause-wakers : goal.returns-clause-wakers
 returns-clause-wakers g c first entries now sound no_wake run = (c.every_run.ensures.runs first entries now sound no_wake run).2.wakers
 
 pub returns-clause-no_wake : goal.returns-clause-no_wake
-returns-clause-no_wake g c first entries now sound no_wake run = let ran = c.every_run.ensures.runs first entries now sound no_wake run in (ran.0, ran.1)
+returns-clause-no_wake g c first entries now sound no_wake run =
+    let ran = c.every_run.ensures.runs first entries now sound no_wake run in (ran.0, ran.1)
