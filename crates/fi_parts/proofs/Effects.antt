@@ -9,7 +9,7 @@ use Rattle.fi_parts.specs.declared.phase.Notice.{Notice}
 use Rattle.fi_parts.specs.declared.phase.Notice.TheVariants.{Tell, Renew}
 use Rattle.fi_parts.specs.Noticed.{phase_after}
 use Rattle.fi_parts.specs.Order.{holds}
-use Rattle.fi_parts.specs.Places.{IsPlaceRule, IsUntold}
+use Rattle.fi_parts.specs.Places.{IsPlaceRule, IsUntold, is_told}
 use Rattle.fi_parts.specs.Waiting.{Side, Waiting, phase_of, is_registered, may_be_named, IsOrderedBy, AreSoundBy}
 use Rattle.fi_parts.proofs.Waiting.{Becomes, becomes-made, becomes-with_phase, becomes-forgotten, noticed_phase, lives_as, notices}
 use Rattle.fi_parts.proofs.Waiting.{live_if_registered}
@@ -17,7 +17,7 @@ use Rattle.fi_parts.proofs.Notified.{AllBecome, MayNotify, may_notify-front, may
 use Rattle.fi_parts.proofs.Notified.{notified-none, notified-one, phases-notified}
 use Rattle.fi_parts.proofs.Sound.{sound_by-made, sound_by-ended, sound_by-registered, sound_by-registered_apart, sound_by-stays}
 use Rattle.fi_parts.proofs.Sound.{sound_by-forgotten, sound_by-drop, sound_by-without_place, sound_by-notified}
-use Rattle.fi_parts.specs.Effects.{WaiterEffect, TakesEffect, oldest_notified, notified}
+use Rattle.fi_parts.specs.Effects.{WaiterEffect, TakesEffect, first_of, oldest_notified, notified}
 use Rattle.fi_parts.specs.Effects.WaiterEffect.{NoChange, Inserts, Registers, RegistersApart, KeepsWaiting, Ends, EndsPlaced, Removes}
 use Rattle.fi_parts.specs.Effects.WaiterEffect.{NotifiesOldest, NotifiesAll, NotifiesListed, NotifiesFront, PopsOldest, AndThen}
 use Rattle.fi_parts.specs.Machine.{AllowsBasics, AllowsEffect, Given}
@@ -63,6 +63,15 @@ module _ {W : Type 0} (place : Option (Phase W) → Bool) (rule : IsPlaceRule pl
   unplaced_after Tell told = told
   unplaced_after Renew told = rule.fresh
 
+-- who isn't told, and anybody where the told leave the queue
+pub untold : {W : Type 0} (keeps : Bool) (p : Option (Phase W)) → is_told p ≡ false → IsUntold keeps p
+untold false p is = tt
+untold true p is = is
+
+pub untold_if_leaving : {W : Type 0} (keeps : Bool) (p : Option (Phase W)) → keeps ≡ false → IsUntold keeps p
+untold_if_leaving false p off = tt
+untold_if_leaving true p off = absurd (both_ways true off refl)
+
 given : {X : Type 0} (b : Bool) → Given b X → (b ≡ true) × X
 given true x = (refl, x)
 given false x = absurd x
@@ -70,11 +79,6 @@ given false x = absurd x
 is_false : (b : Bool) → not b ≡ true → b ≡ false
 is_false true e = absurd (both_ways false refl e)
 is_false false e = refl
-
--- the first, if there is one
-abbrev pub first_of : List ℕ → List ℕ
-first_of [] = []
-first_of (name ∷ others) = name ∷ []
 
 module _ {D W : Type 0} where
   -- the phase of each name after an effect

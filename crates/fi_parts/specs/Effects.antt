@@ -40,6 +40,11 @@ pub data WaiterEffect (D W : Type 0) : Type 0 where
   -- one after the other
   AndThen : WaiterEffect D W → WaiterEffect D W → WaiterEffect D W
 
+-- the first of these, if there is one
+abbrev pub first_of : List ℕ → List ℕ
+first_of [] = []
+first_of (name ∷ others) = name ∷ []
+
 module _ {D W : Type 0} where
   -- the oldest of this queue is named and gets this phase; the others stay in the queue
   abbrev pub oldest_notified : Phase W → List ℕ → Waiting D W → Waiting D W
