@@ -7,6 +7,7 @@ ghost use Rattle.fi_run.specs.Oneshot.{Opens, Step};
 ghost use Rattle.fi_run.specs.OneshotHistory.{ContentFits, NeverEmptyAgain, KeepsContent, GivesOnce, IsSettledOnce, Delivers, WasPutIn, GivesOf, WakersAreKept};
 ghost use Rattle.fi_run.specs.Run.{AfterEveryRun};
 ghost use Rattle.fi_run.specs.declared.answer.Answer.{Answer};
+ghost use Rattle.fi_run.specs.declared.answer.Answer.TheVariants as answers;
 ghost use Rattle.fi_run.specs.declared.oneshot.OneshotCall.{OneshotCall};
 ghost use Rattle.fi_run.specs.declared.oneshot.OneshotCall.TheVariants as calls;
 
@@ -119,12 +120,13 @@ impl<T: Drop, W: Drop, G: GivesValue<T>> Primitive for OneValueState<T, W, G> {
 }
 
 /// Every oneshot channel follows its promises, in every run from a sound state that owes no wake, so from its opening: at most
-/// one receive gets the value that was put in; at most one value is put in or close answered `Newly`; what left empty never
+/// one receive gets the value that was put in, and no poll is refused `NoMemory`; at most one value is put in or close answered `Newly`; what left empty never
 /// returns; a pending receive's last waker is registered, stands in the outbox, or was handed out since; and no wake is owed.
 /// A value that the channel held at first counts as put in, and a channel that was spent at first as closed.
 pub fn every_run_of_a_oneshot<T: Drop, W: Drop>()
     ensures opened { (first : OneshotMachine T W) → Opens tt first → IsSound first × OwesNoWake first }
     ensures once { AfterEveryRun {S = OneshotMachine T W} IsSound OwesNoWake (Step taking) (λ first history now. GivesOnce first history) }
+    ensures memory { (old new : OneshotMachine T W) (slot : Slot) (waker : W) → Step taking old (calls.Poll slot waker) (answers.Refused Fault.NoMemory) new → ⊥ }
     ensures settled { AfterEveryRun {S = OneshotMachine T W} IsSound OwesNoWake (Step taking) (λ first history now. IsSettledOnce first history) }
     ensures content { AfterEveryRun {S = OneshotMachine T W} IsSound OwesNoWake (Step taking) (λ first history now. ContentFits taking first history now.own) }
     ensures left { AfterEveryRun {S = OneshotMachine T W} IsSound OwesNoWake (Step taking) (λ first history now. NeverEmptyAgain first now) }
