@@ -1,7 +1,9 @@
 -- What each effect says of each name, and what it keeps.
-use Rattle.std.specs.Prelude.{◌≡◌, ◌⊎◌, ℕ, Bool, true, false, not, if◌then◌else◌, Option, Some, None, List, [], ◌∷◌, ◌++◌, refl}
+use Rattle.std.specs.Prelude.{◌≡◌, ◌≢◌, ◌⊎◌, ◌||◌, ℕ, Bool, true, false, not, if◌then◌else◌, Option, Some, None, List, [], ◌∷◌, ◌++◌, refl}
 use Rattle.std.proofs.Common.{sym, ◌∙◌, ap, subst, inl, inr, is_some}
-use Rattle.std.proofs.lemmas.Bool.{both_ways, cases_Bool, and_parts}
+use Rattle.std.proofs.lemmas.Bool.{both_ways, cases_Bool, and_parts, or_left, ne_eqb}
+use Rattle.fi_parts.proofs.Slots.{eqb_same}
+use Rattle.fi_parts.proofs.Oldest.{phase-with_asks, sound_by-exchange}
 use Rattle.std.proofs.lemmas.List.{append-nil}
 use Rattle.fi_parts.specs.declared.phase.Phase.{Phase}
 use Rattle.fi_parts.specs.declared.phase.Phase.TheVariants.{Fresh, Registered, Told, Complete, Ended}
@@ -10,16 +12,18 @@ use Rattle.fi_parts.specs.declared.phase.Notice.TheVariants.{Tell, Renew}
 use Rattle.fi_parts.specs.Noticed.{phase_after}
 use Rattle.fi_parts.specs.Order.{holds}
 use Rattle.fi_parts.specs.Places.{IsPlaceRule, IsUntold, is_told}
-use Rattle.fi_parts.specs.Waiting.{Side, Waiting, phase_of, is_registered, may_be_named, IsOrderedBy, AreSoundBy}
+use Rattle.fi_parts.specs.Waiting.{Side, Waiting, phase_of, is_registered, may_be_named, exchange, noticed, pair, pair_of, IsOrderedBy}
+use Rattle.fi_parts.specs.Waiting.{AreSoundBy}
 use Rattle.fi_parts.proofs.Waiting.{Becomes, becomes-made, becomes-with_phase, becomes-forgotten, noticed_phase, lives_as, notices}
 use Rattle.fi_parts.proofs.Waiting.{live_if_registered}
 use Rattle.fi_parts.proofs.Notified.{AllBecome, MayNotify, may_notify-front, may_notify-listed, may_notify-none}
 use Rattle.fi_parts.proofs.Notified.{notified-none, notified-one, phases-notified}
 use Rattle.fi_parts.proofs.Sound.{sound_by-made, sound_by-ended, sound_by-registered, sound_by-registered_apart, sound_by-stays}
-use Rattle.fi_parts.proofs.Sound.{sound_by-forgotten, sound_by-drop, sound_by-without_place, sound_by-notified}
+use Rattle.fi_parts.proofs.Sound.{sound_by-set_phase, sound_by-forgotten, sound_by-drop, sound_by-without_place, sound_by-notified}
 use Rattle.fi_parts.specs.Effects.{WaiterEffect, TakesEffect, first_of, oldest_notified, notified}
-use Rattle.fi_parts.specs.Effects.WaiterEffect.{NoChange, Inserts, Registers, RegistersApart, KeepsWaiting, Ends, EndsPlaced, Removes}
+use Rattle.fi_parts.specs.Effects.WaiterEffect.{NoChange, Inserts, Registers, RegistersApart, KeepsWaiting, Ends, EndsPlaced, Renews}
 use Rattle.fi_parts.specs.Effects.WaiterEffect.{NotifiesOldest, NotifiesAll, NotifiesListed, NotifiesFront, PopsOldest, AndThen}
+use Rattle.fi_parts.specs.Effects.WaiterEffect.{Asks, Removes, CompletesOldest}
 use Rattle.fi_parts.specs.Machine.{AllowsBasics, AllowsEffect, Given}
 
 module _ {W : Type 0} where
@@ -90,12 +94,15 @@ module _ {D W : Type 0} where
   After (KeepsWaiting name waker) old new = Becomes old.side new.side name (Some (Registered waker))
   After (Ends name) old new = Becomes old.side new.side name (Some Ended)
   After (EndsPlaced name) old new = Becomes old.side new.side name (Some Ended)
+  After (Renews name) old new = Becomes old.side new.side name (Some Fresh)
+  After (Asks name asks) old new = (q : ℕ) → phase_of new.side q ≡ phase_of old.side q
   After (Removes name) old new = Becomes old.side new.side name None
   After (NotifiesOldest notice) old new =
       (q : ℕ) → (phase_of new.side q ≡ phase_of old.side q) ⊎ (phase_of new.side q ≡ Some (phase_after notice))
   After (NotifiesAll notice) old new = (q : ℕ) → phase_of new.side q ≡ noticed_phase (phase_after notice) (phase_of old.side q)
   After (NotifiesListed notice names) old new = AllBecome old.side new.side names (phase_after notice)
   After (NotifiesFront keeps front) old new = AllBecome old.side new.side front Told
+  After (CompletesOldest name asks) old new = Becomes old.side new.side name (Some Complete)
   After (PopsOldest waker) old new = (q : ℕ) → phase_of new.side q ≡ phase_of old.side q
   After (AndThen one other) old new = (mid : Waiting D W) × After one old mid × After other mid new
 
@@ -105,6 +112,22 @@ module _ {D W : Type 0} where
 
   same_phases : (old new is : Waiting D W) → new ≡ is → is.side ≡ old.side → (q : ℕ) → phase_of new.side q ≡ phase_of old.side q
   same_phases old new is same sides q = ap (λ (w : Waiting D W). phase_of w.side q) same ∙ ap (λ (s : Side D W). phase_of s q) sides
+
+one_held : (name : ℕ) → holds name (name ∷ []) ≡ true
+one_held name = or_left _ _ (eqb_same name)
+
+one_apart : (q name : ℕ) → q ≢ name → holds q (name ∷ []) ≡ false
+one_apart q name ne = ap (λ b. b || false) (ne_eqb q name ne)
+
+module _ {D W : Type 0} where
+  -- it asks for this now
+  abbrev pub asking : ℕ → D → Waiting D W → Waiting D W
+  asking name asks old = record old { side = exchange old.side name asks }
+
+  -- with these pairs
+  abbrev completing : ℕ → D → List ℕ → Waiting D W → List (ℕ × W) → Waiting D W
+  completing name asks others old pairs =
+      record { side = noticed Complete (exchange old.side name asks) name others; out = old.out ++ pairs }
 
 -- A notice: these names have this phase now, and this is the queue.
 pub record AreNotified {D W : Type 0} (place known : Option (Phase W) → Bool) (phase : Phase W) (names : List ℕ)
@@ -191,6 +214,16 @@ module _ {D W : Type 0} {place : Option (Phase W) → Bool} (rule : IsPlaceRule 
     is = taken.2;
   }
 
+  pub completed : (name : ℕ) (asks : D) (old new : Waiting D W) → AllowsEffect rule known old (CompletesOldest name asks) →
+      IsOrderedBy place (asking name asks old).side old.out → TakesEffect (CompletesOldest name asks) old new →
+      AreNotified place known Complete (name ∷ []) (asking name asks old) new
+  completed name asks old new allows was taken =
+      let others = taken.0 in
+      let mid = asking name asks old in
+      let pairs : pair old.side name ≡ pair mid.side name = ap (pair_of name) (sym (phase-with_asks old.side.live name asks name)) in
+      leaving Complete (name ∷ []) others mid new allows refl rule.complete was taken.1
+      (taken.3 ∙ ap (λ ps. completing name asks others old ps) pairs ∙ notified-one Complete name others mid)
+
   all_after : (notice : Notice) (old new : Waiting D W) → AllowsEffect rule known old (NotifiesAll notice) →
       IsOrderedBy place old.side old.out →
       TakesEffect (NotifiesAll notice) old new → After (NotifiesAll notice) old new
@@ -237,6 +270,11 @@ module _ {D W : Type 0} {place : Option (Phase W) → Bool} (rule : IsPlaceRule 
         (sym (ap place p.1) ∙ unplaced place rule (phase_of old.side name) taken.0 is))
     effect_sound (EndsPlaced name) old new is was taken =
         by new _ taken.1 (sound_by-without_place place rule known old.side old.out name knows.ended was taken.0)
+    effect_sound (Renews name) old new is was taken =
+        let p = some_phase (phase_of old.side name) taken.0 in
+        by new _ taken.1 (sound_by-set_phase place rule known Fresh old.side old.out name p.0 rule.fresh refl knows.fresh was p.1
+        (sym (ap place p.1) ∙ unplaced place rule (phase_of old.side name) taken.0 is))
+    effect_sound (Asks name asks) old new is was taken = by new _ taken.1 (sound_by-exchange place known old.side old.out name asks was)
     effect_sound (Removes name) old new is was taken =
         by new _ taken.1 (sound_by-forgotten place rule known old.side old.out name knows.gone was)
     effect_sound (NotifiesOldest notice) old new is was taken =
@@ -246,6 +284,9 @@ module _ {D W : Type 0} {place : Option (Phase W) → Bool} (rule : IsPlaceRule 
         notified_sound _ _ old new was (listed_are notice names old new is was.ordered taken)
     effect_sound (NotifiesFront keeps front) old new is was taken =
         notified_sound _ _ old new was (front_are keeps front old new is was.ordered taken)
+    effect_sound (CompletesOldest name asks) old new is was taken =
+        let asked = sound_by-exchange place known old.side old.out name asks was in
+        notified_sound _ _ (asking name asks old) new asked (completed name asks old new is asked.ordered taken)
     effect_sound (PopsOldest waker) old new is was taken = by new _ taken.1 (sound_by-drop place rule known old.side old.out was)
     effect_sound (AndThen one other) old new is was taken =
         effect_sound other taken.0 new (is.1 taken.0 taken.1) (effect_sound one old taken.0 is.0 was taken.1) taken.2
@@ -271,6 +312,11 @@ module _ {D W : Type 0} {place : Option (Phase W) → Bool} (rule : IsPlaceRule 
         to old new _ name (Some Ended) taken.1 (becomes-with_phase old.side name Ended _ (lives_as old.side name p.0 p.1))
     effect_after (EndsPlaced name) old new is was taken =
         to old new _ name (Some Ended) taken.1 (becomes-with_phase old.side name Ended _ taken.0)
+    effect_after (Renews name) old new is was taken =
+        let p = some_phase (phase_of old.side name) taken.0 in
+        to old new _ name (Some Fresh) taken.1 (becomes-with_phase old.side name Fresh _ (lives_as old.side name p.0 p.1))
+    effect_after (Asks name asks) old new is was taken = λ q.
+        same_phases (asking name asks old) new _ taken.1 refl q ∙ phase-with_asks old.side.live name asks q
     effect_after (Removes name) old new is was taken = to old new _ name None taken.1 (becomes-forgotten old.side name)
     effect_after (NotifiesOldest notice) old new is was taken = λ q.
         let now = notified_after place known _ _ old new (oldest_are notice old new is was.ordered taken) in
@@ -280,6 +326,15 @@ module _ {D W : Type 0} {place : Option (Phase W) → Bool} (rule : IsPlaceRule 
         notified_after place known _ names old new (listed_are notice names old new is was.ordered taken)
     effect_after (NotifiesFront keeps front) old new is was taken =
         notified_after place known Told front old new (front_are keeps front old new is was.ordered taken)
+    effect_after (CompletesOldest name asks) old new is was taken =
+        let asked = sound_by-exchange place known old.side old.out name asks was in
+        let now =
+            notified_after place known Complete (name ∷ []) (asking name asks old) new
+            (completed name asks old new is asked.ordered taken) in
+        record {
+          here = now.these name (one_held name);
+          others = λ q ne. now.others q (one_apart q name ne) ∙ phase-with_asks old.side.live name asks q;
+        }
     effect_after (PopsOldest waker) old new is was taken = same_phases old new _ taken.1 refl
     effect_after (AndThen one other) old new is was taken = (
       taken.0,
@@ -295,6 +350,7 @@ module _ {D W : Type 0} where
   IsOf name (KeepsWaiting other waker) = name ≡ other
   IsOf name (Ends other) = name ≡ other
   IsOf name (EndsPlaced other) = name ≡ other
+  IsOf name (Renews other) = name ≡ other
   IsOf name effect = ⊥
 
   lives_then : (old new is : Waiting D W) (name other : ℕ) (phase : Phase W) → name ≡ other → new ≡ is →
@@ -321,6 +377,9 @@ module _ {D W : Type 0} where
       lives_then old new _ name other Ended same taken.1 (becomes-with_phase old.side other Ended _ (lives_as old.side other p.0 p.1))
   polled_lives (EndsPlaced other) old new name same taken =
       lives_then old new _ name other Ended same taken.1 (becomes-with_phase old.side other Ended _ taken.0)
+  polled_lives (Renews other) old new name same taken =
+      let p = some_phase (phase_of old.side other) taken.0 in
+      lives_then old new _ name other Fresh same taken.1 (becomes-with_phase old.side other Fresh _ (lives_as old.side other p.0 p.1))
   polled_lives effect old new name same taken = absurd same
 
   pub added_fresh : (old new : Waiting D W) (name : ℕ) (asks : D) → TakesEffect (Inserts name asks) old new →

@@ -41,3 +41,4 @@ pub mod Effects
 pub mod Machines
 pub mod WakerHistories
 pub mod PairsWithin
+pub mod TwoSidedEffects

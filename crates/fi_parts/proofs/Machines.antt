@@ -12,16 +12,18 @@ use Rattle.fi_parts.specs.declared.phase.Notice.{Notice}
 use Rattle.fi_parts.specs.Noticed.{phase_after}
 use Rattle.fi_parts.specs.Order.{holds}
 use Rattle.fi_parts.specs.Waiting.{Side, Waiting, phase_of, phase_in, asks_of, asks_in, is_registered, no_futures, made, forgotten}
-use Rattle.fi_parts.specs.Waiting.{IsOrderedBy, AreSoundBy}
+use Rattle.fi_parts.specs.Waiting.{IsLive, exchange, IsOrderedBy, AreSoundBy}
 use Rattle.fi_parts.proofs.Waiting.{Becomes, noticed_phase, placed, unregistered, asks-with_phase, asks-with_phases}
 use Rattle.fi_parts.proofs.Sound.{sound_by-empty}
+use Rattle.fi_parts.proofs.Oldest.{asks-with_asks, asks-with_asks_other}
 use Rattle.fi_parts.proofs.FiniteMaps.{get-insert_same, get-insert_other, get-remove_same, get-remove_other}
 use Rattle.fi_parts.specs.WakerHistory.{WakerEffect, gives}
 use Rattle.fi_parts.specs.WakerHistory.WakerEffect.{Leaves, NoEffect}
 use Rattle.fi_parts.proofs.PairsWithin.{if_true, if_false}
 use Rattle.fi_parts.specs.Effects.{WaiterEffect, TakesEffect, oldest_notified}
-use Rattle.fi_parts.specs.Effects.WaiterEffect.{NoChange, Inserts, Registers, RegistersApart, KeepsWaiting, Ends, EndsPlaced, Removes}
+use Rattle.fi_parts.specs.Effects.WaiterEffect.{NoChange, Inserts, Registers, RegistersApart, KeepsWaiting, Ends, EndsPlaced, Renews}
 use Rattle.fi_parts.specs.Effects.WaiterEffect.{NotifiesOldest, NotifiesAll, NotifiesListed, NotifiesFront, PopsOldest, AndThen}
+use Rattle.fi_parts.specs.Effects.WaiterEffect.{Asks, Removes, CompletesOldest}
 use Rattle.fi_parts.specs.Machine.{Machine, phase_at, initial, StepsTo, HasSoundWaitersBy, AllLack, AllowsEffect, LacksAfter, StillLacks}
 use Rattle.fi_parts.specs.Machine.{waker_effect, WaiterRules, Line, poll_effect, PollLine}
 use Rattle.fi_parts.proofs.Effects.{After, AreNotified, IsOf, effect_after, effect_sound, notified_after, queues, oldest_are, all_are}
@@ -40,6 +42,15 @@ module _ {D W : Type 0} where
   oldest_asks phase [] w q = refl
   oldest_asks phase (n ∷ others) w q = asks-with_phase w.side.live n phase q
 
+  asks_asking : (name : ℕ) (asks : D) (side : Side D W) (q : ℕ) → IsLive side name →
+      asks_of (exchange side name asks) q ≡ (if name == q then Some asks else asks_of side q)
+  asks_asking name asks side q lives = elim (cases_eq name q) [
+    | inl same ↦ ap (asks_of (exchange side name asks)) (sym same) ∙ asks-with_asks side.live name asks lives
+        ∙ sym (if_true (name == q) (Some asks) (asks_of side q) (eq-eqb name q same))
+    | inr ne ↦ asks-with_asks_other side.live name asks q (λ e. ne (sym e))
+        ∙ sym (if_false (name == q) (Some asks) (asks_of side q) (ne_eqb name q ne))
+  ]
+
   asks_to : (new is : Waiting D W) (q : ℕ) → new ≡ is → asks_of new.side q ≡ asks_of is.side q
   asks_to new is q same = ap (λ (w : Waiting D W). asks_of w.side q) same
 
@@ -51,6 +62,8 @@ module _ {D W : Type 0} where
   -- what this name asks for after an effect
   abbrev pub asks_step : WaiterEffect D W → ℕ → Option D → Option D
   asks_step (Inserts name asks) q before = if name == q then Some asks else before
+  asks_step (Asks name asks) q before = if name == q then Some asks else before
+  asks_step (CompletesOldest name asks) q before = if name == q then Some asks else before
   asks_step (Removes name) q before = if name == q then None else before
   asks_step (AndThen one other) q before = asks_step other q (asks_step one q before)
   asks_step effect q before = before
@@ -71,6 +84,8 @@ module _ {D W : Type 0} where
   asks_after (KeepsWaiting name waker) old new did q = asks_to new _ q did.1 ∙ asks-with_phase old.side.live name (Registered waker) q
   asks_after (Ends name) old new did q = asks_to new _ q did.1 ∙ asks-with_phase old.side.live name Ended q
   asks_after (EndsPlaced name) old new did q = asks_to new _ q did.1 ∙ asks-with_phase old.side.live name Ended q
+  asks_after (Renews name) old new did q = asks_to new _ q did.1 ∙ asks-with_phase old.side.live name Fresh q
+  asks_after (Asks name asks) old new did q = asks_to new _ q did.1 ∙ asks_asking name asks old.side q did.0
   asks_after (Removes name) old new did q = elim (cases_eq name q) [
     | inl same ↦ asks_to new _ q did.1 ∙ ap (asks_of (forgotten old.side name)) (sym same)
         ∙ ap asks_in (get-remove_same old.side.live name) ∙ sym (if_true (name == q) None (asks_of old.side q) (eq-eqb name q same))
@@ -82,6 +97,8 @@ module _ {D W : Type 0} where
   asks_after (NotifiesListed notice names) old new did q =
       asks_to new _ q did.1 ∙ asks-with_phases (phase_after notice) names old.side.live q
   asks_after (NotifiesFront keeps front) old new did q = asks_to new _ q did.2 ∙ asks-with_phases Told front old.side.live q
+  asks_after (CompletesOldest name asks) old new did q =
+      asks_to new _ q did.3 ∙ asks-with_phase (exchange old.side name asks).live name Complete q ∙ asks_asking name asks old.side q did.2
   asks_after (PopsOldest waker) old new did q = asks_to new _ q did.1
   asks_after (AndThen one other) old new did q =
       asks_after other did.0 new did.2 q ∙ ap (asks_step other q) (asks_after one old did.0 did.1 q)
@@ -157,6 +174,17 @@ module _ {S D W : Type 0} (rules : WaiterRules S D W) where
       lack_others old new before after name (Some Ended) refl stand (λ q ne. asks_after (Ends name) old new did q) lack was
   lack_after (EndsPlaced name) old new before after sound is did stand lack was =
       lack_others old new before after name (Some Ended) refl stand (λ q ne. asks_after (EndsPlaced name) old new did q) lack was
+  lack_after (Renews name) old new before after sound is did stand lack was =
+      lack_others old new before after name (Some Fresh) refl stand (λ q ne. asks_after (Renews name) old new did q) lack was
+  lack_after (Asks name asks) old new before after sound is did stand lack was = λ q now. elim (cases_eq q name) [
+    | inl same ↦
+        let here : asks_of new.side q ≡ Some asks =
+        asks_to new _ q did.1 ∙ ap (asks_of (exchange old.side name asks)) same ∙ asks-with_asks old.side.live name asks did.0 in
+        rw here (lack.0 (ap (λ n. is_registered (phase_of old.side n)) (sym same) ∙ sym (ap is_registered (stand q)) ∙ now))
+    | inr ne ↦
+        as_before old new before after was lack.1 q (stand q)
+        (asks_to new _ q did.1 ∙ asks-with_asks_other old.side.live name asks q ne) now
+  ]
   lack_after (Removes name) old new before after sound is did stand lack was =
       lack_others old new before after name None refl stand (λ q ne. asks_to new _ q did.1 ∙ asks_forgotten old.side name q ne) lack was
   lack_after (NotifiesOldest notice) old new before after sound is did stand lack was =
@@ -171,6 +199,10 @@ module _ {S D W : Type 0} (rules : WaiterRules S D W) where
   lack_after (NotifiesFront keeps front) old new before after sound is did stand lack was =
       lack_notified Told front old new before after (front_are rules.places rules.phases keeps front old new is sound.ordered did)
       (asks_after (NotifiesFront keeps front) old new did) (λ q was off. lack (asks_of old.side q)) was
+  lack_after (CompletesOldest name asks) old new before after sound is did stand lack was =
+      lack_others old new before after name (Some Complete) refl stand
+      (λ q ne. asks_to new _ q did.3 ∙ asks-with_phase (exchange old.side name asks).live name Complete q
+      ∙ asks-with_asks_other old.side.live name asks q ne) lack was
   lack_after (PopsOldest waker) old new before after sound is did stand lack was = λ q now.
       as_before old new before after was lack q (stand q) (asks_to new _ q did.1) now
   lack_after (AndThen one other) old new before after sound is did stand lack was = λ q now. lack (asks_of new.side q)

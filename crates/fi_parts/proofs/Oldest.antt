@@ -1,5 +1,6 @@
 -- What becomes of a side whose oldest future is named, and of one whose future asks for something else.
-use Rattle.std.proofs.Common.{◌≡◌, ◌≢◌, ℕ, Bool, true, false, List, [], ◌∷◌, ◌++◌, Option, Some, None, map, refl, sym, ap, subst, append_assoc, ◌∙◌, inl, inr}
+use Rattle.std.proofs.Common.{◌≡◌, ◌≢◌, ℕ, Bool, true, false, List, [], ◌∷◌, ◌++◌, Option, Some, None, map, refl, sym, ap, subst}
+use Rattle.std.proofs.Common.{append_assoc, ◌∙◌, inl, inr}
 use Rattle.std.proofs.lemmas.Bool.{cases_eq, both_ways}
 use Rattle.std.proofs.lemmas.List.{append-nil, map-append}
 use Rattle.std.specs.Option.{IsSome}
@@ -8,9 +9,11 @@ use Rattle.std.specs.FinMap as finmap
 use Rattle.fi_parts.specs.declared.phase.Phase.{Phase}
 use Rattle.fi_parts.specs.declared.phase.Phase.TheVariants.{Complete}
 use Rattle.fi_parts.specs.declared.phase.Future.{Future}
-use Rattle.fi_parts.specs.Waiting.{Side, Waiting, phase_in, asks_in, is_registered, may_be_named, with_asks_in, with_asks, exchange, noticed, pair, pair_of, emptied, named_all, IsOrdered, AreSound}
+use Rattle.fi_parts.specs.Waiting.{Side, Waiting, phase_in, asks_in, is_registered, may_be_named, with_asks_in, with_asks, exchange}
+use Rattle.fi_parts.specs.Waiting.{noticed, pair, pair_of, emptied, named_all, IsOrdered, AreSound, AreSoundBy}
 use Rattle.fi_parts.proofs.FiniteMaps.{get-insert_same, get-insert_other}
-use Rattle.fi_parts.proofs.Waiting.{becomes-with_phase, live_if_registered, first_registered, ordered-next, all_noticed-step, all_noticed-none}
+use Rattle.fi_parts.proofs.Waiting.{becomes-with_phase, live_if_registered, first_registered, ordered-next, all_noticed-step}
+use Rattle.fi_parts.proofs.Waiting.{all_noticed-none}
 use Rattle.fi_parts.specs.Oldest.{pop_first, pair_of_first, complete_first, pop_oldest, pair_of_oldest, complete_oldest}
 
 module _ {D W : Type 0} where
@@ -52,17 +55,25 @@ module _ {D W : Type 0} where
       each None is h = absurd (both_ways false refl h)
       each (Some f) is h = ap asks_in (get-with_asks live n d f is)
 
-  pub sound-exchange : (allowed : Option (Phase W) → Bool) (side : Side D W) (out : List (ℕ × W)) (n : ℕ) (d : D) →
-      AreSound allowed side out → AreSound allowed (exchange side n d) out
-  sound-exchange allowed side out n d was = record {
+  pub sound_by-exchange : (place allowed : Option (Phase W) → Bool) (side : Side D W) (out : List (ℕ × W)) (n : ℕ) (d : D) →
+      AreSoundBy place allowed side out → AreSoundBy place allowed (exchange side n d) out
+  sound_by-exchange place allowed side out n d was = record {
     ordered = record {
-      queued = λ q. was.ordered.queued q ∙ ap is_registered (sym (phase-with_asks side.live n d q));
+      queued = λ q. was.ordered.queued q ∙ ap place (sym (phase-with_asks side.live n d q));
       once = was.ordered.once;
       named = λ q at. ap may_be_named (phase-with_asks side.live n d q) ∙ was.ordered.named q at;
       named_once = was.ordered.named_once;
     };
     only = λ q. ap allowed (phase-with_asks side.live n d q) ∙ was.only q;
   }
+
+  pub sound-exchange : (allowed : Option (Phase W) → Bool) (side : Side D W) (out : List (ℕ × W)) (n : ℕ) (d : D) →
+      AreSound allowed side out → AreSound allowed (exchange side n d) out
+  sound-exchange allowed side out n d was = sound_by-exchange is_registered allowed side out n d was
+
+  pub asks-with_asks_other : (live : finmap.FinMap nat_cmp (Future D W)) (n : ℕ) (d : D) (q : ℕ) → q ≢ n →
+      asks_in (finmap.get (with_asks live n d) q) ≡ asks_in (finmap.get live q)
+  asks-with_asks_other live n d q ne = ap asks_in (get-with_asks_other live n d q ne)
 
   sound-pop_first : (allowed : Option (Phase W) → Bool) (phase : Phase W) (side : Side D W) (out : List (ℕ × W))
       (queue : List ℕ) →

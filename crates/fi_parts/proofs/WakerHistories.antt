@@ -14,20 +14,23 @@ use Rattle.fi_parts.specs.WakerHistory.{WakerEffect, IsIn, gives, last_waker, la
 use Rattle.fi_parts.specs.WakerHistory.{KeepsWakers}
 use Rattle.fi_parts.specs.WakerHistory.WakerEffect.{Pends, Leaves, Gives, NoEffect}
 use Rattle.fi_parts.specs.Effects.{WaiterEffect, TakesEffect}
-use Rattle.fi_parts.specs.Effects.WaiterEffect.{NoChange, Inserts, Registers, RegistersApart, KeepsWaiting, Ends, EndsPlaced, Removes}
+use Rattle.fi_parts.specs.Effects.WaiterEffect.{NoChange, Inserts, Registers, RegistersApart, KeepsWaiting, Ends, EndsPlaced, Renews}
 use Rattle.fi_parts.specs.Effects.WaiterEffect.{NotifiesOldest, NotifiesAll, NotifiesListed, NotifiesFront, PopsOldest, AndThen}
+use Rattle.fi_parts.specs.Effects.WaiterEffect.{Asks, Removes, CompletesOldest}
 use Rattle.fi_parts.specs.Machine.{Machine, HasSoundWaitersBy, AllowsBasics, AllowsEffect, waker_effect, WaiterRules, Line}
 use Rattle.fi_parts.proofs.PairsWithin.{none_some, some_same, if_true, if_false, in_append_left, in_append_right, in_without, in_waker_of}
 use Rattle.fi_parts.proofs.PairsWithin.{in_named, oldest_or_rest}
-use Rattle.fi_parts.proofs.Effects.{After, AreNotified, effect_after, effect_sound, oldest_are, all_are, listed_are, front_are}
+use Rattle.fi_parts.proofs.Oldest.{phase-with_asks, sound_by-exchange}
+use Rattle.fi_parts.proofs.Effects.{asking, completed, After, AreNotified, effect_after, effect_sound, oldest_are, all_are, listed_are}
+use Rattle.fi_parts.proofs.Effects.{front_are}
 
 module _ {D W : Type 0} where
   -- every waker there is is still there, but for this name's
-  abbrev OthersStay : ℕ → Waiting D W → Waiting D W → Type 0
+  abbrev pub OthersStay : ℕ → Waiting D W → Waiting D W → Type 0
   OthersStay name old new = (q : ℕ) (waker : W) → name ≢ q → HasWaker old q waker → HasWaker new q waker
 
   -- what a step with this effect on the wakers keeps
-  abbrev CarriesOn : WakerEffect W → Waiting D W → Waiting D W → Type 0
+  abbrev pub CarriesOn : WakerEffect W → Waiting D W → Waiting D W → Type 0
   CarriesOn (Pends name waker) old new = HasWaker new name waker × OthersStay name old new
   CarriesOn (Leaves name) old new = OthersStay name old new
   CarriesOn (Gives waker) old new = (q : ℕ) (v : W) → HasWaker old q v → HasWaker new q v ⊎ (waker ≡ v)
@@ -86,7 +89,7 @@ module _ {D W : Type 0} where
         | inr at ↦ inr (in_append_left (q, v) old.out (named old.side.live names) at)
       ])
 
-  handed_carries : (waker : Option W) (old new : Waiting D W) → waker ≡ oldest old.out → new ≡ record old { out =
+  pub handed_carries : (waker : Option W) (old new : Waiting D W) → waker ≡ oldest old.out → new ≡ record old { out =
       drop 1 old.out } → CarriesOn (gives waker) old new
   handed_carries None old new is taken = λ q v has. rw taken (elim has [
     | inl there ↦ inl there
@@ -98,7 +101,7 @@ module _ {D W : Type 0} where
   ]
 
   -- a second effect that names futures alone
-  and_then : (on_wakers : WakerEffect W) (old mid new : Waiting D W) → CarriesOn on_wakers old mid → CarriesOn NoEffect mid new →
+  pub and_then : (on_wakers : WakerEffect W) (old mid new : Waiting D W) → CarriesOn on_wakers old mid → CarriesOn NoEffect mid new →
       CarriesOn on_wakers old new
   and_then (Pends name waker) old mid new one other = (other name waker one.0, λ q w ne has. other q w (one.1 q w ne has))
   and_then (Leaves name) old mid new one other = λ q w ne has. other q w (one q w ne has)
@@ -110,7 +113,7 @@ module _ {D W : Type 0} where
 
   module _ {place : Option (Phase W) → Bool} (rule : IsPlaceRule place) (known : Option (Phase W) → Bool) (knows : AllowsBasics known) where
     -- Which waker a pending poll had is registered, or named, or handed out.
-    carries : (effect : WaiterEffect D W) (old new : Waiting D W) → AllowsEffect rule known old effect →
+    pub carries : (effect : WaiterEffect D W) (old new : Waiting D W) → AllowsEffect rule known old effect →
         AreSoundBy place known old.side old.out → TakesEffect effect old new → After effect old new → CarriesOn
         (waker_effect effect) old new
     carries NoChange old new is was taken now = λ q v has. rw taken has
@@ -123,6 +126,9 @@ module _ {D W : Type 0} where
     carries (KeepsWaiting name waker) old new is was taken now = (inl now.here, others old new name _ now (ap out_of taken.1))
     carries (Ends name) old new is was taken now = others old new name _ now (ap out_of taken.1)
     carries (EndsPlaced name) old new is was taken now = others old new name _ now (ap out_of taken.1)
+    carries (Renews name) old new is was taken now = others old new name _ now (ap out_of taken.1)
+    carries (Asks name asks) old new is was taken now = λ q v has.
+        elim has [ inl there ↦ inl (now q ∙ there) | inr at ↦ inr (rw taken.1 at) ]
     carries (Removes name) old new is was taken now = others old new name _ now (ap out_of taken.1)
     carries (NotifiesOldest notice) old new is was taken now =
         notified_carries place known _ _ old new (oldest_are rule known notice old new is was.ordered taken)
@@ -132,6 +138,11 @@ module _ {D W : Type 0} where
         notified_carries place known _ names old new (listed_are rule known notice names old new is was.ordered taken)
     carries (NotifiesFront keeps front) old new is was taken now =
         notified_carries place known Told front old new (front_are rule known keeps front old new is was.ordered taken)
+    carries (CompletesOldest name asks) old new is was taken now = λ q v has.
+        let asked = sound_by-exchange place known old.side old.out name asks was in
+        notified_carries place known Complete _ (asking name asks old) new
+        (completed rule known name asks old new is asked.ordered taken) q v
+        (elim has [ inl there ↦ inl (phase-with_asks old.side.live name asks q ∙ there) | inr at ↦ inr at ])
     carries (PopsOldest waker) old new is was taken now = handed_carries waker old new taken.0 taken.1
     carries (AndThen one other) old new is was taken now =
         let mid = taken.0 in
@@ -155,14 +166,20 @@ module _ {D W : Type 0} where
   pub kept_at_first : {E : Type 0} (waker_effect : E → WakerEffect W) (first : Waiting D W) → KeepsWakers waker_effect first [] first
   kept_at_first waker_effect first name waker is = inl (at_first name waker (phase_of first.side name) first refl is)
 
+  -- A step that carries on keeps the wakers of the pending polls.
+  pub carried_keeps_wakers : {E : Type 0} (waker_effect : E → WakerEffect W) (first : Waiting D W) (history : List E) (entry : E)
+      (old new : Waiting D W) → CarriesOn (waker_effect entry) old new →
+      KeepsWakers waker_effect first history old → KeepsWakers waker_effect first (entry ∷ history) new
+  carried_keeps_wakers waker_effect first history entry old new on kept =
+      kept_by (waker_effect entry) old new (λ n. last_waker waker_effect first n history) (λ n. handed_since waker_effect n history) kept on
+
 module _ {S D W : Type 0} (rules : WaiterRules S D W) where
   pub line_keeps_wakers : {E : Type 0} (waker_effect : E →
       WakerEffect W) (first : Waiting D W) (history : List E) (entry : E) (old new : Machine S D W) →
       HasSoundWaitersBy rules.place rules.phases old → Line rules (waker_effect entry) old new →
       KeepsWakers waker_effect first history old.waiting → KeepsWakers waker_effect first (entry ∷ history) new.waiting
-  line_keeps_wakers waker_effect first history entry old new was row kept q w is =
+  line_keeps_wakers waker_effect first history entry old new was row kept =
       let now = effect_after rules.places rules.phases rules.known row.effect old.waiting new.waiting row.allows was row.steps.1 in
       let on = carries rules.places rules.phases rules.known row.effect old.waiting new.waiting row.allows was row.steps.1 now in
-      kept_by (waker_effect entry) old.waiting new.waiting (λ n. last_waker waker_effect first n history)
-      (λ n. handed_since waker_effect n history) kept
-      (subst (λ (d : WakerEffect W). CarriesOn d old.waiting new.waiting) row.effect_is on) q w is
+      carried_keeps_wakers waker_effect first history entry old.waiting new.waiting
+      (subst (λ (d : WakerEffect W). CarriesOn d old.waiting new.waiting) row.effect_is on) kept

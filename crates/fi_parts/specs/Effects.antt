@@ -1,13 +1,14 @@
 -- What a call does to the futures that wait.
 use Rattle.std.specs.Prelude.{◌≡◌, ℕ, Bool, true, Option, None, List, [], ◌∷◌, ◌++◌, drop}
 use Rattle.fi_parts.specs.declared.phase.Phase.{Phase}
-use Rattle.fi_parts.specs.declared.phase.Phase.TheVariants.{Ended}
+use Rattle.fi_parts.specs.declared.phase.Phase.TheVariants.{Fresh, Complete, Ended}
 use Rattle.fi_parts.specs.declared.phase.Notice.{Notice}
 use Rattle.fi_parts.specs.Noticed.{phase_after}
 use Rattle.fi_parts.specs.Order.{holds, Apart}
 use Rattle.fi_parts.specs.Pairs.{without_pair, oldest}
 use Rattle.fi_parts.specs.Waiting.{Side, Waiting, phase_of, is_registered, may_be_named, IsLive, no_futures, made, registered, stays, ended}
-use Rattle.fi_parts.specs.Waiting.{forgotten, noticed, pair, named, with_phases, all_noticed, without_place, front_told}
+use Rattle.fi_parts.specs.Waiting.{forgotten, exchange, with_phase, noticed, pair, named, with_phases, all_noticed, without_place}
+use Rattle.fi_parts.specs.Waiting.{front_told}
 
 -- Names are slots, D is what a future asks for, W a waker.
 pub data WaiterEffect (D W : Type 0) : Type 0 where
@@ -25,6 +26,10 @@ pub data WaiterEffect (D W : Type 0) : Type 0 where
   Ends : ℕ → WaiterEffect D W
   -- it ends, whatever its phase is, and leaves the queue if it has a place there
   EndsPlaced : ℕ → WaiterEffect D W
+  -- it is fresh again; it was not registered
+  Renews : ℕ → WaiterEffect D W
+  -- it asks for this now
+  Asks : ℕ → D → WaiterEffect D W
   -- it is removed, with its place in the queue
   Removes : ℕ → WaiterEffect D W
   -- the oldest of the queue, if there is one, is named and leaves the queue
@@ -35,6 +40,8 @@ pub data WaiterEffect (D W : Type 0) : Type 0 where
   NotifiesListed : Notice → List ℕ → WaiterEffect D W
   -- This front of the queue is told; whoever of it was registered is named, in order. They keep their places, or else leave the queue.
   NotifiesFront : Bool → List ℕ → WaiterEffect D W
+  -- this is the oldest of the queue; it is complete, asks for that now, is named and leaves the queue
+  CompletesOldest : ℕ → D → WaiterEffect D W
   -- the front pair is taken out, and its waker handed out
   PopsOldest : Option W → WaiterEffect D W
   -- one after the other
@@ -51,6 +58,10 @@ module _ {D W : Type 0} where
   oldest_notified phase [] waiting = waiting
   oldest_notified phase (name ∷ others) waiting =
       record { side = noticed phase waiting.side name others; out = waiting.out ++ pair waiting.side name }
+
+  -- it is fresh
+  abbrev pub renewed : Side D W → ℕ → Side D W
+  renewed side name = record side { live = with_phase side.live name Fresh }
 
   -- Each of these has this phase now; whoever of them was registered is named, in order. This is the queue then.
   abbrev pub notified : Phase W → List ℕ → List ℕ → Waiting D W → Waiting D W
@@ -79,6 +90,9 @@ module _ {D W : Type 0} where
       (may_be_named (phase_of old.side name) ≡ true) × (new ≡ record { side = ended old.side name; out = without_pair name old.out })
   TakesEffect (EndsPlaced name) old new =
       IsLive old.side name × (new ≡ record { side = without_place Ended old.side name; out = without_pair name old.out })
+  TakesEffect (Renews name) old new =
+      (may_be_named (phase_of old.side name) ≡ true) × (new ≡ record { side = renewed old.side name; out = without_pair name old.out })
+  TakesEffect (Asks name asks) old new = IsLive old.side name × (new ≡ record old { side = exchange old.side name asks })
   TakesEffect (Removes name) old new =
       IsLive old.side name × (new ≡ record { side = forgotten old.side name; out = without_pair name old.out })
   TakesEffect (NotifiesOldest notice) old new = new ≡ oldest_notified (phase_after notice) old.side.queue old
@@ -87,6 +101,8 @@ module _ {D W : Type 0} where
       AreRegistered old.side names × (new ≡ notified (phase_after notice) names old.side.queue old)
   TakesEffect (NotifiesFront keeps front) old new =
       (rest : List ℕ) × (old.side.queue ≡ front ++ rest) × (new ≡ front_told keeps old front rest)
+  TakesEffect (CompletesOldest name asks) old new = (others : List ℕ) × (old.side.queue ≡ name ∷ others) × IsLive old.side name
+      × (new ≡ record { side = noticed Complete (exchange old.side name asks) name others; out = old.out ++ pair old.side name })
   TakesEffect (PopsOldest waker) old new = (waker ≡ oldest old.out) × (new ≡ record old { out = drop 1 old.out })
   TakesEffect (AndThen one other) old new = (mid : Waiting D W) × TakesEffect one old mid × TakesEffect other mid new
 

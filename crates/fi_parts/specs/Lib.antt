@@ -37,3 +37,4 @@ pub mod Picked
 pub mod Effects
 pub mod Machine
 pub mod WakerHistory
+pub mod TwoSidedEffects

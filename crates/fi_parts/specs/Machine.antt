@@ -13,9 +13,10 @@ use Rattle.fi_parts.specs.Waiting.{Side, Waiting, phase_of, asks_of, is_register
 use Rattle.fi_parts.specs.WakerHistory.{WakerEffect, gives}
 use Rattle.fi_parts.specs.WakerHistory.WakerEffect.{Pends, Leaves, NoEffect}
 use Rattle.fi_parts.specs.Effects.{WaiterEffect, TakesEffect, nobody}
-use Rattle.fi_parts.specs.Effects.WaiterEffect.{Inserts, Registers, RegistersApart, KeepsWaiting, Ends, EndsPlaced, Removes}
-use Rattle.fi_parts.specs.Effects.WaiterEffect.{NotifiesOldest, NotifiesAll, NotifiesListed, NotifiesFront, PopsOldest, AndThen}
-use Rattle.fi_parts.specs.declared.phase.Phase.TheVariants.{Fresh, Registered, Told, Ended}
+use Rattle.fi_parts.specs.Effects.WaiterEffect.{Inserts, Registers, RegistersApart, KeepsWaiting, Ends, EndsPlaced, Renews, Asks, Removes}
+use Rattle.fi_parts.specs.Effects.WaiterEffect.{NotifiesOldest, NotifiesAll, NotifiesListed, NotifiesFront, CompletesOldest, PopsOldest}
+use Rattle.fi_parts.specs.Effects.WaiterEffect.{AndThen}
+use Rattle.fi_parts.specs.declared.phase.Phase.TheVariants.{Fresh, Registered, Told, Complete, Ended}
 
 pub record Machine (S D W : Type 0) : Type 0 where
   pub own : S
@@ -63,6 +64,7 @@ module _ {D W : Type 0} where
   waker_effect (KeepsWaiting name waker) = Pends name waker
   waker_effect (Ends name) = Leaves name
   waker_effect (EndsPlaced name) = Leaves name
+  waker_effect (Renews name) = Leaves name
   waker_effect (Removes name) = Leaves name
   waker_effect (PopsOldest waker) = gives waker
   waker_effect (AndThen one other) = waker_effect one
@@ -92,11 +94,13 @@ module _ {W : Type 0} {place : Option (Phase W) → Bool} (rule : IsPlaceRule pl
   AllowsEffect old (RegistersApart name waker) =
       Given (not (place (Some (Registered waker)))) (IsUntold (place (Some Told)) (phase_of old.side name))
   AllowsEffect old (Ends name) = IsUntold (place (Some Told)) (phase_of old.side name)
+  AllowsEffect old (Renews name) = IsUntold (place (Some Told)) (phase_of old.side name)
   AllowsEffect old (NotifiesOldest notice) = (known (Some (phase_after notice)) && not (place (Some (phase_after notice)))) ≡ true
   AllowsEffect old (NotifiesAll notice) = (known (Some (phase_after notice)) && queues_registered rule) ≡ true
   AllowsEffect old (NotifiesListed notice names) =
       (known (Some (phase_after notice)) && (not rule.waiting && not (place (Some (phase_after notice))))) ≡ true
   AllowsEffect old (NotifiesFront keeps front) = (known (Some Told) ≡ true) × (place (Some Told) ≡ keeps)
+  AllowsEffect old (CompletesOldest name asks) = known (Some Complete) ≡ true
   AllowsEffect {D} old (AndThen one other) = AllowsEffect old one
       × ((mid : Waiting D W) → TakesEffect one old mid → AllowsEffect mid other) × (waker_effect other ≡ NoEffect)
   AllowsEffect old effect = ⊤
@@ -111,6 +115,8 @@ module _ {S D W : Type 0} (lacks : S → Option D → Type 0) where
   abbrev pub LacksAfter : S → S → Side D W → WaiterEffect D W → Type 0
   LacksAfter before after side (Registers name waker) = lacks after (asks_of side name) × StillLacks lacks before after
   LacksAfter before after side (RegistersApart name waker) = lacks after (asks_of side name) × StillLacks lacks before after
+  LacksAfter before after side (Asks name asks) =
+      (is_registered (phase_of side name) ≡ true → lacks after (Some asks)) × StillLacks lacks before after
   LacksAfter before after side (NotifiesAll notice) = ⊤
   LacksAfter before after side (NotifiesListed notice names) = (name : ℕ) → is_registered (phase_of side name) ≡ true →
       holds name names ≡ false → lacks before (asks_of side name) → lacks after (asks_of side name)
