@@ -40,3 +40,6 @@ pub mod Effects
 pub mod Machines
 pub mod WakerHistories
 pub mod PairsWithin
+pub mod Seats
+pub mod FirstSeat
+pub mod Telling

@@ -36,3 +36,5 @@ pub mod Picked
 pub mod Effects
 pub mod Machine
 pub mod WakerHistory
+pub mod Deadlines
+pub mod Seats
