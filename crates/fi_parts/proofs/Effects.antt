@@ -1,21 +1,26 @@
 -- What each effect says of each name, and what it keeps.
-use Rattle.std.specs.Prelude.{◌≡◌, ◌⊎◌, ℕ, Bool, true, false, Option, Some, None, List, [], ◌∷◌, refl}
+use Rattle.std.specs.Prelude.{◌≡◌, ◌⊎◌, ℕ, Bool, true, false, not, if◌then◌else◌, Option, Some, None, List, [], ◌∷◌, ◌++◌, refl}
 use Rattle.std.proofs.Common.{sym, ◌∙◌, ap, subst, inl, inr, is_some}
-use Rattle.std.proofs.lemmas.Bool.{both_ways, cases_eq}
+use Rattle.std.proofs.lemmas.Bool.{both_ways, cases_Bool, and_parts}
+use Rattle.std.proofs.lemmas.List.{append-nil}
 use Rattle.fi_parts.specs.declared.phase.Phase.{Phase}
 use Rattle.fi_parts.specs.declared.phase.Phase.TheVariants.{Fresh, Registered, Told, Complete, Ended}
 use Rattle.fi_parts.specs.declared.phase.Notice.{Notice}
+use Rattle.fi_parts.specs.declared.phase.Notice.TheVariants.{Tell, Renew}
 use Rattle.fi_parts.specs.Noticed.{phase_after}
-use Rattle.fi_parts.specs.Waiting.{Side, Waiting, phase_of, is_registered, may_be_named, noticed, IsOrdered, AreSound}
-use Rattle.fi_parts.proofs.Waiting.{ordered_by, Becomes, becomes-made, becomes-with_phase, becomes-forgotten, phase-emptied, noticed_phase, lives_as, notices, live_if_registered, unregistered, first_registered, ordered-next, registered_rule}
-use Rattle.fi_parts.proofs.Sound.{sound-made, sound-ended, sound-registered, sound-stays, sound-forgotten, sound-drop, sound-emptied, sound_by-without_place}
-use Rattle.fi_parts.specs.Order.{without}
-use Rattle.fi_parts.specs.Pairs.{without_pair}
-use Rattle.fi_parts.proofs.Queues.{holds-without_same, holds-without_other, Apart-without_one, has-without_same}
-use Rattle.fi_parts.proofs.Pairs.{has-without, PairsApart-without}
-use Rattle.fi_parts.specs.Effects.{WaiterEffect, TakesEffect, oldest_notified}
-use Rattle.fi_parts.specs.Effects.WaiterEffect.{NoChange, Inserts, Registers, KeepsWaiting, Ends, EndsRegistered, Removes, NotifiesOldest, NotifiesAll, PopsOldest, AndThen}
-use Rattle.fi_parts.specs.Machine.{AllowsBasics, AllowsEffect}
+use Rattle.fi_parts.specs.Order.{holds}
+use Rattle.fi_parts.specs.Places.{IsPlaceRule, IsUntold}
+use Rattle.fi_parts.specs.Waiting.{Side, Waiting, phase_of, is_registered, may_be_named, IsOrderedBy, AreSoundBy}
+use Rattle.fi_parts.proofs.Waiting.{Becomes, becomes-made, becomes-with_phase, becomes-forgotten, noticed_phase, lives_as, notices}
+use Rattle.fi_parts.proofs.Waiting.{live_if_registered}
+use Rattle.fi_parts.proofs.Notified.{AllBecome, MayNotify, may_notify-front, may_notify-listed, may_notify-none}
+use Rattle.fi_parts.proofs.Notified.{notified-none, notified-one, phases-notified}
+use Rattle.fi_parts.proofs.Sound.{sound_by-made, sound_by-ended, sound_by-registered, sound_by-registered_apart, sound_by-stays}
+use Rattle.fi_parts.proofs.Sound.{sound_by-forgotten, sound_by-drop, sound_by-without_place, sound_by-notified}
+use Rattle.fi_parts.specs.Effects.{WaiterEffect, TakesEffect, oldest_notified, notified}
+use Rattle.fi_parts.specs.Effects.WaiterEffect.{NoChange, Inserts, Registers, RegistersApart, KeepsWaiting, Ends, EndsPlaced, Removes}
+use Rattle.fi_parts.specs.Effects.WaiterEffect.{NotifiesOldest, NotifiesAll, NotifiesListed, NotifiesFront, PopsOldest, AndThen}
+use Rattle.fi_parts.specs.Machine.{AllowsBasics, AllowsEffect, Given}
 
 module _ {W : Type 0} where
   pub some_phase : (p : Option (Phase W)) → may_be_named p ≡ true → (phase : Phase W) × (p ≡ Some phase)
@@ -30,121 +35,290 @@ module _ {W : Type 0} where
   registered_as (Some Complete) is = absurd (both_ways false refl is)
   registered_as (Some Ended) is = absurd (both_ways false refl is)
 
+module _ {W : Type 0} (place : Option (Phase W) → Bool) (rule : IsPlaceRule place) where
+  -- who may be named has no place, unless it is told and the told have places
+  unplaced : (p : Option (Phase W)) → may_be_named p ≡ true → IsUntold (place (Some Told)) p → place p ≡ false
+  unplaced None may untold = rule.none
+  unplaced (Some Fresh) may untold = rule.fresh
+  unplaced (Some (Registered w)) may untold = absurd (both_ways false refl may)
+  unplaced (Some Told) may untold = each (place (Some Told)) untold
+    where
+      each : (b : Bool) → IsUntold {W = W} b (Some Told) → b ≡ false
+      each false told = refl
+      each true told = absurd (both_ways _ told refl)
+  unplaced (Some Complete) may untold = rule.complete
+  unplaced (Some Ended) may untold = rule.ended
+
+  -- where the registered have places, and the told have none
+  noticed_by_place : (phase : Phase W) (p now : Option (Phase W)) → rule.waiting ≡ true → place (Some Told) ≡ false →
+      (place p ≡ true → now ≡ Some phase) → (place p ≡ false → now ≡ p) → now ≡ noticed_phase phase p
+  noticed_by_place phase None now waiting told at off = off rule.none
+  noticed_by_place phase (Some Fresh) now waiting told at off = off rule.fresh
+  noticed_by_place phase (Some (Registered w)) now waiting told at off = at (rule.registered w ∙ waiting)
+  noticed_by_place phase (Some Told) now waiting told at off = off told
+  noticed_by_place phase (Some Complete) now waiting told at off = off rule.complete
+  noticed_by_place phase (Some Ended) now waiting told at off = off rule.ended
+
+  unplaced_after : (notice : Notice) → place (Some Told) ≡ false → place (Some (phase_after notice)) ≡ false
+  unplaced_after Tell told = told
+  unplaced_after Renew told = rule.fresh
+
+given : {X : Type 0} (b : Bool) → Given b X → (b ≡ true) × X
+given true x = (refl, x)
+given false x = absurd x
+
+is_false : (b : Bool) → not b ≡ true → b ≡ false
+is_false true e = absurd (both_ways false refl e)
+is_false false e = refl
+
+-- the first, if there is one
+abbrev pub first_of : List ℕ → List ℕ
+first_of [] = []
+first_of (name ∷ others) = name ∷ []
+
 module _ {D W : Type 0} where
   -- the phase of each name after an effect
   abbrev pub After : WaiterEffect D W → Waiting D W → Waiting D W → Type 0
   After NoChange old new = (q : ℕ) → phase_of new.side q ≡ phase_of old.side q
   After (Inserts name asks) old new = Becomes old.side new.side name (Some Fresh)
   After (Registers name waker) old new = Becomes old.side new.side name (Some (Registered waker))
+  After (RegistersApart name waker) old new = Becomes old.side new.side name (Some (Registered waker))
   After (KeepsWaiting name waker) old new = Becomes old.side new.side name (Some (Registered waker))
   After (Ends name) old new = Becomes old.side new.side name (Some Ended)
-  After (EndsRegistered name) old new = Becomes old.side new.side name (Some Ended)
+  After (EndsPlaced name) old new = Becomes old.side new.side name (Some Ended)
   After (Removes name) old new = Becomes old.side new.side name None
-  After (NotifiesOldest notice) old new = (q : ℕ) → (phase_of new.side q ≡ phase_of old.side q) ⊎ (phase_of new.side q ≡ Some (phase_after notice))
+  After (NotifiesOldest notice) old new =
+      (q : ℕ) → (phase_of new.side q ≡ phase_of old.side q) ⊎ (phase_of new.side q ≡ Some (phase_after notice))
   After (NotifiesAll notice) old new = (q : ℕ) → phase_of new.side q ≡ noticed_phase (phase_after notice) (phase_of old.side q)
+  After (NotifiesListed notice names) old new = AllBecome old.side new.side names (phase_after notice)
+  After (NotifiesFront keeps front) old new = AllBecome old.side new.side front Told
   After (PopsOldest waker) old new = (q : ℕ) → phase_of new.side q ≡ phase_of old.side q
   After (AndThen one other) old new = (mid : Waiting D W) × After one old mid × After other mid new
 
-  to : (old new is : Waiting D W) (name : ℕ) (phase : Option (Phase W)) → new ≡ is → Becomes old.side is.side name phase → Becomes old.side new.side name phase
+  to : (old new is : Waiting D W) (name : ℕ) (phase : Option (Phase W)) → new ≡ is → Becomes old.side is.side name phase →
+      Becomes old.side new.side name phase
   to old new is name phase same b = subst (λ (w : Waiting D W). Becomes old.side w.side name phase) (sym same) b
 
   same_phases : (old new is : Waiting D W) → new ≡ is → is.side ≡ old.side → (q : ℕ) → phase_of new.side q ≡ phase_of old.side q
   same_phases old new is same sides q = ap (λ (w : Waiting D W). phase_of w.side q) same ∙ ap (λ (s : Side D W). phase_of s q) sides
 
-  oldest_after : (notice : Notice) (names : List ℕ) (old new : Waiting D W) → IsOrdered old.side old.out → old.side.queue ≡ names → new ≡ oldest_notified (phase_after notice) names old →
-      (q : ℕ) → (phase_of new.side q ≡ phase_of old.side q) ⊎ (phase_of new.side q ≡ Some (phase_after notice))
-  oldest_after notice [] old new was queue is q = inl (same_phases old new old is refl q)
-  oldest_after notice (n ∷ others) old new was queue is q =
-      let b = becomes-with_phase old.side n (phase_after notice) others (live_if_registered old.side n (first_registered old.side old.out n others was queue)) in
-      let now : phase_of new.side q ≡ phase_of (noticed (phase_after notice) old.side n others) q = ap (λ (w : Waiting D W). phase_of w.side q) is in
-      elim (cases_eq q n) [
-        | inl same ↦ inr (now ∙ ap (phase_of (noticed (phase_after notice) old.side n others)) same ∙ b.here)
-        | inr ne ↦ inl (now ∙ b.others q ne)
-      ]
+-- A notice: these names have this phase now, and this is the queue.
+pub record AreNotified {D W : Type 0} (place known : Option (Phase W) → Bool) (phase : Phase W) (names : List ℕ)
+    (old new : Waiting D W) : Type 0 where
+  pub queue : List ℕ
+  pub is_known : known (Some phase) ≡ true
+  pub may_be : may_be_named (Some phase) ≡ true
+  pub may : MayNotify place phase names queue old
+  pub is : new ≡ notified phase names queue old
 
-  pub oldest_ordered : (notice : Notice) (names : List ℕ) (old : Waiting D W) → IsOrdered old.side old.out → old.side.queue ≡ names →
-      IsOrdered (oldest_notified (phase_after notice) names old).side (oldest_notified (phase_after notice) names old).out
-  oldest_ordered notice [] old was queue = was
-  oldest_ordered notice (n ∷ others) old was queue = ordered-next (phase_after notice) old n others (notices W notice) was queue
+module _ {D W : Type 0} (place known : Option (Phase W) → Bool) where
+  pub notified_after : (phase : Phase W) (names : List ℕ) (old new : Waiting D W) → AreNotified place known phase names old new →
+      AllBecome old.side new.side names phase
+  notified_after phase names old new did =
+      subst (λ (w : Waiting D W). AllBecome old.side w.side names phase) (sym did.is)
+      (phases-notified place phase names did.queue old did.may)
 
-  module _ (known : Option (Phase W) → Bool) (knows : AllowsBasics known) where
+module _ {D W : Type 0} {place : Option (Phase W) → Bool} (rule : IsPlaceRule place) (known : Option (Phase W) → Bool) where
+  -- a front of the queue, which it leaves
+  leaving : (phase : Phase W) (front rest : List ℕ) (old new : Waiting D W) → known (Some phase) ≡ true → may_be_named (Some phase) ≡ true →
+      place (Some phase) ≡ false → IsOrderedBy place old.side old.out → old.side.queue ≡ front ++ rest →
+      new ≡ notified phase front rest old → AreNotified place known phase front old new
+  leaving phase front rest old new is may off was split did = record {
+    queue = rest;
+    is_known = is;
+    may_be = may;
+    may = may_notify-front place rule phase false front rest old off was split;
+    is = did;
+  }
+
+  oldest_by : (phase : Phase W) (names : List ℕ) (old new : Waiting D W) → known (Some phase) ≡ true → may_be_named (Some phase) ≡ true →
+      place (Some phase) ≡ false → IsOrderedBy place old.side old.out → old.side.queue ≡ names →
+      new ≡ oldest_notified phase names old → AreNotified place known phase (first_of names) old new
+  oldest_by phase [] old new is may off was queue did = record {
+    queue = old.side.queue;
+    is_known = is;
+    may_be = may;
+    may = may_notify-none place rule phase old was;
+    is = did ∙ sym (notified-none phase old);
+  }
+  oldest_by phase (n ∷ others) old new is may off was queue did =
+      leaving phase (n ∷ []) others old new is may off was queue (did ∙ notified-one phase n others old)
+
+  pub oldest_are : (notice : Notice) (old new : Waiting D W) → AllowsEffect rule known old (NotifiesOldest notice) →
+      IsOrderedBy place old.side old.out → TakesEffect (NotifiesOldest notice) old new →
+      AreNotified place known (phase_after notice) (first_of old.side.queue) old new
+  oldest_are notice old new allows was taken =
+      let can = and_parts _ _ allows in
+      oldest_by (phase_after notice) old.side.queue old new can.0 (notices W notice) (is_false _ can.1) was refl taken
+
+  -- the registered have places, and the told have none
+  pub queues : (notice : Notice) (old : Waiting D W) → AllowsEffect rule known old (NotifiesAll notice) →
+      (rule.waiting ≡ true) × (place (Some Told) ≡ false)
+  queues notice old allows = let can = and_parts _ _ (and_parts _ _ allows).1 in (can.0, is_false _ can.1)
+
+  pub all_are : (notice : Notice) (old new : Waiting D W) → AllowsEffect rule known old (NotifiesAll notice) →
+      IsOrderedBy place old.side old.out → TakesEffect (NotifiesAll notice) old new →
+      AreNotified place known (phase_after notice) old.side.queue old new
+  all_are notice old new allows was taken =
+      leaving (phase_after notice) old.side.queue [] old new (and_parts _ _ allows).0 (notices W notice)
+      (unplaced_after place rule notice (queues notice old allows).1) was (sym (append-nil old.side.queue)) taken
+
+  pub listed_are : (notice : Notice) (names : List ℕ) (old new : Waiting D W) → AllowsEffect rule known old (NotifiesListed notice names) →
+      IsOrderedBy place old.side old.out → TakesEffect (NotifiesListed notice names) old new →
+      AreNotified place known (phase_after notice) names old new
+  listed_are notice names old new allows was taken =
+      let can = and_parts _ _ (and_parts _ _ allows).1 in
+      record {
+        queue = old.side.queue;
+        is_known = (and_parts _ _ allows).0;
+        may_be = notices W notice;
+        may = may_notify-listed place rule (phase_after notice) names old (is_false _ can.1) (is_false _ can.0) was taken.0;
+        is = taken.1;
+      }
+
+  pub front_are : (keeps : Bool) (front : List ℕ) (old new : Waiting D W) → AllowsEffect rule known old (NotifiesFront keeps front) →
+      IsOrderedBy place old.side old.out → TakesEffect (NotifiesFront keeps front) old new →
+      AreNotified place known Told front old new
+  front_are keeps front old new allows was taken = record {
+    queue = if keeps then old.side.queue else taken.0;
+    is_known = allows.0;
+    may_be = refl;
+    may = may_notify-front place rule Told keeps front taken.0 old allows.1 was taken.1;
+    is = taken.2;
+  }
+
+  all_after : (notice : Notice) (old new : Waiting D W) → AllowsEffect rule known old (NotifiesAll notice) →
+      IsOrderedBy place old.side old.out →
+      TakesEffect (NotifiesAll notice) old new → After (NotifiesAll notice) old new
+  all_after notice old new allows was taken q =
+      let now = notified_after place known (phase_after notice) old.side.queue old new (all_are notice old new allows was taken) in
+      noticed_by_place place rule (phase_after notice) (phase_of old.side q) (phase_of new.side q) (queues notice old allows).0
+      (queues notice old allows).1 (λ has. now.these q (was.queued q ∙ has)) (λ off. now.others q (was.queued q ∙ off))
+
+  module _ (knows : AllowsBasics known) where
     abbrev IsSound : Waiting D W → Type 0
-    IsSound w = AreSound known w.side w.out
+    IsSound w = AreSoundBy place known w.side w.out
 
     by : (new is : Waiting D W) → new ≡ is → IsSound is → IsSound new
     by new is same sound = subst IsSound (sym same) sound
 
-    oldest_sound : (notice : Notice) (old new : Waiting D W) → known (Some (phase_after notice)) ≡ true → IsSound old → new ≡ oldest_notified (phase_after notice) old.side.queue old → IsSound new
-    oldest_sound notice old new is was effect = record {
-      ordered = subst (λ (w : Waiting D W). IsOrdered w.side w.out) (sym effect) (oldest_ordered notice old.side.queue old was.ordered refl);
-      only = λ q. elim (oldest_after notice old.side.queue old new was.ordered refl effect q) [ inl same ↦ ap known same ∙ was.only q | inr now ↦ ap known now ∙ is ];
-    }
+    notified_sound : (phase : Phase W) (names : List ℕ) (old new : Waiting D W) → IsSound old →
+        AreNotified place known phase names old new →
+        IsSound new
+    notified_sound phase names old new was did =
+        by new _ did.is (sound_by-notified place rule known phase names did.queue old did.may_be did.is_known was did.may)
 
     -- An effect keeps the queue and out in order.
-    pub effect_sound : (effect : WaiterEffect D W) (old new : Waiting D W) → AllowsEffect known effect → IsSound old → TakesEffect effect old new → IsSound new
+    pub effect_sound : (effect : WaiterEffect D W) (old new : Waiting D W) → AllowsEffect rule known old effect → IsSound old →
+        TakesEffect effect old new → IsSound new
     effect_sound NoChange old new is was taken = by new old taken was
-    effect_sound (Inserts name asks) old new is was taken = by new _ taken.1 (sound-made known old.side old.out name asks knows.fresh was taken.0)
+    effect_sound (Inserts name asks) old new is was taken =
+        by new _ taken.1 (sound_by-made place rule known old.side old.out name asks knows.fresh was taken.0)
     effect_sound (Registers name waker) old new is was taken =
         let p = some_phase (phase_of old.side name) taken.0 in
-        by new _ taken.1 (sound-registered known old.side old.out name waker p.0 (knows.registered waker) was p.1 (sym (ap is_registered p.1) ∙ unregistered (phase_of old.side name) taken.0))
+        let can = given (place (Some (Registered waker))) is in
+        by new _ taken.1 (sound_by-registered place rule known old.side old.out name waker p.0 can.0 (knows.registered waker) was p.1
+        (sym (ap place p.1) ∙ unplaced place rule (phase_of old.side name) taken.0 can.1))
+    effect_sound (RegistersApart name waker) old new is was taken =
+        let p = some_phase (phase_of old.side name) taken.0 in
+        let can = given (not (place (Some (Registered waker)))) is in
+        by new _ taken.1 (sound_by-registered_apart place rule known old.side old.out name waker p.0 (is_false _ can.0)
+        (knows.registered waker) was p.1 (sym (ap place p.1) ∙ unplaced place rule (phase_of old.side name) taken.0 can.1))
     effect_sound (KeepsWaiting name waker) old new is was taken =
         let p = registered_as (phase_of old.side name) taken.0 in
-        by new _ taken.1 (sound-stays known old.side old.out name waker p.0 (knows.registered waker) was p.1)
+        by new _ taken.1 (sound_by-stays place rule known old.side old.out name waker p.0 (knows.registered waker) was p.1)
     effect_sound (Ends name) old new is was taken =
         let p = some_phase (phase_of old.side name) taken.0 in
-        by new _ taken.1 (sound-ended known old.side old.out name p.0 knows.ended was p.1 (sym (ap is_registered p.1) ∙ unregistered (phase_of old.side name) taken.0))
-    effect_sound (EndsRegistered name) old new is was taken =
-        let p = registered_as (phase_of old.side name) taken.0 in
-        by new _ taken.1 (sound_by-without_place is_registered registered_rule known old.side old.out name (Registered p.0) knows.ended was p.1)
-    effect_sound (Removes name) old new is was taken = by new _ taken.1 (sound-forgotten known old.side old.out name knows.gone was)
-    effect_sound (NotifiesOldest notice) old new is was taken = oldest_sound notice old new is was taken
-    effect_sound (NotifiesAll notice) old new is was taken = by new _ taken (sound-emptied known (phase_after notice) old.side old.out is (notices W notice) was)
-    effect_sound (PopsOldest waker) old new is was taken = by new _ taken.1 (sound-drop known old.side old.out was)
-    effect_sound (AndThen one other) old new is was taken = effect_sound other taken.0 new is.1 (effect_sound one old taken.0 is.0 was taken.1) taken.2
+        by new _ taken.1 (sound_by-ended place rule known old.side old.out name p.0 knows.ended was p.1
+        (sym (ap place p.1) ∙ unplaced place rule (phase_of old.side name) taken.0 is))
+    effect_sound (EndsPlaced name) old new is was taken =
+        by new _ taken.1 (sound_by-without_place place rule known old.side old.out name knows.ended was taken.0)
+    effect_sound (Removes name) old new is was taken =
+        by new _ taken.1 (sound_by-forgotten place rule known old.side old.out name knows.gone was)
+    effect_sound (NotifiesOldest notice) old new is was taken =
+        notified_sound _ _ old new was (oldest_are notice old new is was.ordered taken)
+    effect_sound (NotifiesAll notice) old new is was taken = notified_sound _ _ old new was (all_are notice old new is was.ordered taken)
+    effect_sound (NotifiesListed notice names) old new is was taken =
+        notified_sound _ _ old new was (listed_are notice names old new is was.ordered taken)
+    effect_sound (NotifiesFront keeps front) old new is was taken =
+        notified_sound _ _ old new was (front_are keeps front old new is was.ordered taken)
+    effect_sound (PopsOldest waker) old new is was taken = by new _ taken.1 (sound_by-drop place rule known old.side old.out was)
+    effect_sound (AndThen one other) old new is was taken =
+        effect_sound other taken.0 new (is.1 taken.0 taken.1) (effect_sound one old taken.0 is.0 was taken.1) taken.2
 
-  -- The phase of each name after an effect. It needs the queue's order alone.
-  pub effect_after : (known : Option (Phase W) → Bool) → AllowsBasics known → (effect : WaiterEffect D W) (old new : Waiting D W) → AllowsEffect known effect → AreSound known old.side old.out → TakesEffect effect old new → After effect old new
-  effect_after known knows NoChange old new is was taken = same_phases old new old taken refl
-  effect_after known knows (Inserts name asks) old new is was taken = to old new _ name (Some Fresh) taken.1 (becomes-made old.side name asks)
-  effect_after known knows (Registers name waker) old new is was taken =
-      let p = some_phase (phase_of old.side name) taken.0 in
-      to old new _ name (Some (Registered waker)) taken.1 (becomes-with_phase old.side name (Registered waker) _ (lives_as old.side name p.0 p.1))
-  effect_after known knows (KeepsWaiting name waker) old new is was taken =
-      to old new _ name (Some (Registered waker)) taken.1 (becomes-with_phase old.side name (Registered waker) _ (live_if_registered old.side name taken.0))
-  effect_after known knows (Ends name) old new is was taken =
-      let p = some_phase (phase_of old.side name) taken.0 in
-      to old new _ name (Some Ended) taken.1 (becomes-with_phase old.side name Ended _ (lives_as old.side name p.0 p.1))
-  effect_after known knows (EndsRegistered name) old new is was taken =
-      to old new _ name (Some Ended) taken.1 (becomes-with_phase old.side name Ended _ (live_if_registered old.side name taken.0))
-  effect_after known knows (Removes name) old new is was taken = to old new _ name None taken.1 (becomes-forgotten old.side name)
-  effect_after known knows (NotifiesOldest notice) old new is was taken = oldest_after notice old.side.queue old new was.ordered refl taken
-  effect_after known knows (NotifiesAll notice) old new is was taken = λ q.
-      ap (λ (w : Waiting D W). phase_of w.side q) taken ∙ phase-emptied (phase_after notice) old.side old.out q was.ordered
-  effect_after known knows (PopsOldest waker) old new is was taken = same_phases old new _ taken.1 refl
-  effect_after known knows (AndThen one other) old new is was taken =
-      (taken.0, effect_after known knows one old taken.0 is.0 was taken.1, effect_after known knows other taken.0 new is.1 (effect_sound known knows one old taken.0 is.0 was taken.1) taken.2)
+    -- The phase of each name after an effect.
+    pub effect_after : (effect : WaiterEffect D W) (old new : Waiting D W) → AllowsEffect rule known old effect → IsSound old →
+        TakesEffect effect old new → After effect old new
+    effect_after NoChange old new is was taken = same_phases old new old taken refl
+    effect_after (Inserts name asks) old new is was taken = to old new _ name (Some Fresh) taken.1 (becomes-made old.side name asks)
+    effect_after (Registers name waker) old new is was taken =
+        let p = some_phase (phase_of old.side name) taken.0 in
+        to old new _ name (Some (Registered waker)) taken.1
+        (becomes-with_phase old.side name (Registered waker) _ (lives_as old.side name p.0 p.1))
+    effect_after (RegistersApart name waker) old new is was taken =
+        let p = some_phase (phase_of old.side name) taken.0 in
+        to old new _ name (Some (Registered waker)) taken.1
+        (becomes-with_phase old.side name (Registered waker) _ (lives_as old.side name p.0 p.1))
+    effect_after (KeepsWaiting name waker) old new is was taken =
+        to old new _ name (Some (Registered waker)) taken.1
+        (becomes-with_phase old.side name (Registered waker) _ (live_if_registered old.side name taken.0))
+    effect_after (Ends name) old new is was taken =
+        let p = some_phase (phase_of old.side name) taken.0 in
+        to old new _ name (Some Ended) taken.1 (becomes-with_phase old.side name Ended _ (lives_as old.side name p.0 p.1))
+    effect_after (EndsPlaced name) old new is was taken =
+        to old new _ name (Some Ended) taken.1 (becomes-with_phase old.side name Ended _ taken.0)
+    effect_after (Removes name) old new is was taken = to old new _ name None taken.1 (becomes-forgotten old.side name)
+    effect_after (NotifiesOldest notice) old new is was taken = λ q.
+        let now = notified_after place known _ _ old new (oldest_are notice old new is was.ordered taken) in
+        elim (cases_Bool (holds q (first_of old.side.queue))) [ inl at ↦ inr (now.these q at) | inr off ↦ inl (now.others q off) ]
+    effect_after (NotifiesAll notice) old new is was taken = all_after notice old new is was.ordered taken
+    effect_after (NotifiesListed notice names) old new is was taken =
+        notified_after place known _ names old new (listed_are notice names old new is was.ordered taken)
+    effect_after (NotifiesFront keeps front) old new is was taken =
+        notified_after place known Told front old new (front_are keeps front old new is was.ordered taken)
+    effect_after (PopsOldest waker) old new is was taken = same_phases old new _ taken.1 refl
+    effect_after (AndThen one other) old new is was taken = (
+      taken.0,
+      effect_after one old taken.0 is.0 was taken.1,
+      effect_after other taken.0 new (is.1 taken.0 taken.1) (effect_sound one old taken.0 is.0 was taken.1) taken.2,
+    )
 
+module _ {D W : Type 0} where
   -- the effects that a poll of this name may have
   abbrev pub IsOf : ℕ → WaiterEffect D W → Type 0
   IsOf name (Registers other waker) = name ≡ other
+  IsOf name (RegistersApart other waker) = name ≡ other
   IsOf name (KeepsWaiting other waker) = name ≡ other
   IsOf name (Ends other) = name ≡ other
-  IsOf name (EndsRegistered other) = name ≡ other
+  IsOf name (EndsPlaced other) = name ≡ other
   IsOf name effect = ⊥
 
+  lives_then : (old new is : Waiting D W) (name other : ℕ) (phase : Phase W) → name ≡ other → new ≡ is →
+      Becomes old.side is.side other (Some phase) → is_some (phase_of new.side name) ≡ true
+  lives_then old new is name other phase same taken b =
+      ap (λ n. is_some (phase_of new.side n)) same ∙ ap is_some (to old new is other (Some phase) taken b).here
+
   -- Who was polled lives, and who was made is fresh.
-  pub polled_lives : (effect : WaiterEffect D W) (old new : Waiting D W) (name : ℕ) → IsOf name effect → TakesEffect effect old new → is_some (phase_of new.side name) ≡ true
+  pub polled_lives : (effect : WaiterEffect D W) (old new : Waiting D W) (name : ℕ) → IsOf name effect → TakesEffect effect old new →
+      is_some (phase_of new.side name) ≡ true
   polled_lives (Registers other waker) old new name same taken =
       let p = some_phase (phase_of old.side other) taken.0 in
-      ap (λ n. is_some (phase_of new.side n)) same ∙ ap is_some (to old new _ other (Some (Registered waker)) taken.1 (becomes-with_phase old.side other (Registered waker) _ (lives_as old.side other p.0 p.1))).here
+      lives_then old new _ name other (Registered waker) same taken.1
+      (becomes-with_phase old.side other (Registered waker) _ (lives_as old.side other p.0 p.1))
+  polled_lives (RegistersApart other waker) old new name same taken =
+      let p = some_phase (phase_of old.side other) taken.0 in
+      lives_then old new _ name other (Registered waker) same taken.1
+      (becomes-with_phase old.side other (Registered waker) _ (lives_as old.side other p.0 p.1))
   polled_lives (KeepsWaiting other waker) old new name same taken =
-      ap (λ n. is_some (phase_of new.side n)) same ∙ ap is_some (to old new _ other (Some (Registered waker)) taken.1 (becomes-with_phase old.side other (Registered waker) _ (live_if_registered old.side other taken.0))).here
+      lives_then old new _ name other (Registered waker) same taken.1
+      (becomes-with_phase old.side other (Registered waker) _ (live_if_registered old.side other taken.0))
   polled_lives (Ends other) old new name same taken =
       let p = some_phase (phase_of old.side other) taken.0 in
-      ap (λ n. is_some (phase_of new.side n)) same ∙ ap is_some (to old new _ other (Some Ended) taken.1 (becomes-with_phase old.side other Ended _ (lives_as old.side other p.0 p.1))).here
-  polled_lives (EndsRegistered other) old new name same taken =
-      ap (λ n. is_some (phase_of new.side n)) same ∙ ap is_some (to old new _ other (Some Ended) taken.1 (becomes-with_phase old.side other Ended _ (live_if_registered old.side other taken.0))).here
+      lives_then old new _ name other Ended same taken.1 (becomes-with_phase old.side other Ended _ (lives_as old.side other p.0 p.1))
+  polled_lives (EndsPlaced other) old new name same taken =
+      lives_then old new _ name other Ended same taken.1 (becomes-with_phase old.side other Ended _ taken.0)
   polled_lives effect old new name same taken = absurd same
 
-  pub added_fresh : (old new : Waiting D W) (name : ℕ) (asks : D) → TakesEffect (Inserts name asks) old new → phase_of new.side name ≡ Some Fresh
+  pub added_fresh : (old new : Waiting D W) (name : ℕ) (asks : D) → TakesEffect (Inserts name asks) old new →
+      phase_of new.side name ≡ Some Fresh
   added_fresh old new name asks taken = (to old new _ name (Some Fresh) taken.1 (becomes-made old.side name asks)).here

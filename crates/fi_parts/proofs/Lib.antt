@@ -20,6 +20,7 @@ pub mod Waiting
 pub mod Tied
 pub mod Lines
 pub mod Stores
+pub mod Notified
 pub mod Told
 pub mod Sound
 pub mod Sides

@@ -1,25 +1,31 @@
 -- What each line of a machine's table keeps.
 use Rattle.std.specs.Prelude.{◌≡◌, ◌≢◌, ℕ, ◌==◌, if◌then◌else◌, true, false, Option, Some, None, List, [], ◌∷◌, refl}
 use Rattle.std.proofs.Common.{sym, ◌∙◌, ap, inl, inr, is_some}
-use Rattle.std.proofs.lemmas.Bool.{both_ways, cases_eq, eq-eqb, ne_eqb}
+use Rattle.std.proofs.lemmas.Bool.{both_ways, cases_eq, cases_Bool, eq-eqb, ne_eqb}
 use Rattle.std.specs.Ordering.{nat_cmp}
 use Rattle.std.specs.FinMap as map
 use Rattle.futures.specs.declared.task.Poll.{Poll}
 use Rattle.futures.specs.declared.task.Poll.TheVariants.{Ready, Pending}
 use Rattle.fi_parts.specs.declared.phase.Phase.{Phase}
 use Rattle.fi_parts.specs.declared.phase.Phase.TheVariants.{Fresh, Registered, Told, Complete, Ended}
+use Rattle.fi_parts.specs.declared.phase.Notice.{Notice}
 use Rattle.fi_parts.specs.Noticed.{phase_after}
-use Rattle.fi_parts.specs.Waiting.{Side, Waiting, phase_of, phase_in, asks_of, asks_in, is_registered, may_be_named, no_futures, made, forgotten, AreSound}
-use Rattle.fi_parts.proofs.Waiting.{Becomes, noticed_phase, notices, unregistered, asks-with_phase, asks-with_phases}
-use Rattle.fi_parts.proofs.Sound.{sound-empty}
+use Rattle.fi_parts.specs.Order.{holds}
+use Rattle.fi_parts.specs.Waiting.{Side, Waiting, phase_of, phase_in, asks_of, asks_in, is_registered, no_futures, made, forgotten}
+use Rattle.fi_parts.specs.Waiting.{IsOrderedBy, AreSoundBy}
+use Rattle.fi_parts.proofs.Waiting.{Becomes, noticed_phase, placed, unregistered, asks-with_phase, asks-with_phases}
+use Rattle.fi_parts.proofs.Sound.{sound_by-empty}
 use Rattle.fi_parts.proofs.FiniteMaps.{get-insert_same, get-insert_other, get-remove_same, get-remove_other}
 use Rattle.fi_parts.specs.WakerHistory.{WakerEffect, gives}
 use Rattle.fi_parts.specs.WakerHistory.WakerEffect.{Leaves, NoEffect}
 use Rattle.fi_parts.proofs.PairsWithin.{if_true, if_false}
 use Rattle.fi_parts.specs.Effects.{WaiterEffect, TakesEffect, oldest_notified}
-use Rattle.fi_parts.specs.Effects.WaiterEffect.{NoChange, Inserts, Registers, KeepsWaiting, Ends, EndsRegistered, Removes, NotifiesOldest, NotifiesAll, PopsOldest, AndThen}
-use Rattle.fi_parts.specs.Machine.{Machine, phase_at, initial, StepsTo, HasSoundWaiters, AllLack, AllowsEffect, LacksAfter, StillLacks, waker_effect, WaiterRules, Line, poll_effect, PollLine}
-use Rattle.fi_parts.proofs.Effects.{After, effect_after, effect_sound, polled_lives, added_fresh}
+use Rattle.fi_parts.specs.Effects.WaiterEffect.{NoChange, Inserts, Registers, RegistersApart, KeepsWaiting, Ends, EndsPlaced, Removes}
+use Rattle.fi_parts.specs.Effects.WaiterEffect.{NotifiesOldest, NotifiesAll, NotifiesListed, NotifiesFront, PopsOldest, AndThen}
+use Rattle.fi_parts.specs.Machine.{Machine, phase_at, initial, StepsTo, HasSoundWaitersBy, AllLack, AllowsEffect, LacksAfter, StillLacks}
+use Rattle.fi_parts.specs.Machine.{waker_effect, WaiterRules, Line, poll_effect, PollLine}
+use Rattle.fi_parts.proofs.Effects.{After, AreNotified, IsOf, effect_after, effect_sound, notified_after, queues, oldest_are, all_are}
+use Rattle.fi_parts.proofs.Effects.{listed_are, front_are, polled_lives, added_fresh}
 
 module _ {D W : Type 0} where
   -- one name changed: another is registered as before, and asks the same
@@ -29,7 +35,8 @@ module _ {D W : Type 0} where
   asks_forgotten : (side : Side D W) (name : ℕ) (q : ℕ) → q ≢ name → asks_of (forgotten side name) q ≡ asks_of side q
   asks_forgotten side name q ne = ap asks_in (get-remove_other side.live name q ne)
 
-  oldest_asks : (phase : Phase W) (names : List ℕ) (w : Waiting D W) (q : ℕ) → asks_of (oldest_notified phase names w).side q ≡ asks_of w.side q
+  oldest_asks : (phase : Phase W) (names : List ℕ) (w : Waiting D W) (q : ℕ) →
+      asks_of (oldest_notified phase names w).side q ≡ asks_of w.side q
   oldest_asks phase [] w q = refl
   oldest_asks phase (n ∷ others) w q = asks-with_phase w.side.live n phase q
 
@@ -37,7 +44,8 @@ module _ {D W : Type 0} where
   asks_to new is q same = ap (λ (w : Waiting D W). asks_of w.side q) same
 
   -- an unregistered phase is not that of one who is registered
-  pub not_so : (new : Side D W) (q : ℕ) (phase : Option (Phase W)) → phase_of new q ≡ phase → is_registered phase ≡ false → is_registered (phase_of new q) ≡ true → ⊥
+  not_so : (new : Side D W) (q : ℕ) (phase : Option (Phase W)) → phase_of new q ≡ phase → is_registered phase ≡ false →
+      is_registered (phase_of new q) ≡ true → ⊥
   not_so new q phase here apart is = both_ways (is_registered phase) apart (sym (ap is_registered here) ∙ is)
 
   -- what this name asks for after an effect
@@ -53,14 +61,16 @@ module _ {D W : Type 0} where
   asks_after NoChange old new did q = asks_to new old q did
   asks_after (Inserts name asks) old new did q = elim (cases_eq name q) [
     | inl same ↦ asks_to new _ q did.1 ∙ ap (asks_of (made old.side name asks)) (sym same)
-        ∙ ap asks_in (get-insert_same old.side.live name _) ∙ sym (if_true (name == q) (Some asks) (asks_of old.side q) (eq-eqb name q same))
+        ∙ ap asks_in (get-insert_same old.side.live name _) ∙ sym
+        (if_true (name == q) (Some asks) (asks_of old.side q) (eq-eqb name q same))
     | inr ne ↦ asks_to new _ q did.1 ∙ asks_made old.side name asks q (λ e. ne (sym e))
         ∙ sym (if_false (name == q) (Some asks) (asks_of old.side q) (ne_eqb name q ne))
   ]
   asks_after (Registers name waker) old new did q = asks_to new _ q did.1 ∙ asks-with_phase old.side.live name (Registered waker) q
+  asks_after (RegistersApart name waker) old new did q = asks_to new _ q did.1 ∙ asks-with_phase old.side.live name (Registered waker) q
   asks_after (KeepsWaiting name waker) old new did q = asks_to new _ q did.1 ∙ asks-with_phase old.side.live name (Registered waker) q
   asks_after (Ends name) old new did q = asks_to new _ q did.1 ∙ asks-with_phase old.side.live name Ended q
-  asks_after (EndsRegistered name) old new did q = asks_to new _ q did.1 ∙ asks-with_phase old.side.live name Ended q
+  asks_after (EndsPlaced name) old new did q = asks_to new _ q did.1 ∙ asks-with_phase old.side.live name Ended q
   asks_after (Removes name) old new did q = elim (cases_eq name q) [
     | inl same ↦ asks_to new _ q did.1 ∙ ap (asks_of (forgotten old.side name)) (sym same)
         ∙ ap asks_in (get-remove_same old.side.live name) ∙ sym (if_true (name == q) None (asks_of old.side q) (eq-eqb name q same))
@@ -69,91 +79,137 @@ module _ {D W : Type 0} where
   ]
   asks_after (NotifiesOldest notice) old new did q = asks_to new _ q did ∙ oldest_asks (phase_after notice) old.side.queue old q
   asks_after (NotifiesAll notice) old new did q = asks_to new _ q did ∙ asks-with_phases (phase_after notice) old.side.queue old.side.live q
+  asks_after (NotifiesListed notice names) old new did q =
+      asks_to new _ q did.1 ∙ asks-with_phases (phase_after notice) names old.side.live q
+  asks_after (NotifiesFront keeps front) old new did q = asks_to new _ q did.2 ∙ asks-with_phases Told front old.side.live q
   asks_after (PopsOldest waker) old new did q = asks_to new _ q did.1
   asks_after (AndThen one other) old new did q =
       asks_after other did.0 new did.2 q ∙ ap (asks_step other q) (asks_after one old did.0 did.1 q)
-
-module _ {W : Type 0} where
-  never_noticed : (phase : Phase W) (before : Option (Phase W)) → may_be_named (Some phase) ≡ true → is_registered (noticed_phase phase before) ≡ true → ⊥
-  never_noticed phase None may is = both_ways false refl is
-  never_noticed phase (Some Fresh) may is = both_ways false refl is
-  never_noticed phase (Some (Registered w)) may is = both_ways (is_registered (Some phase)) (unregistered (Some phase) may) is
-  never_noticed phase (Some Told) may is = both_ways false refl is
-  never_noticed phase (Some Complete) may is = both_ways false refl is
-  never_noticed phase (Some Ended) may is = both_ways false refl is
 
 module _ {S D W : Type 0} (rules : WaiterRules S D W) where
   abbrev Lack : S → Waiting D W → Type 0
   Lack own w = (q : ℕ) → is_registered (phase_of w.side q) ≡ true → rules.lacks own (asks_of w.side q)
 
-  -- who stands as before and asks as before
-  as_before : (old new : Waiting D W) (before after : S) → Lack before old → StillLacks rules.lacks before after → (q : ℕ) → phase_of new.side q ≡ phase_of old.side q → asks_of new.side q ≡ asks_of old.side q →
+  -- who has the phase that it had, and asks as before
+  as_before : (old new : Waiting D W) (before after : S) → Lack before old → StillLacks rules.lacks before after → (q : ℕ) →
+      phase_of new.side q ≡ phase_of old.side q → asks_of new.side q ≡ asks_of old.side q →
       is_registered (phase_of new.side q) ≡ true → rules.lacks after (asks_of new.side q)
-  as_before old new before after was still q phases asks is = rw asks (still (asks_of old.side q) (was q (sym (ap is_registered phases) ∙ is)))
+  as_before old new before after was still q phases asks is =
+      rw asks (still (asks_of old.side q) (was q (sym (ap is_registered phases) ∙ is)))
+
+  -- one name has another phase now, and isn't registered
+  lack_others : (old new : Waiting D W) (before after : S) (name : ℕ) (phase : Option (Phase W)) → is_registered phase ≡ false →
+      Becomes old.side new.side name phase → ((q : ℕ) → q ≢ name → asks_of new.side q ≡ asks_of old.side q) →
+      StillLacks rules.lacks before after → Lack before old → Lack after new
+  lack_others old new before after name phase off stand asks still was q now = elim (cases_eq q name) [
+    | inl same ↦ absurd (not_so new.side q phase (ap (phase_of new.side) same ∙ stand.here) off now)
+    | inr ne ↦ as_before old new before after was still q (stand.others q ne) (asks q ne) now
+  ]
+
+  -- one name registers
+  lack_one : (old new : Waiting D W) (before after : S) (name : ℕ) (phase : Option (Phase W)) → Becomes old.side new.side name phase →
+      ((q : ℕ) → asks_of new.side q ≡ asks_of old.side q) → rules.lacks after (asks_of old.side name) →
+      StillLacks rules.lacks before after → Lack before old → Lack after new
+  lack_one old new before after name phase stand asks lacks still was q now = elim (cases_eq q name) [
+    | inl same ↦ rw (asks q, same) lacks
+    | inr ne ↦ as_before old new before after was still q (stand.others q ne) (asks q) now
+  ]
+
+  -- Whoever of these names was registered is notified; who was not notified was registered before, and asks the same.
+  lack_notified : (phase : Phase W) (names : List ℕ) (old new : Waiting D W) (before after : S) →
+      AreNotified rules.place rules.phases phase names old new → ((q : ℕ) → asks_of new.side q ≡ asks_of old.side q) →
+      ((q : ℕ) → is_registered (phase_of old.side q) ≡ true → holds q names ≡ false → rules.lacks before (asks_of old.side q) →
+      rules.lacks after (asks_of old.side q)) → Lack before old → Lack after new
+  lack_notified phase names old new before after did asks still was q now =
+      let has_become = notified_after rules.place rules.phases phase names old new did in
+      elim (cases_Bool (holds q names)) [
+        | inl at ↦ absurd (not_so new.side q (Some phase) (has_become.these q at) (unregistered (Some phase) did.may_be) now)
+        | inr off ↦
+            let registered : is_registered (phase_of old.side q) ≡ true = sym (ap is_registered (has_become.others q off)) ∙ now in
+            rw (asks q) (still q registered off (was q registered))
+      ]
+
+  -- where the whole queue is notified, whoever is registered stands in it
+  all_queued : (notice : Notice) (old : Waiting D W) (q : ℕ) → AllowsEffect rules.places rules.phases old (NotifiesAll notice) →
+      IsOrderedBy rules.place old.side old.out → is_registered (phase_of old.side q) ≡ true → holds q old.side.queue ≡ false → ⊥
+  all_queued notice old q allows was is off =
+      both_ways (holds q old.side.queue) off
+      (was.queued q ∙ placed rules.place rules.places (phase_of old.side q) is ∙ (queues rules.places rules.phases notice old allows).0)
 
   -- Who is registered after an effect was so before, or is the one that it registers.
-  lack_after : (effect : WaiterEffect D W) (old new : Waiting D W) (before after : S) → AreSound rules.phases old.side old.out → AllowsEffect rules.phases effect → TakesEffect effect old new → After effect old new →
+  lack_after : (effect : WaiterEffect D W) (old new : Waiting D W) (before after : S) →
+      AreSoundBy rules.place rules.phases old.side old.out →
+      AllowsEffect rules.places rules.phases old effect → TakesEffect effect old new → After effect old new →
       LacksAfter rules.lacks before after old.side effect → Lack before old → Lack after new
-  lack_after NoChange old new before after sound is taken stand lack was q now = as_before old new before after was lack q (stand q) (asks_to new old q taken) now
-  lack_after (Inserts name asks) old new before after sound is taken stand lack was q now = elim (cases_eq q name) [
-    | inl same ↦ absurd (not_so new.side q (Some Fresh) (ap (phase_of new.side) same ∙ stand.here) refl now)
-    | inr ne ↦ as_before old new before after was lack q (stand.others q ne) (asks_to new _ q taken.1 ∙ asks_made old.side name asks q ne) now
-  ]
-  lack_after (Registers name waker) old new before after sound is taken stand lack was q now =
-      let asks : asks_of new.side q ≡ asks_of old.side q = asks_to new _ q taken.1 ∙ asks-with_phase old.side.live name (Registered waker) q in
-      elim (cases_eq q name) [
-        | inl same ↦ rw (asks, same) lack.0
-        | inr ne ↦ as_before old new before after was lack.1 q (stand.others q ne) asks now
-      ]
-  lack_after (KeepsWaiting name waker) old new before after sound is taken stand lack was q now =
-      let asks : asks_of new.side q ≡ asks_of old.side q = asks_to new _ q taken.1 ∙ asks-with_phase old.side.live name (Registered waker) q in
-      elim (cases_eq q name) [
-        | inl same ↦ rw asks (lack (asks_of old.side q) (was q (ap (λ n. is_registered (phase_of old.side n)) same ∙ taken.0)))
-        | inr ne ↦ as_before old new before after was lack q (stand.others q ne) asks now
-      ]
-  lack_after (Ends name) old new before after sound is taken stand lack was q now = elim (cases_eq q name) [
-    | inl same ↦ absurd (not_so new.side q (Some Ended) (ap (phase_of new.side) same ∙ stand.here) refl now)
-    | inr ne ↦ as_before old new before after was lack q (stand.others q ne) (asks_to new _ q taken.1 ∙ asks-with_phase old.side.live name Ended q) now
-  ]
-  lack_after (EndsRegistered name) old new before after sound is taken stand lack was q now = elim (cases_eq q name) [
-    | inl same ↦ absurd (not_so new.side q (Some Ended) (ap (phase_of new.side) same ∙ stand.here) refl now)
-    | inr ne ↦ as_before old new before after was lack q (stand.others q ne) (asks_to new _ q taken.1 ∙ asks-with_phase old.side.live name Ended q) now
-  ]
-  lack_after (Removes name) old new before after sound is taken stand lack was q now = elim (cases_eq q name) [
-    | inl same ↦ absurd (not_so new.side q None (ap (phase_of new.side) same ∙ stand.here) refl now)
-    | inr ne ↦ as_before old new before after was lack q (stand.others q ne) (asks_to new _ q taken.1 ∙ asks_forgotten old.side name q ne) now
-  ]
-  lack_after (NotifiesOldest notice) old new before after sound is taken stand lack was q now = elim (stand q) [
-    | inl same ↦ as_before old new before after was lack q same (asks_to new _ q taken ∙ oldest_asks (phase_after notice) old.side.queue old q) now
-    | inr here ↦ absurd (not_so new.side q (Some (phase_after notice)) here (unregistered (Some (phase_after notice)) (notices W notice)) now)
-  ]
-  lack_after (NotifiesAll notice) old new before after sound is taken stand lack was q now =
-      absurd (never_noticed (phase_after notice) (phase_of old.side q) (notices W notice) (sym (ap is_registered (stand q)) ∙ now))
-  lack_after (PopsOldest waker) old new before after sound is taken stand lack was q now = as_before old new before after was lack q (stand q) (asks_to new _ q taken.1) now
-  lack_after (AndThen one other) old new before after sound is taken stand lack was q now = lack (asks_of new.side q)
+  lack_after NoChange old new before after sound is did stand lack was = λ q now.
+      as_before old new before after was lack q (stand q) (asks_to new old q did) now
+  lack_after (Inserts name asks) old new before after sound is did stand lack was =
+      lack_others old new before after name (Some Fresh) refl stand
+      (λ q ne. asks_to new _ q did.1 ∙ asks_made old.side name asks q ne) lack was
+  lack_after (Registers name waker) old new before after sound is did stand lack was =
+      lack_one old new before after name _ stand (asks_after (Registers name waker) old new did) lack.0 lack.1 was
+  lack_after (RegistersApart name waker) old new before after sound is did stand lack was =
+      lack_one old new before after name _ stand (asks_after (RegistersApart name waker) old new did) lack.0 lack.1 was
+  lack_after (KeepsWaiting name waker) old new before after sound is did stand lack was =
+      lack_one old new before after name _ stand (asks_after (KeepsWaiting name waker) old new did)
+      (lack (asks_of old.side name) (was name did.0)) lack was
+  lack_after (Ends name) old new before after sound is did stand lack was =
+      lack_others old new before after name (Some Ended) refl stand (λ q ne. asks_after (Ends name) old new did q) lack was
+  lack_after (EndsPlaced name) old new before after sound is did stand lack was =
+      lack_others old new before after name (Some Ended) refl stand (λ q ne. asks_after (EndsPlaced name) old new did q) lack was
+  lack_after (Removes name) old new before after sound is did stand lack was =
+      lack_others old new before after name None refl stand (λ q ne. asks_to new _ q did.1 ∙ asks_forgotten old.side name q ne) lack was
+  lack_after (NotifiesOldest notice) old new before after sound is did stand lack was =
+      lack_notified _ _ old new before after (oldest_are rules.places rules.phases notice old new is sound.ordered did)
+      (asks_after (NotifiesOldest notice) old new did) (λ q was off. lack (asks_of old.side q)) was
+  lack_after (NotifiesAll notice) old new before after sound is did stand lack was =
+      lack_notified _ _ old new before after (all_are rules.places rules.phases notice old new is sound.ordered did)
+      (asks_after (NotifiesAll notice) old new did) (λ q was off lacked. absurd (all_queued notice old q is sound.ordered was off)) was
+  lack_after (NotifiesListed notice names) old new before after sound is did stand lack was =
+      lack_notified _ names old new before after (listed_are rules.places rules.phases notice names old new is sound.ordered did)
+      (asks_after (NotifiesListed notice names) old new did) lack was
+  lack_after (NotifiesFront keeps front) old new before after sound is did stand lack was =
+      lack_notified Told front old new before after (front_are rules.places rules.phases keeps front old new is sound.ordered did)
+      (asks_after (NotifiesFront keeps front) old new did) (λ q was off. lack (asks_of old.side q)) was
+  lack_after (PopsOldest waker) old new before after sound is did stand lack was = λ q now.
+      as_before old new before after was lack q (stand q) (asks_to new _ q did.1) now
+  lack_after (AndThen one other) old new before after sound is did stand lack was = λ q now. lack (asks_of new.side q)
 
   abbrev pub Holds : Machine S D W → Type 0
-  Holds machine = HasSoundWaiters rules.phases machine × AllLack rules.lacks machine
+  Holds machine = HasSoundWaitersBy rules.place rules.phases machine × AllLack rules.lacks machine
 
   -- A machine's line keeps it sound, and no wake is owed after it.
   pub line_preserves : {on_wakers : WakerEffect W} (old new : Machine S D W) → Line rules on_wakers old new → Holds old → Holds new
-  line_preserves old new was_line was =
-      let lack : Lack was_line.own new.waiting = lack_after was_line.effect old.waiting new.waiting old.own was_line.own was.0 was_line.knows was_line.steps.1 (effect_after rules.phases rules.known was_line.effect old.waiting new.waiting was_line.knows was.0 was_line.steps.1) was_line.lack was.1 in
-      (effect_sound rules.phases rules.known was_line.effect old.waiting new.waiting was_line.knows was.0 was_line.steps.1, rw was_line.steps.0 lack)
+  line_preserves old new line was =
+      let now = effect_after rules.places rules.phases rules.known line.effect old.waiting new.waiting line.allows was.0 line.steps.1 in
+      let lack : Lack line.own new.waiting =
+      lack_after line.effect old.waiting new.waiting old.own line.own was.0 line.allows line.steps.1 now line.lack was.1 in (
+        effect_sound rules.places rules.phases rules.known line.effect old.waiting new.waiting line.allows was.0 line.steps.1,
+        rw line.steps.0 lack,
+      )
 
   pub initial_holds : (own : S) → Holds (initial own)
-  initial_holds own = (sound-empty rules.phases rules.known.gone, λ q is. absurd (not_so no_futures q None (ap phase_in (map.get-empty nat_cmp q)) refl is))
+  initial_holds own = (
+    sound_by-empty rules.place rules.places rules.phases rules.known.gone,
+    λ q is. absurd (not_so no_futures q None (ap phase_in (map.get-empty nat_cmp q)) refl is),
+  )
 
   -- The lines of a table.
-  pub line : (own : S) (effect : WaiterEffect D W) (old new : Machine S D W) → StepsTo old own effect new → AllowsEffect rules.phases effect → LacksAfter rules.lacks old.own own old.waiting.side effect → Line rules (waker_effect effect) old new
-  line own effect old new steps is lack = record { own = own; effect = effect; steps = steps; knows = is; lack = lack; effect_is = refl }
+  pub line : (own : S) (effect : WaiterEffect D W) (old new : Machine S D W) → StepsTo old own effect new →
+      AllowsEffect rules.places rules.phases old.waiting effect → LacksAfter rules.lacks old.own own old.waiting.side effect →
+      Line rules (waker_effect effect) old new
+  line own effect old new steps allows lack =
+      record { own = own; effect = effect; steps = steps; allows = allows; lack = lack; effect_is = refl }
 
   -- a call that changed nothing
   pub unchanged : (old new : Machine S D W) → new ≡ old → Line rules NoEffect old new
-  unchanged old new same = record { own = old.own; effect = NoChange; steps = (ap (λ (m : Machine S D W). m.own) same, ap (λ (m : Machine S D W). m.waiting) same); knows = tt; lack = λ asks lack. lack; effect_is = refl }
+  unchanged old new same =
+      line old.own NoChange old new (ap (λ (m : Machine S D W). m.own) same, ap (λ (m : Machine S D W). m.waiting) same) tt
+      (λ asks lack. lack)
 
   -- a making, a cancel, and the taking out of the oldest waker: the machine's own data stay
-  pub inserts : (name : ℕ) (asks : D) (old new : Machine S D W) → StepsTo old old.own (Inserts name asks) new → Line rules (Leaves name) old new
+  pub inserts : (name : ℕ) (asks : D) (old new : Machine S D W) → StepsTo old old.own (Inserts name asks) new →
+      Line rules (Leaves name) old new
   inserts name asks old new did = line old.own (Inserts name asks) old new did tt (λ asks lack. lack)
 
   pub removes : (name : ℕ) (old new : Machine S D W) → StepsTo old old.own (Removes name) new → Line rules (Leaves name) old new
@@ -162,38 +218,54 @@ module _ {S D W : Type 0} (rules : WaiterRules S D W) where
   pub pops : (waker : Option W) (old new : Machine S D W) → StepsTo old old.own (PopsOldest waker) new → Line rules (gives waker) old new
   pops waker old new did = line old.own (PopsOldest waker) old new did tt (λ asks lack. lack)
 
-  -- a poll that ended the future
-  pub ends : {A : Type 0} {x : A} {answer : Poll A} (own : S) (name : ℕ) (waker : W) (old new : Machine S D W) → (answer ≡ Ready x) × StepsTo old own (Ends name) new → StillLacks rules.lacks old.own own → PollLine rules name (poll_effect name waker answer) old new
-  ends own name waker old new did still = record {
-    line = record { own = own; effect = Ends name; steps = did.1; knows = tt; lack = still; effect_is = ap (poll_effect name waker) (sym did.0) };
-    lives = polled_lives (Ends name) old.waiting new.waiting name refl did.1.1;
-    asks = asks_after (Ends name) old.waiting new.waiting did.1.1;
+  -- A poll by one effect on the name that was polled.
+  pub polls : {on_wakers : WakerEffect W} (own : S) (effect : WaiterEffect D W) (name : ℕ) (old new : Machine S D W) →
+      StepsTo old own effect new → AllowsEffect rules.places rules.phases old.waiting effect →
+      LacksAfter rules.lacks old.own own old.waiting.side effect → IsOf name effect → waker_effect effect ≡ on_wakers →
+      ((q : ℕ) → asks_step effect q (asks_of old.waiting.side q) ≡ asks_of old.waiting.side q) → PollLine rules name on_wakers old new
+  polls own effect name old new steps allows lack of is same = record {
+    line = record { own = own; effect = effect; steps = steps; allows = allows; lack = lack; effect_is = is };
+    lives = polled_lives effect old.waiting new.waiting name of steps.1;
+    asks = λ q. asks_after effect old.waiting new.waiting steps.1 q ∙ same q;
   }
 
-  -- a poll that ended one that was registered
-  pub ends_waiting : {A : Type 0} {x : A} {answer : Poll A} (own : S) (name : ℕ) (waker : W) (old new : Machine S D W) → (answer ≡ Ready x) × StepsTo old own (EndsRegistered name) new → StillLacks rules.lacks old.own own → PollLine rules name (poll_effect name waker answer) old new
-  ends_waiting own name waker old new did still = record {
-    line = record { own = own; effect = EndsRegistered name; steps = did.1; knows = tt; lack = still; effect_is = ap (poll_effect name waker) (sym did.0) };
-    lives = polled_lives (EndsRegistered name) old.waiting new.waiting name refl did.1.1;
-    asks = asks_after (EndsRegistered name) old.waiting new.waiting did.1.1;
-  }
+  -- a poll that ended the future
+  pub ends : {A : Type 0} {x : A} {answer : Poll A} (own : S) (name : ℕ) (waker : W) (old new : Machine S D W) →
+      (answer ≡ Ready x) × StepsTo old own (Ends name) new → AllowsEffect rules.places rules.phases old.waiting (Ends name) →
+      StillLacks rules.lacks old.own own → PollLine rules name (poll_effect name waker answer) old new
+  ends own name waker old new did allows still =
+      polls own (Ends name) name old new did.1 allows still refl (ap (poll_effect name waker) (sym did.0)) (λ q. refl)
+
+  -- the same of one that may have a place in the queue, which it leaves
+  pub ends_placed : {A : Type 0} {x : A} {answer : Poll A} (own : S) (name : ℕ) (waker : W) (old new : Machine S D W) →
+      (answer ≡ Ready x) × StepsTo old own (EndsPlaced name) new → StillLacks rules.lacks old.own own →
+      PollLine rules name (poll_effect name waker answer) old new
+  ends_placed own name waker old new did still =
+      polls own (EndsPlaced name) name old new did.1 tt still refl (ap (poll_effect name waker) (sym did.0)) (λ q. refl)
 
   -- a poll that registered it
-  pub registers : {A : Type 0} {answer : Poll A} (own : S) (name : ℕ) (waker : W) (old new : Machine S D W) → (answer ≡ Pending) × StepsTo old own (Registers name waker) new → rules.lacks own (asks_of old.waiting.side name) → StillLacks rules.lacks old.own own →
-      PollLine rules name (poll_effect name waker answer) old new
-  registers own name waker old new did lack still = record {
-    line = record { own = own; effect = Registers name waker; steps = did.1; knows = tt; lack = (lack, still); effect_is = ap (poll_effect name waker) (sym did.0) };
-    lives = polled_lives (Registers name waker) old.waiting new.waiting name refl did.1.1;
-    asks = asks_after (Registers name waker) old.waiting new.waiting did.1.1;
-  }
+  pub registers : {A : Type 0} {answer : Poll A} (own : S) (name : ℕ) (waker : W) (old new : Machine S D W) →
+      (answer ≡ Pending) × StepsTo old own (Registers name waker) new →
+      AllowsEffect rules.places rules.phases old.waiting (Registers name waker) → rules.lacks own (asks_of old.waiting.side name) →
+      StillLacks rules.lacks old.own own → PollLine rules name (poll_effect name waker answer) old new
+  registers own name waker old new did allows lack still =
+      polls own (Registers name waker) name old new did.1 allows (lack, still) refl (ap (poll_effect name waker) (sym did.0)) (λ q. refl)
+
+  -- a poll that registered it, without a place in the queue
+  pub registers_apart : {A : Type 0} {answer : Poll A} (own : S) (name : ℕ) (waker : W) (old new : Machine S D W) →
+      (answer ≡ Pending) × StepsTo old own (RegistersApart name waker) new →
+      AllowsEffect rules.places rules.phases old.waiting (RegistersApart name waker) → rules.lacks own (asks_of old.waiting.side name) →
+      StillLacks rules.lacks old.own own → PollLine rules name (poll_effect name waker answer) old new
+  registers_apart own name waker old new did allows lack still =
+      polls own (RegistersApart name waker) name old new did.1 allows (lack, still) refl (ap (poll_effect name waker) (sym did.0))
+      (λ q. refl)
 
   -- a poll that left it registered
-  pub stays : {A : Type 0} {answer : Poll A} (own : S) (name : ℕ) (waker : W) (old new : Machine S D W) → (answer ≡ Pending) × StepsTo old own (KeepsWaiting name waker) new → StillLacks rules.lacks old.own own → PollLine rules name (poll_effect name waker answer) old new
-  stays own name waker old new did still = record {
-    line = record { own = own; effect = KeepsWaiting name waker; steps = did.1; knows = tt; lack = still; effect_is = ap (poll_effect name waker) (sym did.0) };
-    lives = polled_lives (KeepsWaiting name waker) old.waiting new.waiting name refl did.1.1;
-    asks = asks_after (KeepsWaiting name waker) old.waiting new.waiting did.1.1;
-  }
+  pub stays : {A : Type 0} {answer : Poll A} (own : S) (name : ℕ) (waker : W) (old new : Machine S D W) →
+      (answer ≡ Pending) × StepsTo old own (KeepsWaiting name waker) new → StillLacks rules.lacks old.own own →
+      PollLine rules name (poll_effect name waker answer) old new
+  stays own name waker old new did still =
+      polls own (KeepsWaiting name waker) name old new did.1 tt still refl (ap (poll_effect name waker) (sym did.0)) (λ q. refl)
 
   -- a poll that was refused
   pub refused_poll : (name : ℕ) (old new : Machine S D W) → new ≡ old → is_some (phase_at old name) ≡ true →
@@ -205,19 +277,24 @@ module _ {S D W : Type 0} (rules : WaiterRules S D W) where
   }
 
   -- who was made is fresh
-  pub added : (own : S) (name : ℕ) (asks : D) (old new : Machine S D W) → StepsTo old own (Inserts name asks) new → phase_at new name ≡ Some Fresh
+  pub added : (own : S) (name : ℕ) (asks : D) (old new : Machine S D W) → StepsTo old own (Inserts name asks) new →
+      phase_at new name ≡ Some Fresh
   added own name asks old new did = added_fresh old.waiting new.waiting name asks did.1
 
   -- the phase of each name after a line
-  pub phases_after : (own : S) (effect : WaiterEffect D W) (old new : Machine S D W) → HasSoundWaiters rules.phases old → AllowsEffect rules.phases effect → StepsTo old own effect new → After effect old.waiting new.waiting
-  phases_after own effect old new was is steps = effect_after rules.phases rules.known effect old.waiting new.waiting is was steps.1
+  pub phases_after : (own : S) (effect : WaiterEffect D W) (old new : Machine S D W) → HasSoundWaitersBy rules.place rules.phases old →
+      AllowsEffect rules.places rules.phases old.waiting effect → StepsTo old own effect new → After effect old.waiting new.waiting
+  phases_after own effect old new was allows steps =
+      effect_after rules.places rules.phases rules.known effect old.waiting new.waiting allows was steps.1
 
 -- What the history says of a name and what the name's phase says stay the same, where one name changed.
 module _ {X D W : Type 0} (said : Option (Phase W) → X) where
   pub history_by : (old new : Side D W) (name : ℕ) (phase : Option (Phase W)) (was is : ℕ → X) → Becomes old new name phase →
-      ((q : ℕ) → was q ≡ said (phase_of old q)) → is name ≡ said phase → (q : ℕ) → (if name == q then is q else was q) ≡ said (phase_of new q)
+      ((q : ℕ) → was q ≡ said (phase_of old q)) → is name ≡ said phase → (q : ℕ) →
+      (if name == q then is q else was q) ≡ said (phase_of new q)
   history_by old new name phase was is b says here q = elim (cases_eq name q) [
-    | inl same ↦ if_true (name == q) (is q) (was q) (eq-eqb name q same) ∙ ap is (sym same) ∙ here ∙ ap said (sym b.here) ∙ ap (λ n. said (phase_of new n)) same
+    | inl same ↦ if_true (name == q) (is q) (was q) (eq-eqb name q same) ∙ ap is (sym same) ∙ here ∙ ap said (sym b.here) ∙ ap
+    (λ n. said (phase_of new n)) same
     | inr ne ↦ if_false (name == q) (is q) (was q) (ne_eqb name q ne) ∙ says q ∙ ap said (sym (b.others q (λ e. ne (sym e))))
   ]
 

@@ -7,10 +7,16 @@ use Rattle.fi_parts.specs.declared.phase.Phase.{Phase}
 use Rattle.fi_parts.specs.declared.phase.Phase.TheVariants.{Fresh, Registered, Told, Complete, Ended}
 use Rattle.fi_parts.specs.Order.{holds}
 use Rattle.fi_parts.specs.Pairs.{without_pair}
-use Rattle.fi_parts.specs.Waiting.{Side, phase_in, phase_of, is_registered, may_be_named, no_futures, made, with_phase, registered, stays, ended, forgotten, emptied, named_all, AreSound, AreSoundBy, Waiting, without_place, front_told}
+use Rattle.fi_parts.specs.Waiting.{Side, phase_in, phase_of, is_registered, may_be_named, no_futures, made, with_phase, registered, stays}
+use Rattle.fi_parts.specs.Waiting.{ended, forgotten, emptied, named_all, AreSound, AreSoundBy, Waiting, without_place, IsLive}
 use Rattle.fi_parts.proofs.Queues.{has-without_same}
-use Rattle.fi_parts.proofs.Told.{phases-front_told, ordered-front_told}
-use Rattle.fi_parts.proofs.Waiting.{IsPlaceRule, registered_rule, ordered-without_place, Becomes, becomes-made, becomes-with_phase, becomes-forgotten, phase-emptied, noticed_phase, lives_as, ordered-empty, ordered-made, ordered-set_phase, ordered-registered, ordered-stays, ordered-forgotten, ordered-without_pair, ordered-drop, ordered-all_noticed}
+use Rattle.fi_parts.specs.Effects.{notified}
+use Rattle.fi_parts.proofs.Notified.{MayNotify, phases-notified, ordered-notified}
+use Rattle.fi_parts.specs.Places.{IsPlaceRule, registered_rule}
+use Rattle.fi_parts.proofs.Waiting.{ordered-without_place, Becomes, becomes-made, becomes-with_phase, becomes-forgotten, phase-emptied}
+use Rattle.fi_parts.proofs.Waiting.{noticed_phase, lives_as, ordered-empty, ordered-made, ordered-set_phase, ordered-registered}
+use Rattle.fi_parts.proofs.Waiting.{ordered-registered_apart, ordered-stays, ordered-forgotten, ordered-without_pair, ordered-drop}
+use Rattle.fi_parts.proofs.Waiting.{ordered-all_noticed}
 
 module _ {D W : Type 0} (place : Option (Phase W) → Bool) (rule : IsPlaceRule place)
     (allowed : Option (Phase W) → Bool) where
@@ -78,15 +84,29 @@ module _ {D W : Type 0} (place : Option (Phase W) → Bool) (rule : IsPlaceRule 
 
   -- a poll that registered one
   pub sound_by-registered : (side : Side D W) (out : List (ℕ × W)) (name : ℕ) (waker : W) (before : Phase W) →
-      allowed (Some (Registered waker)) ≡ true → AreSoundBy place allowed side out → phase_of side name ≡ Some before →
+      place (Some (Registered waker)) ≡ true → allowed
+      (Some (Registered waker)) ≡ true → AreSoundBy place allowed side out → phase_of side name ≡ Some before →
       place (Some before) ≡ false →
       AreSoundBy place allowed (registered side name waker) (without_pair name out)
-  sound_by-registered side out name waker before is was stood apart = record {
-    ordered = ordered-registered place rule side _ name waker
+  sound_by-registered side out name waker before queues is was stood apart = record {
+    ordered = ordered-registered place rule side _ name waker queues
         (ordered-without_pair place rule side out name was.ordered) (lives_as side name before stood)
         (ap place stood ∙ apart) (has-without_same name out);
     only = only-becomes side (registered side name waker) name (Some (Registered waker)) was.only
         (becomes-with_phase side name (Registered waker) _ (lives_as side name before stood)) is;
+  }
+
+  -- a poll that registered one without a place
+  pub sound_by-registered_apart : (side : Side D W) (out : List (ℕ × W)) (name : ℕ) (waker : W) (before : Phase W) →
+      place (Some (Registered waker)) ≡ false → allowed (Some (Registered waker)) ≡ true → AreSoundBy place allowed side out →
+      phase_of side name ≡ Some before → place (Some before) ≡ false →
+      AreSoundBy place allowed (stays side name waker) (without_pair name out)
+  sound_by-registered_apart side out name waker before off is was stood apart = record {
+    ordered = ordered-registered_apart place rule side _ name waker off
+        (ordered-without_pair place rule side out name was.ordered) (lives_as side name before stood)
+        (ap place stood ∙ apart) (has-without_same name out);
+    only = only-becomes side (stays side name waker) name (Some (Registered waker)) was.only
+        (becomes-with_phase side name (Registered waker) side.queue (lives_as side name before stood)) is;
   }
 
   -- a poll that left one registered
@@ -102,27 +122,27 @@ module _ {D W : Type 0} (place : Option (Phase W) → Bool) (rule : IsPlaceRule 
   }
 
   -- a poll that ended one and took it out of the queue, where it had a place
-  pub sound_by-without_place : (side : Side D W) (out : List (ℕ × W)) (name : ℕ) (before : Phase W) →
-      allowed (Some Ended) ≡ true → AreSoundBy place allowed side out → phase_of side name ≡ Some before →
+  pub sound_by-without_place : (side : Side D W) (out : List (ℕ × W)) (name : ℕ) → allowed (Some Ended) ≡ true →
+      AreSoundBy place allowed side out → IsLive side name →
       AreSoundBy place allowed (without_place Ended side name) (without_pair name out)
-  sound_by-without_place side out name before is was stood = record {
+  sound_by-without_place side out name is was lives = record {
     ordered = ordered-without_place place rule Ended side _ name rule.ended refl
-        (ordered-without_pair place rule side out name was.ordered) (lives_as side name before stood);
+        (ordered-without_pair place rule side out name was.ordered) lives;
     only = only-becomes side (without_place Ended side name) name (Some Ended) was.only
-        (becomes-with_phase side name Ended _ (lives_as side name before stood)) is;
+        (becomes-with_phase side name Ended _ lives) is;
   }
 
-  -- a front of the queue was told
-  pub sound_by-front_told : (keeps : Bool) → place (Some Told) ≡ keeps → allowed (Some Told) ≡ true →
-      (w : Waiting D W) (front rest : List ℕ) → w.side.queue ≡ front ++ rest → AreSoundBy place allowed w.side w.out →
-      AreSoundBy place allowed (front_told keeps w front rest).side (front_told keeps w front rest).out
-  sound_by-front_told keeps told is w front rest split was =
-      let now = phases-front_told place rule keeps w front rest was.ordered split in
+  -- some of them were notified
+  pub sound_by-notified : (phase : Phase W) (names queue : List ℕ) (old : Waiting D W) → may_be_named (Some phase) ≡ true →
+      allowed (Some phase) ≡ true → AreSoundBy place allowed old.side old.out → MayNotify place phase names queue old →
+      AreSoundBy place allowed (notified phase names queue old).side (notified phase names queue old).out
+  sound_by-notified phase names queue old named_now is was may =
+      let now = phases-notified place phase names queue old may in
       record {
-        ordered = ordered-front_told place rule keeps told w front rest was.ordered split;
+        ordered = ordered-notified place rule phase names queue old named_now was.ordered may;
         only = λ q.
-            elim (cases_Bool (holds q front)) [
-              | inl at ↦ ap allowed (now.told q at) ∙ is
+            elim (cases_Bool (holds q names)) [
+              | inl at ↦ ap allowed (now.these q at) ∙ is
               | inr off ↦ ap allowed (now.others q off) ∙ was.only q
             ];
       }
@@ -170,7 +190,7 @@ module _ {D W : Type 0} (allowed : Option (Phase W) → Bool) where
       is_registered (Some before) ≡ false →
       AreSound allowed (registered side name waker) (without_pair name out)
   sound-registered side out name waker before is was stood apart =
-      sound_by-registered is_registered registered_rule allowed side out name waker before is was stood apart
+      sound_by-registered is_registered registered_rule allowed side out name waker before refl is was stood apart
 
   -- a poll that left one registered
   pub sound-stays : (side : Side D W) (out : List (ℕ × W)) (name : ℕ) (waker before : W) →

@@ -1,6 +1,8 @@
 -- What each word on the futures of a store says of each name, and that it keeps their order.
-use Rattle.std.proofs.Common.{◌≡◌, ◌≢◌, ℕ, Bool, true, false, eqb, ◌||◌, List, [], ◌∷◌, ◌++◌, Option, Some, None, is_some, drop, append_assoc, refl, sym, ap, subst, ◌∙◌, inl, inr}
-use Rattle.std.proofs.lemmas.Bool.{eqb-true, eq-eqb, ne_eqb, or_parts, or_left, or_right, or_cases, both_ways, cases_eq, cases_Bool, false_from_ne_true}
+use Rattle.std.proofs.Common.{◌≡◌, ◌≢◌, ℕ, Bool, true, false, eqb, ◌||◌, List, [], ◌∷◌, ◌++◌, Option, Some, None, is_some, drop}
+use Rattle.std.proofs.Common.{append_assoc, refl, sym, ap, subst, ◌∙◌, inl, inr}
+use Rattle.std.proofs.lemmas.Bool.{eqb-true, eq-eqb, ne_eqb, or_parts, or_left, or_right, or_cases, both_ways, cases_eq, cases_Bool}
+use Rattle.std.proofs.lemmas.Bool.{false_from_ne_true}
 use Rattle.std.specs.Option.{IsSome}
 use Rattle.std.proofs.lemmas.List.{append-nil}
 use Rattle.std.specs.Ordering.{nat_cmp}
@@ -11,11 +13,15 @@ use Rattle.fi_parts.specs.declared.phase.Future.{Future}
 use Rattle.fi_parts.specs.declared.phase.Notice.{Notice}
 use Rattle.fi_parts.specs.declared.phase.Notice.TheVariants.{Tell, Renew}
 use Rattle.fi_parts.specs.Noticed.{phase_after}
+use Rattle.fi_parts.specs.Places.{IsPlaceRule, registered_rule}
 use Rattle.fi_parts.specs.Order.{holds, Apart}
 use Rattle.fi_parts.specs.Pairs.{has, without_pair, PairsApart}
-use Rattle.fi_parts.specs.Waiting.{Side, Waiting, phase_in, phase_of, asks_in, is_registered, is_queued, may_be_named, rephased, with_phase, no_futures, made, registered, stays, forgotten, noticed, pair_of, pair, IsOrdered, IsLive, named, with_phases, emptied, all_noticed, IsOrderedBy, without_place}
+use Rattle.fi_parts.specs.Waiting.{Side, Waiting, phase_in, phase_of, asks_in, is_registered, may_be_named, rephased, with_phase}
+use Rattle.fi_parts.specs.Waiting.{no_futures, made, registered, stays, forgotten, noticed, pair_of, pair, IsOrdered, IsLive, named}
+use Rattle.fi_parts.specs.Waiting.{with_phases, emptied, all_noticed, IsOrderedBy, without_place}
 use Rattle.fi_parts.proofs.FiniteMaps.{get-insert_same, get-insert_other, get-remove_same, get-remove_other}
-use Rattle.fi_parts.proofs.Queues.{holds-push, Apart-push, holds-without_same, holds-without_other, Apart-without_one, has_pushed, has-without_same, has-drop, PairsApart-drop}
+use Rattle.fi_parts.proofs.Queues.{holds-push, Apart-push, holds-without_same, holds-without_other, Apart-without_one, has_pushed}
+use Rattle.fi_parts.proofs.Queues.{has-without_same, has-drop, PairsApart-drop}
 use Rattle.fi_parts.proofs.Pairs.{has-without, PairsApart-without, PairsApart-push}
 use Rattle.fi_parts.proofs.Slots.{eqb_same}
 
@@ -83,26 +89,12 @@ module _ {D W : Type 0} where
       each None r = r
       each (Some f) r = refl
 
--- A choice of the phases that have a place in the queue: the registered, and perhaps the told.
-pub record IsPlaceRule {W : Type 0} (place : Option (Phase W) → Bool) : Type 0 where
-  pub none : place None ≡ false
-  pub fresh : place (Some Fresh) ≡ false
-  pub registered : (waker : W) → place (Some (Registered waker)) ≡ true
-  pub complete : place (Some Complete) ≡ false
-  pub ended : place (Some Ended) ≡ false
-
-pub registered_rule : {W : Type 0} → IsPlaceRule {W = W} is_registered
-registered_rule = record { none = refl; fresh = refl; registered = λ waker. refl; complete = refl; ended = refl }
-
-pub queued_rule : {W : Type 0} (keeps : Bool) → IsPlaceRule {W = W} (is_queued keeps)
-queued_rule keeps = record { none = refl; fresh = refl; registered = λ waker. refl; complete = refl; ended = refl }
-
--- who is registered has a place
+-- the registered have a place, or none of them has
 pub placed : {W : Type 0} (place : Option (Phase W) → Bool) (rule : IsPlaceRule place) (p : Option (Phase W)) →
-    is_registered p ≡ true → place p ≡ true
+    is_registered p ≡ true → place p ≡ rule.waiting
 placed place rule p is = let w = registered_is p is in ap place w.1 ∙ rule.registered w.0
 
--- What keeps a store in order, for any such choice.
+-- What keeps a store in order, for any choice of the phases that have a place.
 module _ {D W : Type 0} (place : Option (Phase W) → Bool) (rule : IsPlaceRule place) where
   -- who has a place lives
   pub live_if_placed : (side : Side D W) (name : ℕ) → place (phase_of side name) ≡ true → IsLive side name
@@ -168,18 +160,32 @@ module _ {D W : Type 0} (place : Option (Phase W) → Bool) (rule : IsPlaceRule 
       (not_queued side out name (phase_of side name) was refl apart ∙ sym (ap place now ∙ off)) was.once
       (λ at. ap may_be_named now ∙ may) was.named_once
 
-  pub ordered-registered : (side : Side D W) (out : List (ℕ × W)) (name : ℕ) (waker : W) → IsOrderedBy place side out →
+  pub ordered-registered : (side : Side D W) (out : List (ℕ × W)) (name : ℕ) (waker : W) →
+      place (Some (Registered waker)) ≡ true → IsOrderedBy place side out →
       IsLive side name → place (phase_of side name) ≡ false → has name out ≡ false →
       IsOrderedBy place (registered side name waker) out
-  ordered-registered side out name waker was lives apart no_pair =
+  ordered-registered side out name waker queues was lives apart no_pair =
       let now : phase_of (registered side name waker) name ≡ Some (Registered waker) =
       phase-with_phase side.live name (Registered waker) lives in
       ordered_by side (registered side name waker) out out name was
       (λ q ne. phase-with_phase_other side.live name (Registered waker) q ne)
       (λ q ne. holds-push q side.queue name ∙ ap (λ b. b || holds q side.queue) (ne_eqb q name ne)) (λ q ne at. at)
       (holds-push name side.queue name ∙ ap (λ b. b || holds name side.queue) (eqb_same name)
-      ∙ sym (ap place now ∙ rule.registered waker))
+      ∙ sym (ap place now ∙ queues))
       (Apart-push side.queue name was.once (not_queued side out name (phase_of side name) was refl apart))
+      (λ at. absurd (both_ways _ no_pair at)) was.named_once
+
+  -- one registers, and gets no place
+  pub ordered-registered_apart : (side : Side D W) (out : List (ℕ × W)) (name : ℕ) (waker : W) →
+      place (Some (Registered waker)) ≡ false → IsOrderedBy place side out →
+      IsLive side name → place (phase_of side name) ≡ false → has name out ≡ false →
+      IsOrderedBy place (stays side name waker) out
+  ordered-registered_apart side out name waker off was lives apart no_pair =
+      let now : phase_of (stays side name waker) name ≡ Some (Registered waker) =
+      phase-with_phase side.live name (Registered waker) lives in
+      ordered_by side (stays side name waker) out out name was
+      (λ q ne. phase-with_phase_other side.live name (Registered waker) q ne) (λ q ne. refl) (λ q ne at. at)
+      (not_queued side out name (phase_of side name) was refl apart ∙ sym (ap place now ∙ off)) was.once
       (λ at. absurd (both_ways _ no_pair at)) was.named_once
 
   -- who is registered has no pair

@@ -1,20 +1,25 @@
 -- Pending polls' wakers are kept.
 use Rattle.std.specs.Prelude.{◌≡◌, ◌≢◌, ◌⊎◌, ℕ, ◌==◌, Bool, false, Option, Some, None, List, [], ◌∷◌, drop, refl}
 use Rattle.std.proofs.Common.{sym, ◌∙◌, ap, inl, inr, subst}
-use Rattle.std.proofs.lemmas.Bool.{eq-eqb, ne_eqb, cases_eq}
+use Rattle.std.proofs.lemmas.Bool.{eq-eqb, ne_eqb, cases_eq, cases_Bool}
 use Rattle.fi_parts.specs.declared.phase.Phase.{Phase}
 use Rattle.fi_parts.specs.declared.phase.Phase.TheVariants.{Fresh, Registered, Told, Complete, Ended}
-use Rattle.fi_parts.specs.Noticed.{phase_after}
+use Rattle.fi_parts.specs.Order.{holds}
 use Rattle.fi_parts.specs.Pairs.{without_pair, waker_of, oldest}
-use Rattle.fi_parts.specs.Waiting.{Waiting, phase_of, is_registered, pair, named_all, displaced_from, AreSound, IsOrdered}
-use Rattle.fi_parts.proofs.Waiting.{Becomes, becomes-with_phase, live_if_registered, first_registered}
-use Rattle.fi_parts.specs.WakerHistory.{WakerEffect, IsIn, gives, last_waker, last_waker_step, handed_since, handed_step, HasWaker, KeepsWakers}
+use Rattle.fi_parts.specs.Places.{IsPlaceRule}
+use Rattle.fi_parts.specs.Waiting.{Waiting, phase_of, named, displaced_from, AreSoundBy}
+use Rattle.fi_parts.proofs.Waiting.{Becomes}
+use Rattle.fi_parts.proofs.Notified.{phases-notified}
+use Rattle.fi_parts.specs.WakerHistory.{WakerEffect, IsIn, gives, last_waker, last_waker_step, handed_since, handed_step, HasWaker}
+use Rattle.fi_parts.specs.WakerHistory.{KeepsWakers}
 use Rattle.fi_parts.specs.WakerHistory.WakerEffect.{Pends, Leaves, Gives, NoEffect}
-use Rattle.fi_parts.specs.Effects.{WaiterEffect, TakesEffect, oldest_notified}
-use Rattle.fi_parts.specs.Effects.WaiterEffect.{NoChange, Inserts, Registers, KeepsWaiting, Ends, EndsRegistered, Removes, NotifiesOldest, NotifiesAll, PopsOldest, AndThen}
-use Rattle.fi_parts.specs.Machine.{Machine, HasSoundWaiters, AllowsBasics, AllowsEffect, waker_effect, WaiterRules, Line}
-use Rattle.fi_parts.proofs.PairsWithin.{none_some, some_same, if_true, if_false, in_append_left, in_append_right, in_without, in_waker_of, in_named, oldest_or_rest}
-use Rattle.fi_parts.proofs.Effects.{After, effect_after, effect_sound}
+use Rattle.fi_parts.specs.Effects.{WaiterEffect, TakesEffect}
+use Rattle.fi_parts.specs.Effects.WaiterEffect.{NoChange, Inserts, Registers, RegistersApart, KeepsWaiting, Ends, EndsPlaced, Removes}
+use Rattle.fi_parts.specs.Effects.WaiterEffect.{NotifiesOldest, NotifiesAll, NotifiesListed, NotifiesFront, PopsOldest, AndThen}
+use Rattle.fi_parts.specs.Machine.{Machine, HasSoundWaitersBy, AllowsBasics, AllowsEffect, waker_effect, WaiterRules, Line}
+use Rattle.fi_parts.proofs.PairsWithin.{none_some, some_same, if_true, if_false, in_append_left, in_append_right, in_without, in_waker_of}
+use Rattle.fi_parts.proofs.PairsWithin.{in_named, oldest_or_rest}
+use Rattle.fi_parts.proofs.Effects.{After, AreNotified, effect_after, effect_sound, oldest_are, all_are, listed_are, front_are}
 
 module _ {D W : Type 0} where
   -- every waker there is is still there, but for this name's
@@ -61,27 +66,28 @@ module _ {D W : Type 0} where
   ]
 
   -- one name changed, and out lost at most its pair
-  others : (old new : Waiting D W) (name : ℕ) (phase : Option (Phase W)) → Becomes old.side new.side name phase → new.out ≡ without_pair name old.out → OthersStay name old new
+  others : (old new : Waiting D W) (name : ℕ) (phase : Option (Phase W)) → Becomes old.side new.side name phase →
+      new.out ≡ without_pair name old.out → OthersStay name old new
   others old new name phase b outs q waker ne has = elim has [
     | inl is ↦ inl (b.others q (λ e. ne (sym e)) ∙ is)
     | inr at ↦ inr (rw outs (in_without name q waker old.out ne at))
   ]
 
-  oldest_carries : (phase : Phase W) (names : List ℕ) (old : Waiting D W) → IsOrdered old.side old.out → old.side.queue ≡ names → CarriesOn NoEffect old (oldest_notified phase names old)
-  oldest_carries phase [] old was queue q v has = has
-  oldest_carries phase (n ∷ rest) old was queue q v has =
-      let b = becomes-with_phase old.side n phase rest (live_if_registered old.side n (first_registered old.side old.out n rest was queue)) in
-      elim has [
-        | inl is ↦ elim (cases_eq q n) [
-          | inl same ↦
-              let here : phase_of old.side n ≡ Some (Registered v) = ap (phase_of old.side) (sym same) ∙ is in
-              inr (in_append_right (q, v) old.out (pair old.side n) (rw (same, here) (inl refl)))
-          | inr ne ↦ inl (b.others q ne ∙ is)
+  -- whoever is notified has its waker in out
+  notified_carries : (place known : Option (Phase W) → Bool) (phase : Phase W) (names : List ℕ) (old new : Waiting D W) →
+      AreNotified place known phase names old new → CarriesOn NoEffect old new
+  notified_carries place known phase names old new did q v has =
+      let now = phases-notified place phase names did.queue old did.may in
+      subst (λ (w : Waiting D W). HasWaker w q v) (sym did.is) (elim has [
+        | inl is ↦ elim (cases_Bool (holds q names)) [
+          | inl at ↦ inr (in_append_right (q, v) old.out (named old.side.live names) (in_named names old.side.live q v at is))
+          | inr off ↦ inl (now.others q off ∙ is)
         ]
-        | inr at ↦ inr (in_append_left (q, v) old.out (pair old.side n) at)
-      ]
+        | inr at ↦ inr (in_append_left (q, v) old.out (named old.side.live names) at)
+      ])
 
-  handed_carries : (waker : Option W) (old new : Waiting D W) → waker ≡ oldest old.out → new ≡ record old { out = drop 1 old.out } → CarriesOn (gives waker) old new
+  handed_carries : (waker : Option W) (old new : Waiting D W) → waker ≡ oldest old.out → new ≡ record old { out =
+      drop 1 old.out } → CarriesOn (gives waker) old new
   handed_carries None old new is taken = λ q v has. rw taken (elim has [
     | inl there ↦ inl there
     | inr at ↦ elim (oldest_or_rest old.out (q, v) at) [ inl e ↦ absurd (none_some v (is ∙ e)) | inr rest ↦ inr rest ]
@@ -92,7 +98,8 @@ module _ {D W : Type 0} where
   ]
 
   -- a second effect that names futures alone
-  and_then : (on_wakers : WakerEffect W) (old mid new : Waiting D W) → CarriesOn on_wakers old mid → CarriesOn NoEffect mid new → CarriesOn on_wakers old new
+  and_then : (on_wakers : WakerEffect W) (old mid new : Waiting D W) → CarriesOn on_wakers old mid → CarriesOn NoEffect mid new →
+      CarriesOn on_wakers old new
   and_then (Pends name waker) old mid new one other = (other name waker one.0, λ q w ne has. other q w (one.1 q w ne has))
   and_then (Leaves name) old mid new one other = λ q w ne has. other q w (one q w ne has)
   and_then (Gives waker) old mid new one other = λ q w has. elim (one q w has) [ inl still ↦ inl (other q w still) | inr e ↦ inr e ]
@@ -101,32 +108,44 @@ module _ {D W : Type 0} where
   abbrev out_of : Waiting D W → List (ℕ × W)
   out_of w = w.out
 
-  module _ (known : Option (Phase W) → Bool) (knows : AllowsBasics known) where
+  module _ {place : Option (Phase W) → Bool} (rule : IsPlaceRule place) (known : Option (Phase W) → Bool) (knows : AllowsBasics known) where
     -- Which waker a pending poll had is registered, or named, or handed out.
-    carries : (effect : WaiterEffect D W) (old new : Waiting D W) → AllowsEffect known effect → AreSound known old.side old.out → TakesEffect effect old new → After effect old new → CarriesOn (waker_effect effect) old new
-    carries NoChange old new is was taken stand = λ q v has. rw taken has
-    carries (Inserts name asks) old new is was taken stand = λ q v ne has. elim has [
-      | inl there ↦ inl (stand.others q (λ e. ne (sym e)) ∙ there)
+    carries : (effect : WaiterEffect D W) (old new : Waiting D W) → AllowsEffect rule known old effect →
+        AreSoundBy place known old.side old.out → TakesEffect effect old new → After effect old new → CarriesOn
+        (waker_effect effect) old new
+    carries NoChange old new is was taken now = λ q v has. rw taken has
+    carries (Inserts name asks) old new is was taken now = λ q v ne has. elim has [
+      | inl there ↦ inl (now.others q (λ e. ne (sym e)) ∙ there)
       | inr at ↦ inr (rw taken.1 at)
     ]
-    carries (Registers name waker) old new is was taken stand = (inl stand.here, others old new name _ stand (ap out_of taken.1))
-    carries (KeepsWaiting name waker) old new is was taken stand = (inl stand.here, others old new name _ stand (ap out_of taken.1))
-    carries (Ends name) old new is was taken stand = others old new name _ stand (ap out_of taken.1)
-    carries (EndsRegistered name) old new is was taken stand = others old new name _ stand (ap out_of taken.1)
-    carries (Removes name) old new is was taken stand = others old new name _ stand (ap out_of taken.1)
-    carries (NotifiesOldest notice) old new is was taken stand = λ q v has. rw taken (oldest_carries (phase_after notice) old.side.queue old was.ordered refl q v has)
-    carries (NotifiesAll notice) old new is was taken stand = λ q v has. rw taken (inr (elim has [
-      | inl there ↦ in_append_right (q, v) old.out (named_all old.side) (in_named old.side.queue old.side.live q v (was.ordered.queued q ∙ ap is_registered there) there)
-      | inr at ↦ in_append_left (q, v) old.out (named_all old.side) at
-    ]))
-    carries (PopsOldest waker) old new is was taken stand = handed_carries waker old new taken.0 taken.1
-    carries (AndThen one other) old new is was taken stand =
-        let sound = effect_sound known knows one old taken.0 is.0 was taken.1 in
-        and_then (waker_effect one) old taken.0 new (carries one old taken.0 is.0 was taken.1 (effect_after known knows one old taken.0 is.0 was taken.1))
-        (subst (λ (d : WakerEffect W). CarriesOn d taken.0 new) is.2 (carries other taken.0 new is.1 sound taken.2 (effect_after known knows other taken.0 new is.1 sound taken.2)))
+    carries (Registers name waker) old new is was taken now = (inl now.here, others old new name _ now (ap out_of taken.1))
+    carries (RegistersApart name waker) old new is was taken now = (inl now.here, others old new name _ now (ap out_of taken.1))
+    carries (KeepsWaiting name waker) old new is was taken now = (inl now.here, others old new name _ now (ap out_of taken.1))
+    carries (Ends name) old new is was taken now = others old new name _ now (ap out_of taken.1)
+    carries (EndsPlaced name) old new is was taken now = others old new name _ now (ap out_of taken.1)
+    carries (Removes name) old new is was taken now = others old new name _ now (ap out_of taken.1)
+    carries (NotifiesOldest notice) old new is was taken now =
+        notified_carries place known _ _ old new (oldest_are rule known notice old new is was.ordered taken)
+    carries (NotifiesAll notice) old new is was taken now =
+        notified_carries place known _ _ old new (all_are rule known notice old new is was.ordered taken)
+    carries (NotifiesListed notice names) old new is was taken now =
+        notified_carries place known _ names old new (listed_are rule known notice names old new is was.ordered taken)
+    carries (NotifiesFront keeps front) old new is was taken now =
+        notified_carries place known Told front old new (front_are rule known keeps front old new is was.ordered taken)
+    carries (PopsOldest waker) old new is was taken now = handed_carries waker old new taken.0 taken.1
+    carries (AndThen one other) old new is was taken now =
+        let mid = taken.0 in
+        let sound = effect_sound rule known knows one old mid is.0 was taken.1 in
+        let allows = is.1 mid taken.1 in
+        and_then (waker_effect one) old mid new
+        (carries one old mid is.0 was taken.1 (effect_after rule known knows one old mid is.0 was taken.1))
+        (subst (λ (d : WakerEffect W). CarriesOn d mid new) is.2
+        (carries other mid new allows sound taken.2 (effect_after rule known knows other mid new allows sound taken.2)))
 
-  at_first : (name : ℕ) (waker : W) (phase : Option (Phase W)) (first : Waiting D W) → phase_of first.side name ≡ phase → displaced_from phase (waker_of name first.out) ≡ Some waker → HasWaker first name waker
-  at_first name waker (Some (Registered before)) first stood is = inl (stood ∙ ap (λ (w : W). let o : Option (Phase W) = Some (Registered w) in o) (some_same before waker is))
+  at_first : (name : ℕ) (waker : W) (phase : Option (Phase W)) (first : Waiting D W) → phase_of first.side name ≡ phase →
+      displaced_from phase (waker_of name first.out) ≡ Some waker → HasWaker first name waker
+  at_first name waker (Some (Registered before)) first stood is =
+      inl (stood ∙ ap (λ (w : W). let o : Option (Phase W) = Some (Registered w) in o) (some_same before waker is))
   at_first name waker None first stood is = inr (in_waker_of name waker first.out is)
   at_first name waker (Some Fresh) first stood is = inr (in_waker_of name waker first.out is)
   at_first name waker (Some Told) first stood is = inr (in_waker_of name waker first.out is)
@@ -137,9 +156,13 @@ module _ {D W : Type 0} where
   kept_at_first waker_effect first name waker is = inl (at_first name waker (phase_of first.side name) first refl is)
 
 module _ {S D W : Type 0} (rules : WaiterRules S D W) where
-  pub line_keeps_wakers : {E : Type 0} (waker_effect : E → WakerEffect W) (first : Waiting D W) (history : List E) (entry : E) (old new : Machine S D W) → HasSoundWaiters rules.phases old → Line rules (waker_effect entry) old new →
+  pub line_keeps_wakers : {E : Type 0} (waker_effect : E →
+      WakerEffect W) (first : Waiting D W) (history : List E) (entry : E) (old new : Machine S D W) →
+      HasSoundWaitersBy rules.place rules.phases old → Line rules (waker_effect entry) old new →
       KeepsWakers waker_effect first history old.waiting → KeepsWakers waker_effect first (entry ∷ history) new.waiting
   line_keeps_wakers waker_effect first history entry old new was row kept q w is =
-      let on = carries rules.phases rules.known row.effect old.waiting new.waiting row.knows was row.steps.1 (effect_after rules.phases rules.known row.effect old.waiting new.waiting row.knows was row.steps.1) in
-      kept_by (waker_effect entry) old.waiting new.waiting (λ n. last_waker waker_effect first n history) (λ n. handed_since waker_effect n history) kept
+      let now = effect_after rules.places rules.phases rules.known row.effect old.waiting new.waiting row.allows was row.steps.1 in
+      let on = carries rules.places rules.phases rules.known row.effect old.waiting new.waiting row.allows was row.steps.1 now in
+      kept_by (waker_effect entry) old.waiting new.waiting (λ n. last_waker waker_effect first n history)
+      (λ n. handed_since waker_effect n history) kept
       (subst (λ (d : WakerEffect W). CarriesOn d old.waiting new.waiting) row.effect_is on) q w is

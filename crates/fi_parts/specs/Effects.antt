@@ -1,11 +1,13 @@
 -- What a call does to the futures that wait.
-use Rattle.std.specs.Prelude.{◌≡◌, ℕ, true, Option, None, List, [], ◌∷◌, ◌++◌, drop}
+use Rattle.std.specs.Prelude.{◌≡◌, ℕ, Bool, true, Option, None, List, [], ◌∷◌, ◌++◌, drop}
 use Rattle.fi_parts.specs.declared.phase.Phase.{Phase}
 use Rattle.fi_parts.specs.declared.phase.Phase.TheVariants.{Ended}
 use Rattle.fi_parts.specs.declared.phase.Notice.{Notice}
 use Rattle.fi_parts.specs.Noticed.{phase_after}
+use Rattle.fi_parts.specs.Order.{holds, Apart}
 use Rattle.fi_parts.specs.Pairs.{without_pair, oldest}
-use Rattle.fi_parts.specs.Waiting.{Side, Waiting, phase_of, is_registered, may_be_named, IsLive, no_futures, made, registered, stays, ended, forgotten, noticed, pair, all_noticed, without_place}
+use Rattle.fi_parts.specs.Waiting.{Side, Waiting, phase_of, is_registered, may_be_named, IsLive, no_futures, made, registered, stays, ended}
+use Rattle.fi_parts.specs.Waiting.{forgotten, noticed, pair, named, with_phases, all_noticed, without_place, front_told}
 
 -- Names are slots, D is what a future asks for, W a waker.
 pub data WaiterEffect (D W : Type 0) : Type 0 where
@@ -15,18 +17,24 @@ pub data WaiterEffect (D W : Type 0) : Type 0 where
   Inserts : ℕ → D → WaiterEffect D W
   -- it has this waker, and goes to the end of the queue
   Registers : ℕ → W → WaiterEffect D W
+  -- it has this waker, and gets no place in the queue
+  RegistersApart : ℕ → W → WaiterEffect D W
   -- it is registered, has this newer waker, and keeps its place
   KeepsWaiting : ℕ → W → WaiterEffect D W
   -- it ends; it was not registered
   Ends : ℕ → WaiterEffect D W
-  -- it ends, and leaves the queue, where it was registered
-  EndsRegistered : ℕ → WaiterEffect D W
+  -- it ends, whatever its phase is, and leaves the queue if it has a place there
+  EndsPlaced : ℕ → WaiterEffect D W
   -- it is removed, with its place in the queue
   Removes : ℕ → WaiterEffect D W
   -- the oldest of the queue, if there is one, is named and leaves the queue
   NotifiesOldest : Notice → WaiterEffect D W
   -- the whole queue is named, in order, and emptied
   NotifiesAll : Notice → WaiterEffect D W
+  -- these registered futures are named, in this order; the queue stays
+  NotifiesListed : Notice → List ℕ → WaiterEffect D W
+  -- This front of the queue is told; whoever of it was registered is named, in order. They keep their places, or else leave the queue.
+  NotifiesFront : Bool → List ℕ → WaiterEffect D W
   -- the front pair is taken out, and its waker handed out
   PopsOldest : Option W → WaiterEffect D W
   -- one after the other
@@ -36,19 +44,44 @@ module _ {D W : Type 0} where
   -- the oldest of this queue is named and gets this phase; the others stay in the queue
   abbrev pub oldest_notified : Phase W → List ℕ → Waiting D W → Waiting D W
   oldest_notified phase [] waiting = waiting
-  oldest_notified phase (name ∷ others) waiting = record { side = noticed phase waiting.side name others; out = waiting.out ++ pair waiting.side name }
+  oldest_notified phase (name ∷ others) waiting =
+      record { side = noticed phase waiting.side name others; out = waiting.out ++ pair waiting.side name }
+
+  -- Each of these has this phase now; whoever of them was registered is named, in order. This is the queue then.
+  abbrev pub notified : Phase W → List ℕ → List ℕ → Waiting D W → Waiting D W
+  notified phase names queue old = record {
+    side = record { live = with_phases old.side.live names phase; queue = queue };
+    out = old.out ++ named old.side.live names;
+  }
+
+  -- each of these is registered, and none stands twice
+  pub record AreRegistered (side : Side D W) (names : List ℕ) : Type 0 where
+    pub registered : (name : ℕ) → holds name names ≡ true → is_registered (phase_of side name) ≡ true
+    pub once : Apart names
 
   -- This effect led from old to new. A poll or a cancel takes out the future's pair first.
   abbrev pub TakesEffect : WaiterEffect D W → Waiting D W → Waiting D W → Type 0
   TakesEffect NoChange old new = new ≡ old
   TakesEffect (Inserts name asks) old new = (phase_of old.side name ≡ None) × (new ≡ record old { side = made old.side name asks })
-  TakesEffect (Registers name waker) old new = (may_be_named (phase_of old.side name) ≡ true) × (new ≡ record { side = registered old.side name waker; out = without_pair name old.out })
-  TakesEffect (KeepsWaiting name waker) old new = (is_registered (phase_of old.side name) ≡ true) × (new ≡ record { side = stays old.side name waker; out = without_pair name old.out })
-  TakesEffect (Ends name) old new = (may_be_named (phase_of old.side name) ≡ true) × (new ≡ record { side = ended old.side name; out = without_pair name old.out })
-  TakesEffect (EndsRegistered name) old new = (is_registered (phase_of old.side name) ≡ true) × (new ≡ record { side = without_place Ended old.side name; out = without_pair name old.out })
-  TakesEffect (Removes name) old new = IsLive old.side name × (new ≡ record { side = forgotten old.side name; out = without_pair name old.out })
+  TakesEffect (Registers name waker) old new =
+      (may_be_named (phase_of old.side name) ≡ true) × (new ≡ record { side =
+          registered old.side name waker; out = without_pair name old.out })
+  TakesEffect (RegistersApart name waker) old new =
+      (may_be_named (phase_of old.side name) ≡ true) × (new ≡ record { side = stays old.side name waker; out = without_pair name old.out })
+  TakesEffect (KeepsWaiting name waker) old new =
+      (is_registered (phase_of old.side name) ≡ true) × (new ≡ record { side = stays old.side name waker; out = without_pair name old.out })
+  TakesEffect (Ends name) old new =
+      (may_be_named (phase_of old.side name) ≡ true) × (new ≡ record { side = ended old.side name; out = without_pair name old.out })
+  TakesEffect (EndsPlaced name) old new =
+      IsLive old.side name × (new ≡ record { side = without_place Ended old.side name; out = without_pair name old.out })
+  TakesEffect (Removes name) old new =
+      IsLive old.side name × (new ≡ record { side = forgotten old.side name; out = without_pair name old.out })
   TakesEffect (NotifiesOldest notice) old new = new ≡ oldest_notified (phase_after notice) old.side.queue old
   TakesEffect (NotifiesAll notice) old new = new ≡ all_noticed (phase_after notice) old
+  TakesEffect (NotifiesListed notice names) old new =
+      AreRegistered old.side names × (new ≡ notified (phase_after notice) names old.side.queue old)
+  TakesEffect (NotifiesFront keeps front) old new =
+      (rest : List ℕ) × (old.side.queue ≡ front ++ rest) × (new ≡ front_told keeps old front rest)
   TakesEffect (PopsOldest waker) old new = (waker ≡ oldest old.out) × (new ≡ record old { out = drop 1 old.out })
   TakesEffect (AndThen one other) old new = (mid : Waiting D W) × TakesEffect one old mid × TakesEffect other mid new
 

@@ -17,6 +17,7 @@ pub mod Pairs
 pub mod NamedPairs
 pub mod OutboxList
 pub mod Waiting
+pub mod Places
 pub mod Noticed
 pub mod Codes
 pub mod LineModel
