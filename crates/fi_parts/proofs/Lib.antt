@@ -44,3 +44,4 @@ pub mod PairsWithin
 pub mod Seats
 pub mod FirstSeat
 pub mod Telling
+pub mod Results

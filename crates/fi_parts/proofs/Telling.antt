@@ -5,12 +5,13 @@ use Rattle.std.proofs.lemmas.List.{append-nil}
 use Rattle.std.specs.FinMap as map
 use Rattle.fi_parts.specs.declared.phase.Phase.{Phase}
 use Rattle.fi_parts.specs.declared.phase.Phase.TheVariants.{Registered, Told}
+use Rattle.fi_parts.specs.Effects.{notified}
 use Rattle.fi_parts.specs.Order.{holds}
 use Rattle.fi_parts.specs.Pairs.{has}
 use Rattle.fi_parts.specs.Waiting.{Side, Waiting, phase_of, is_registered, with_phase, with_phases, named, pair_of, pair}
 use Rattle.fi_parts.proofs.Queues.{has_pushed}
 use Rattle.fi_parts.proofs.Waiting.{named-other, phase-with_phase, phase-with_phase_other, asks-with_phase, live_if_registered}
-use Rattle.fi_parts.specs.Deadlines.{NeverFall, expiry_of, is_entered, is_due, NoneHasPair, told_each, TellsExpired, told_due, IsLeastDue, NoneDue}
+use Rattle.fi_parts.specs.Deadlines.{NeverFall, expiry_of, is_entered, is_due, NoneHasPair, TellsExpired, told_due, IsLeastDue, NoneDue}
 
 module _ {W : Type 0} where
   pub entered_if_due : (now : ℕ) (side : Side ℕ W) (name : ℕ) → is_due now side name ≡ true → is_entered side name ≡ true
@@ -35,8 +36,8 @@ module _ {W : Type 0} where
   not_due : (now : ℕ) (side : Side ℕ W) (name : ℕ) → is_entered side name ≡ true → is_due now (told_in side name) name ≡ false
   not_due now side name is = ap (λ b. b && nat_le (expiry_of (told_in side name) name) now) (told_now side name is)
 
-  pub told-step : (old : Waiting ℕ W) (name : ℕ) (due : List ℕ) → holds name due ≡ false → told_each (told_due old name) due ≡
-      told_each old (name ∷ due)
+  pub told-step : (old : Waiting ℕ W) (name : ℕ) (due : List ℕ) → holds name due ≡ false →
+      notified Told due old.side.queue (told_due old name) ≡ notified Told (name ∷ due) old.side.queue old
   unfolding named with_phases
   told-step old name due off =
       let out : (old.out ++ pair old.side name) ++ named (with_phase old.side.live name Told) due ≡

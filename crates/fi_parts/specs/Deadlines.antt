@@ -2,9 +2,10 @@
 use Rattle.std.specs.Prelude.{◌≡◌, ◌≤◌, ℕ, Bool, true, false, ◌&&◌, nat_le, Option, Some, None, List, [], ◌∷◌, ◌++◌, unwrap_or}
 use Rattle.fi_parts.specs.declared.phase.Phase.{Phase}
 use Rattle.fi_parts.specs.declared.phase.Phase.TheVariants.{Fresh, Told}
+use Rattle.fi_parts.specs.Effects.{notified}
 use Rattle.fi_parts.specs.Order.{holds, Apart}
 use Rattle.fi_parts.specs.Pairs.{has}
-use Rattle.fi_parts.specs.Waiting.{Side, Waiting, phase_of, asks_of, is_registered, with_phase, with_phases, named, pair}
+use Rattle.fi_parts.specs.Waiting.{Side, Waiting, phase_of, asks_of, is_registered, with_phase, named, pair}
 
 -- the expiries of these names never fall
 abbrev pub NeverFall : (ℕ → ℕ) → List ℕ → Type 0
@@ -38,16 +39,9 @@ module _ {W : Type 0} where
     pub once : Apart due
     pub in_order : NeverFall (expiry_of side) due
 
-  -- Each of these is told, and named in this order.
-  abbrev pub told_each : Waiting ℕ W → List ℕ → Waiting ℕ W
-  told_each old due = record {
-    side = record old.side { live = with_phases old.side.live due Told };
-    out = old.out ++ named old.side.live due;
-  }
-
   -- All that are due are told, and named in the order of their expiries.
   abbrev pub TellsExpired : ℕ → Waiting ℕ W → Waiting ℕ W → Type 0
-  TellsExpired now old new = (due : List ℕ) × AreDue now old.side due × (new ≡ told_each old due)
+  TellsExpired now old new = (due : List ℕ) × AreDue now old.side due × (new ≡ notified Told due old.side.queue old)
 
   -- this one is told and named
   abbrev pub told_due : Waiting ℕ W → ℕ → Waiting ℕ W

@@ -39,3 +39,4 @@ pub mod Machine
 pub mod WakerHistory
 pub mod Deadlines
 pub mod Seats
+pub mod Polled
