@@ -42,3 +42,7 @@ pub mod Machines
 pub mod WakerHistories
 pub mod PairsWithin
 pub mod TwoSidedEffects
+pub mod Seats
+pub mod FirstSeat
+pub mod Telling
+pub mod Results

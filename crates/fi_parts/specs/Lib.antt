@@ -38,3 +38,6 @@ pub mod Effects
 pub mod Machine
 pub mod WakerHistory
 pub mod TwoSidedEffects
+pub mod Deadlines
+pub mod Seats
+pub mod Polled

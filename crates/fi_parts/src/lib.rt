@@ -1,10 +1,11 @@
-//! The parts that the primitives stand on: a list over live slots, an outbox of named wakers, and one store of waiting
-//! futures over both.
+//! The parts that the primitives stand on: a list over live slots, an outbox of named wakers, a store of waiting futures over
+//! both, and one of futures that wait for a moment, over that and a heap.
 #![tactic(auto)]
 
 mod blocks;
 pub mod buffer;
 mod clocks;
+mod deadlines;
 mod drain;
 mod errors;
 mod heap;
@@ -23,6 +24,7 @@ mod visits;
 mod waits;
 
 pub use clocks::{Clock, MockClock, StdClock, whole_millis};
+pub use deadlines::Deadlines;
 pub use drain::{Drain, ReverseDrain};
 pub use errors::{ChannelSendError, CloseStatus, Fault, NoRoom, Slot, StateId};
 pub use heap::PairingHeap;

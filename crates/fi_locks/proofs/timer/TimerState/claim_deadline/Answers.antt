@@ -1,0 +1,13 @@
+use Rattle.fi_parts.proofs.Machines.{line_preserves, inserts, unchanged}
+use Rattle.fi_locks.specs.TimerFields.{machine_of}
+use Rattle.fi_locks.specs.TimerLaws.{rules}
+use Rattle.fi_parts.proofs.Results.{either}
+use Rattle.fi_locks.proofs.timer.TimerState.claim_deadline.Goals as goal
+
+pub invariant_of-self : goal.invariant_of-self
+invariant_of-self g c =
+    let old = machine_of c.self.inside.fields in
+    let new = machine_of c.claim_deadline.new.self in
+    either c.claim_deadline.result _ _ _ c.claim_deadline.ensures.made c.claim_deadline.ensures.refused
+    (λ slot did. line_preserves rules old new (inserts rules slot.0 c.args.expiry old new did) c.self.invariant)
+    (λ same. line_preserves rules old new (unchanged rules old new same) c.self.invariant)

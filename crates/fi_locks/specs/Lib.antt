@@ -1,0 +1,3 @@
+pub mod Timer
+pub mod TimerLaws
+pub mod TimerFields

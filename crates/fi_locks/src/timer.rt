@@ -1,0 +1,242 @@
+//! A timer.
+ghost use Rattle.std.specs.Prelude.{◌≡◌, true, false, IfOk, IfErr, OnErr, is_some, length};
+ghost use Rattle.std.specs.Duration.{as_nanos};
+ghost use Rattle.fi_parts.specs.Waiting.{phase_of, displaced};
+ghost use Rattle.fi_parts.specs.Machine.{phase_at, displaced_at};
+ghost use Rattle.fi_parts.specs.Deadlines.{IsNextExpiry};
+ghost use Rattle.fi_parts.specs.Polled.{unused_after};
+ghost use Rattle.fi_locks.specs.Timer.{opened, expiry_after, can_be_polled, Makes, Polls, Cancels, Checks, Wakes, IsSound, OwesNoWake};
+
+use crate::timer_future::LocalTimerFuture;
+use fi_parts::{Deadlines, Fault, Leftover, Phase, Slot, whole_millis};
+use futures::task::Poll;
+use std::alloc::Global;
+use std::marker::Model;
+use std::time::Duration;
+
+/// The fields of a timer. Between two calls on them the timer's law may be broken.
+#[derive(Drop)]
+struct Fields<W> {
+    floor: u64,
+    deadlines: Deadlines<W>,
+}
+
+/// A timer: a future of it ends at the first check at or after its expiry, or at its first poll if that is not before it.
+///
+/// It has no clock: whoever polls or checks says which moment it is, in milliseconds. It names the wakers to be woken and wakes
+/// nobody itself: whoever calls it takes them out by `next_wake`. Only the makings of futures take memory. Keeps
+/// `GenericTimerService` of futures-intrusive's `timer`.
+#[derive(Drop)]
+pub struct TimerState<W> {
+    fields: Fields<W>,
+}
+
+/// The timer for one thread: futures are polled with the timer lent to them, and the moment.
+pub type LocalTimerService<W> = TimerState<W>;
+
+impl<W> Model for TimerState<W> {
+    ghost use Rattle.fi_locks.specs.Timer.{TimerMachine, timer_code, IsSound, OwesNoWake};
+    ghost use Rattle.fi_locks.specs.TimerFields.{machine_of};
+
+    ghost Value = { TimerMachine W };
+
+    ghost coded = { timer_code W.code };
+
+    ghost view = { λ s. machine_of s.fields };
+
+    ghost invariant = { λ s. IsSound (machine_of s.fields) × OwesNoWake (machine_of s.fields) };
+}
+
+impl<W: Drop> TimerState<W> {
+    /// A timer that nobody waits for. It takes no memory yet. Keeps `GenericTimerService::new`.
+    pub fn new(alloc: Global) -> Self
+        ensures { result ≡ opened }
+    {
+        TimerState {
+            fields: Fields {
+                floor: 0,
+                deadlines: Deadlines::new(alloc),
+            },
+        }
+    }
+
+    /// For proofs: every timer is sound and owes no wake.
+    pub fn show(&self)
+        ensures sound { IsSound self.now }
+        ensures no_wake { OwesNoWake self.now }
+    {
+        let _ = &self.fields;
+    }
+
+    /// A future that ends at this moment. Refused only with `NoMemory`; then nothing has changed.
+    ///
+    /// Keeps `LocalTimer::deadline`.
+    pub fn deadline(&mut self, expiry: u64) -> Result<LocalTimerFuture, Fault>
+        ensures made { IfOk result (λ future. Makes self.old expiry future.name self.new) }
+        ensures fresh { IfOk result (λ future. future.has_ended ≡ false) }
+        ensures pollable { IfOk result (λ future. can_be_polled (phase_at self.new future.name) ≡ true) }
+        ensures refused { OnErr result (self.new ≡ self.old) }
+        ensures fault { IfErr result (λ fault. fault ≡ Fault.NoMemory) }
+    {
+        let slot = self.claim_deadline(expiry)?;
+        Ok(LocalTimerFuture::at(slot))
+    }
+
+    /// A future that ends so long after this moment, in whole milliseconds, rounded down. Refused only with `NoMemory`; then
+    /// nothing has changed.
+    ///
+    /// Keeps `LocalTimer::delay`.
+    pub fn delay(&mut self, now: u64, delay: Duration) -> Result<LocalTimerFuture, Fault>
+        ensures made { IfOk result (λ future. Makes self.old (expiry_after now (as_nanos delay)) future.name self.new) }
+        ensures fresh { IfOk result (λ future. future.has_ended ≡ false) }
+        ensures pollable { IfOk result (λ future. can_be_polled (phase_at self.new future.name) ≡ true) }
+        ensures refused { OnErr result (self.new ≡ self.old) }
+        ensures fault { IfErr result (λ fault. fault ≡ Fault.NoMemory) }
+    {
+        let slot = self.claim_delay(now, delay)?;
+        Ok(LocalTimerFuture::at(slot))
+    }
+
+    /// The least expiry of those that wait; None where none does. Keeps `GenericTimerService::next_expiration`.
+    pub fn next_expiration(&self) -> Option<u64>
+        ensures { IsNextExpiry self.now.waiting.side result }
+    {
+        self.fields.next_expiration()
+    }
+
+    /// Tells exactly those that wait and whose expiry is not after this moment, and names them to be woken in rising order of
+    /// expiry, equal ones in any order.
+    ///
+    /// Keeps `GenericTimerService::check_expirations`.
+    pub fn check_expirations(&mut self, now: u64)
+        ensures { Checks self.old now self.new }
+    {
+        self.fields.check_expirations(now);
+    }
+
+    /// Takes out the oldest waker that was named to be woken; None where none is left.
+    pub fn next_wake(&mut self) -> Option<W>
+        ensures { Wakes self.old result self.new }
+    {
+        self.fields.deadlines.next_wake()
+    }
+
+    /// How many wakers are named to be woken.
+    pub fn wake_count(&self) -> usize
+        ensures { result ≡ length self.now.waiting.out }
+    {
+        self.fields.deadlines.wake_count()
+    }
+
+    /// Makes a future with this expiry under a slot that was not live. Refused only with `NoMemory`; then nothing has changed.
+    pub fn claim_deadline(&mut self, expiry: u64) -> Result<Slot, Fault>
+        ensures made { IfOk result (λ slot. Makes self.old expiry slot.0 self.new) }
+        ensures refused { OnErr result (self.new ≡ self.old) }
+        ensures fault { IfErr result (λ fault. fault ≡ Fault.NoMemory) }
+    {
+        self.fields.claim_deadline(expiry)
+    }
+
+    /// Makes a future whose expiry is so long after this moment, under a slot that was not live. The delay counts in whole
+    /// milliseconds, rounded down; the expiry is at most `u64::MAX`. Refused only with `NoMemory`; then nothing has changed.
+    pub fn claim_delay(&mut self, now: u64, delay: Duration) -> Result<Slot, Fault>
+        ensures made { IfOk result (λ slot. Makes self.old (expiry_after now (as_nanos delay)) slot.0 self.new) }
+        ensures refused { OnErr result (self.new ≡ self.old) }
+        ensures fault { IfErr result (λ fault. fault ≡ Fault.NoMemory) }
+    {
+        self.claim_deadline(now.saturating_add(whole_millis(delay)))
+    }
+
+    /// A future lives under this slot.
+    pub fn is_live(&self, slot: Slot) -> bool
+        ensures { result ≡ is_some (phase_at self.now slot.0) }
+    {
+        self.fields.deadlines.phase(slot).is_some()
+    }
+
+    /// A future lives under this slot that has not ended.
+    pub fn can_poll(&self, slot: Slot) -> bool
+        ensures { result ≡ can_be_polled (phase_at self.now slot.0) }
+    {
+        match self.fields.deadlines.phase(slot) {
+            Some(Phase::Fresh | Phase::Registered(_) | Phase::Told) => true,
+            None | Some(Phase::Complete | Phase::Ended) => false,
+        }
+    }
+
+    /// Polls the future under this slot at this moment: ready where it was told, or where it is fresh and its expiry is not after
+    /// the moment; else registered with this waker.
+    ///
+    /// The caller has seen that the future lives and has not ended. The wakers of no more use come back.
+    pub fn try_wait(&mut self, slot: Slot, now: u64, waker: W) -> (Poll<()>, Leftover<W>)
+        requires { can_be_polled (phase_at self.old slot.0) ≡ true }
+        ensures polled { Polls self.old slot.0 now waker result.0 self.new }
+        ensures displaced { result.1.displaced ≡ displaced_at self.old slot.0 }
+        ensures unused { result.1.unused ≡ unused_after result.0 waker }
+    {
+        self.fields.try_wait(slot, now, waker)
+    }
+
+    /// Cancels the future under this slot, which is live, and gives back the waker that it had. Nobody is told.
+    pub fn remove_waiter(&mut self, slot: Slot) -> Option<W>
+        requires { is_some (phase_at self.old slot.0) ≡ true }
+        ensures cancelled { Cancels self.old slot.0 self.new }
+        ensures displaced { result ≡ displaced_at self.old slot.0 }
+    {
+        self.fields.remove_waiter(slot)
+    }
+}
+
+impl<W: Drop> Fields<W> {
+    ghost use Rattle.fi_locks.specs.TimerFields.{machine_of};
+
+    fn next_expiration(&self) -> Option<u64>
+        ensures { IsNextExpiry self.now.deadlines.side result }
+    {
+        self.deadlines.next_expiry()
+    }
+
+    fn check_expirations(&mut self, now: u64)
+        requires { IsSound (machine_of self.old) }
+        ensures { Checks (machine_of self.old) now (machine_of self.new) }
+    {
+        self.deadlines.tell_expired(now);
+        self.floor = self.floor.max(now);
+    }
+
+    fn claim_deadline(&mut self, expiry: u64) -> Result<Slot, Fault>
+        ensures made { IfOk result (λ slot. Makes (machine_of self.old) expiry slot.0 (machine_of self.new)) }
+        ensures refused { OnErr result (machine_of self.new ≡ machine_of self.old) }
+        ensures fault { IfErr result (λ fault. fault ≡ Fault.NoMemory) }
+    {
+        self.deadlines.insert(expiry)
+    }
+
+    fn try_wait(&mut self, slot: Slot, now: u64, waker: W) -> (Poll<()>, Leftover<W>)
+        requires live { can_be_polled (phase_of self.old.deadlines.side slot.0) ≡ true }
+        ensures polled { Polls (machine_of self.old) slot.0 now waker result.0 (machine_of self.new) }
+        ensures displaced { result.1.displaced ≡ displaced self.old.deadlines.side self.old.deadlines.out slot.0 }
+        ensures unused { result.1.unused ≡ unused_after result.0 waker }
+    {
+        let named = self.deadlines.take_out(slot);
+        if self.deadlines.is_registered(slot) {
+            let before = self.deadlines.set_phase(slot, Phase::Registered(waker));
+            return (Poll::Pending, Leftover::of(before, None));
+        }
+        if self.deadlines.is_fresh(slot) && !self.deadlines.has_come(slot, now) {
+            self.floor = self.floor.min(now);
+            self.deadlines.register(slot, waker);
+            return (Poll::Pending, Leftover::of(named, None));
+        }
+        self.deadlines.set_phase(slot, Phase::Ended);
+        (Poll::Ready(()), Leftover::of(named, Some(waker)))
+    }
+
+    fn remove_waiter(&mut self, slot: Slot) -> Option<W>
+        requires { is_some (phase_of self.old.deadlines.side slot.0) ≡ true }
+        ensures cancelled { Cancels (machine_of self.old) slot.0 (machine_of self.new) }
+        ensures displaced { result ≡ displaced self.old.deadlines.side self.old.deadlines.out slot.0 }
+    {
+        self.deadlines.remove(slot)
+    }
+}

@@ -1,0 +1,84 @@
+//! A future of a timer, polled with the timer lent to it.
+ghost use Rattle.std.specs.Prelude.{◌≡◌, true, false, is_some};
+ghost use Rattle.fi_parts.specs.Machine.{phase_at};
+ghost use Rattle.fi_parts.specs.Polled.{is_ready};
+ghost use Rattle.fi_locks.specs.Timer.{can_be_polled, Polls, Cancels};
+
+use crate::timer::LocalTimerService;
+use fi_parts::Slot;
+use futures::task::Poll;
+use std::marker::Model;
+
+/// Waits for a moment of a local timer. It is spent by `cancel`, with its timer; it cannot just be let go.
+///
+/// Keeps `LocalTimerFuture` of futures-intrusive's `timer`.
+pub struct LocalTimerFuture {
+    slot: Slot,
+    is_ended: bool,
+}
+
+impl Model for LocalTimerFuture {
+    ghost use Rattle.fi_parts.specs.Polled.{LocalFuture};
+
+    ghost Value = { LocalFuture };
+
+    ghost view = { λ f. record { name = f.slot.0; has_ended = f.is_ended } };
+}
+
+impl LocalTimerFuture {
+    // The future that was just made under this slot.
+    pub(crate) fn at(slot: Slot) -> Self
+        ensures name { result.name ≡ slot.0 }
+        ensures fresh { result.has_ended ≡ false }
+    {
+        LocalTimerFuture {
+            slot,
+            is_ended: false,
+        }
+    }
+
+    /// The name of this future in its timer.
+    pub fn slot(&self) -> Slot
+        ensures { result.0 ≡ self.now.name }
+    {
+        self.slot
+    }
+
+    /// The future was polled to its end. Keeps `FusedFuture::is_terminated`.
+    pub fn is_terminated(&self) -> bool
+        ensures { result ≡ self.now.has_ended }
+    {
+        self.is_ended
+    }
+
+    /// Ready once a check has told the future, or at a first poll that is not before its expiry; else it is registered with this
+    /// waker.
+    ///
+    /// The caller lends the future's own timer, says which moment it is, and polls no future that has ended
+    /// (`LocalTimerService::can_poll`).
+    pub fn poll<W: Drop>(
+        &mut self,
+        timer: &mut LocalTimerService<W>,
+        now: u64,
+        waker: W,
+    ) -> Poll<()>
+        requires { can_be_polled (phase_at timer.old self.old.name) ≡ true }
+        ensures polled { Polls timer.old self.old.name now waker result timer.new }
+        ensures name { self.new.name ≡ self.old.name }
+        ensures ended { self.new.has_ended ≡ is_ready result }
+        ensures live { is_some (phase_at timer.new self.old.name) ≡ true }
+    {
+        let (answer, _leftover) = timer.try_wait(self.slot, now, waker);
+        self.is_ended = answer.is_ready();
+        answer
+    }
+
+    /// Ends the wait: the future leaves its timer, and nobody is told. The caller lends the future's own timer.
+    pub fn cancel<W: Drop>(self, timer: &mut LocalTimerService<W>)
+        requires { is_some (phase_at timer.old self.name) ≡ true }
+        ensures { Cancels timer.old self.name timer.new }
+    {
+        let LocalTimerFuture { slot, is_ended: _ } = self;
+        timer.remove_waiter(slot);
+    }
+}
