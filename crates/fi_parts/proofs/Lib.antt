@@ -42,3 +42,4 @@ pub mod Machines
 pub mod WakerHistories
 pub mod PairsWithin
 pub mod TwoSidedEffects
+pub mod TwoSidedMachines

@@ -38,3 +38,4 @@ pub mod Effects
 pub mod Machine
 pub mod WakerHistory
 pub mod TwoSidedEffects
+pub mod TwoSidedMachine
