@@ -46,3 +46,4 @@ pub mod Seats
 pub mod FirstSeat
 pub mod Telling
 pub mod Results
+pub mod TwoSidedMachines

@@ -5,14 +5,14 @@ use Rattle.std.proofs.lemmas.List.{append-nil}
 use Rattle.fi_parts.specs.declared.phase.Phase.{Phase}
 use Rattle.fi_parts.specs.declared.two_sides.Waiter.{Waiter}
 use Rattle.fi_parts.specs.declared.two_sides.Waiter.TheVariants.{Send, Receive}
-use Rattle.fi_parts.specs.Effects.{WaiterEffect, TakesEffect, oldest_notified}
+use Rattle.fi_parts.specs.Effects.{WaiterEffect, TakesEffect, oldest_notified, completes_first}
 use Rattle.fi_parts.specs.Effects.WaiterEffect.{NoChange, Inserts, Registers, RegistersApart, KeepsWaiting, Ends, EndsPlaced, Renews, Asks}
 use Rattle.fi_parts.specs.Effects.WaiterEffect.{Removes, NotifiesOldest, NotifiesAll, NotifiesListed, NotifiesFront, CompletesOldest}
 use Rattle.fi_parts.specs.Effects.WaiterEffect.{PopsOldest, AndThen}
 use Rattle.fi_parts.specs.Machine.{AllowsBasics}
 use Rattle.fi_parts.specs.NamedPairs.{without_by, first_waker}
 use Rattle.fi_parts.specs.Noticed.{phase_after}
-use Rattle.fi_parts.specs.Oldest.{pop_first, pair_of_first, pair_of_oldest}
+use Rattle.fi_parts.specs.Oldest.{pop_first, pair_of_first, pair_of_oldest, complete_first, complete_oldest}
 use Rattle.fi_parts.specs.Pairs.{without_pair}
 use Rattle.fi_parts.specs.Places.{registered_rule}
 use Rattle.fi_parts.specs.TwoSidedEffects.{marked, TakesOn, TwoSidedEffect, waiting_sends, waiting_receives, TakesTwoSided}
@@ -27,6 +27,7 @@ use Rattle.fi_parts.proofs.BothSound.{both_sound-next_wake}
 use Rattle.fi_parts.proofs.Effects.{effect_after, effect_sound}
 use Rattle.fi_parts.proofs.Sides.{sends-without, sends-without_receive, receives-without, receives-without_send}
 use Rattle.fi_parts.proofs.Sides.{sends-and_sends, sends-and_receives, receives-and_sends, receives-and_receives}
+use Rattle.fi_parts.proofs.Waiting.{first_registered, live_if_registered}
 use Rattle.fi_parts.proofs.WakerHistories.{CarriesOn, carries, and_then, handed_carries}
 
 -- The pairs of one side in an outbox: what taking out a pair of it, and naming, are to them.
@@ -86,6 +87,19 @@ module _ {D W N : Type 0} (mark : ℕ → N) (same : N → N → Bool) (view : L
   effect_seen (PopsOldest waker) old out new after did = absurd did
   effect_seen (AndThen one other) old out new after did =
       (seen did.0 did.1, effect_seen one old out did.0 did.1 did.2, effect_seen other did.0 did.1 new after did.3)
+
+module _ {D W N : Type 0} (mark : ℕ → N) (same : N → N → Bool) where
+  -- what the store's words for the completing of the oldest are
+  pub oldest_completes : (allowed : Option (Phase W) → Bool) (asks : D) (old : Side D W) (pairs : List (ℕ × W)) (out : List (N × W)) →
+      AreSound allowed old pairs → TakesOn mark same (completes_first asks old.queue) old out (complete_oldest asks old)
+      (out ++ marked mark (pair_of_oldest old))
+  oldest_completes allowed asks old pairs out was = each old.queue refl
+    where
+      each : (names : List ℕ) → old.queue ≡ names → TakesOn mark same (completes_first asks names) old out (complete_first asks old names)
+          (out ++ marked mark (pair_of_first old names))
+      each [] queue = (refl, append-nil out)
+      each (name ∷ others) queue =
+          (others, queue, live_if_registered old name (first_registered old pairs name others was.ordered queue), refl, refl)
 
 module _ {D W N : Type 0} (mark : ℕ → N) (same : N → N → Bool) (view : List (N × W) → List (ℕ × W)) (is : IsOtherView mark same view) where
   -- It leaves the pairs of the other side.

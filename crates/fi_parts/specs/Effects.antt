@@ -106,6 +106,11 @@ module _ {D W : Type 0} where
   TakesEffect (PopsOldest waker) old new = (waker ≡ oldest old.out) × (new ≡ record old { out = drop 1 old.out })
   TakesEffect (AndThen one other) old new = (mid : Waiting D W) × TakesEffect one old mid × TakesEffect other mid new
 
+  -- the oldest of this queue completes, if there is one
+  abbrev pub completes_first : D → List ℕ → WaiterEffect D W
+  completes_first asks [] = NoChange
+  completes_first asks (name ∷ others) = CompletesOldest name asks
+
   -- nothing lives, and nobody is to be woken
   abbrev pub nobody : Waiting D W
   nobody = record { side = no_futures; out = [] }

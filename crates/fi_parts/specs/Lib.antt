@@ -41,3 +41,4 @@ pub mod TwoSidedEffects
 pub mod Deadlines
 pub mod Seats
 pub mod Polled
+pub mod TwoSidedMachine
