@@ -9,6 +9,7 @@ mod runs;
 mod state;
 #[cfg(test)]
 mod tests;
+mod timer;
 
 pub use answer::Answer;
 pub use broadcast::every_run_of_a_oneshot_broadcast;
@@ -16,3 +17,4 @@ pub use event::{EventCall, every_run_of_an_event};
 pub use oneshot::{OneshotCall, every_run_of_a_oneshot};
 pub use runs::{Primitive, every_run, run};
 pub use state::{StateCall, every_run_of_a_state_broadcast};
+pub use timer::{TimerCall, every_run_of_a_timer};
