@@ -10,3 +10,6 @@ pub mod State
 pub mod StateAnswer
 pub mod StateHistory
 pub mod StateLaws
+pub mod Timer
+pub mod TimerHistory
+pub mod TimerLaws

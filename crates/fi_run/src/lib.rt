@@ -8,9 +8,11 @@ mod runs;
 mod state;
 #[cfg(test)]
 mod tests;
+mod timer;
 
 pub use answer::Answer;
 pub use event::{EventCall, every_run_of_an_event};
 pub use oneshot::{OneshotCall, every_run_of_a_oneshot, every_run_of_a_oneshot_broadcast};
 pub use runs::{Primitive, every_run, run};
 pub use state::{StateCall, every_run_of_a_state_broadcast};
+pub use timer::{TimerCall, every_run_of_a_timer};

@@ -1,0 +1,329 @@
+//! The timer as a primitive.
+ghost use Rattle.std.specs.Prelude.{◌≡◌, IsOk, IfOk, IfErr};
+ghost use Rattle.fi_locks.specs.Timer.{TimerMachine, IsSound, OwesNoWake};
+ghost use Rattle.fi_run.specs.Timer.{Opens, Step};
+ghost use Rattle.fi_run.specs.TimerHistory.{ExpiriesAreLater, WakersAreKept};
+ghost use Rattle.fi_run.specs.Run.{AfterEveryRun};
+ghost use Rattle.fi_run.specs.declared.answer.Answer.{Answer};
+ghost use Rattle.fi_run.specs.declared.timer.TimerCall.{TimerCall};
+
+use crate::answer::Answer;
+use crate::runs::{Primitive, every_run};
+use fi_locks::TimerState;
+use fi_parts::{Fault, Slot};
+use futures::task::Poll;
+use std::alloc::Global;
+use std::time::Duration;
+
+/// A call on a timer. Moments and expiries are in milliseconds.
+#[derive(Clone, Copy, Debug, PartialEq, Eq, Drop)]
+pub enum TimerCall<W> {
+    /// Makes a future with this expiry. Answers `Made`.
+    Deadline(u64),
+    /// Makes a future whose expiry is so long after this moment. Answers `Made`.
+    Delay(u64, Duration),
+    /// Polls a future at this moment. Answers `Pending`, `Ready`.
+    Poll(Slot, u64, W),
+    /// Cancels a future. Answers `Done`.
+    Cancel(Slot),
+    /// Checks at this moment which expiries have come. Answers `Done`.
+    Check(u64),
+    /// Asks for the least expiry of those that wait. Answers `Moment`.
+    Next,
+    /// Takes out the oldest waker. Answers `Woken`.
+    NextWake,
+}
+
+impl<W: Drop> Primitive for TimerState<W> {
+    ghost use Rattle.fi_locks.specs.Timer.{IsSound, OwesNoWake};
+    ghost use Rattle.fi_run.specs.Timer.{Opens, Step};
+    ghost use Rattle.fi_run.specs.TimerHistory.{HistoryHolds};
+    ghost use Rattle.fi_run.specs.TimerLaws.{timer_starts, timer_keeps, timer_history_initial, timer_history_preserved};
+
+    type Opening = ();
+
+    type Call = TimerCall<W>;
+
+    type Answer = Answer<u64, W>;
+
+    ghost step = { Step };
+
+    ghost opens = { Opens };
+
+    ghost is_sound = { IsSound };
+
+    ghost owes_no_wake = { OwesNoWake };
+
+    ghost history_invariant = { HistoryHolds };
+
+    ghost starts = { timer_starts };
+
+    ghost keeps = { timer_keeps };
+
+    ghost history_initial = { timer_history_initial };
+
+    ghost history_preserved = { timer_history_preserved };
+
+    fn open(alloc: Global, opening: ()) -> Result<Self, Fault>
+        ensures opened { IfOk result (λ state. Opens opening state) }
+        ensures fault { IfErr result (λ fault. fault ≡ Fault.NoMemory) }
+        // It takes no memory.
+        ensures succeeds { IsOk result }
+    {
+        let () = opening;
+        Ok(TimerState::new(alloc))
+    }
+
+    #[inline(always)]
+    fn apply(&mut self, call: TimerCall<W>) -> Answer<u64, W> {
+        match call {
+            TimerCall::Deadline(expiry) => match self.claim_deadline(expiry) {
+                Ok(slot) => Answer::Made(slot),
+                Err(fault) => Answer::Refused(fault),
+            },
+            TimerCall::Delay(now, delay) => match self.claim_delay(now, delay) {
+                Ok(slot) => Answer::Made(slot),
+                Err(fault) => Answer::Refused(fault),
+            },
+            TimerCall::Poll(slot, now, waker) => {
+                if !self.can_poll(slot) {
+                    return Answer::Refused(Fault::NoSlot);
+                }
+                let (answer, _leftover) = self.try_wait(slot, now, waker);
+                match answer {
+                    Poll::Ready(_) => Answer::Ready,
+                    Poll::Pending => Answer::Pending,
+                }
+            }
+            TimerCall::Cancel(slot) => {
+                if !self.is_live(slot) {
+                    return Answer::Refused(Fault::NoSlot);
+                }
+                self.remove_waiter(slot);
+                Answer::Done
+            }
+            TimerCall::Check(now) => {
+                self.check_expirations(now);
+                Answer::Done
+            }
+            TimerCall::Next => Answer::Moment(self.next_expiration()),
+            TimerCall::NextWake => Answer::Woken(self.next_wake()),
+        }
+    }
+
+    fn show(&self) {
+        TimerState::show(self);
+    }
+}
+
+/// Every timer follows its promises, in every run from a sound state that owes no wake, so from an opening: the expiry of each
+/// future that waits is later than the moment of its first poll and of every check since; a pending future's last waker is
+/// registered, stands in the outbox, or was handed out since; and no wake is owed.
+pub fn every_run_of_a_timer<W: Drop>()
+    ensures opened { (first : TimerMachine W) → Opens tt first → IsSound first × OwesNoWake first }
+    ensures expiries { AfterEveryRun {S = TimerMachine W} IsSound OwesNoWake Step (λ first history now. ExpiriesAreLater first history now) }
+    ensures wakers { AfterEveryRun {S = TimerMachine W} IsSound OwesNoWake Step (λ first history now. WakersAreKept first history now) }
+    ensures no_wake { AfterEveryRun {S = TimerMachine W} IsSound OwesNoWake Step (λ first history now. IsSound now × OwesNoWake now) }
+{
+    every_run::<TimerState<W>>();
+}
+
+#[cfg(test)]
+mod tests {
+    use super::*;
+    use crate::runs::run;
+    use std::test::Fail;
+
+    const A: Slot = Slot(0);
+
+    const B: Slot = Slot(1);
+
+    const C: Slot = Slot(2);
+
+    // A new timer answers these calls so.
+    fn answers(
+        alloc: Global,
+        calls: Vec<TimerCall<u64>>,
+        wanted: &[Answer<u64, u64>],
+    ) -> Result<bool, Fail> {
+        let mut timer: TimerState<u64> = TimerState::open(alloc, ())?;
+        let mut out = Vec::new(alloc);
+        run(&mut timer, calls, &mut out)?;
+        Primitive::show(&timer);
+        Ok(out.as_slice() == wanted)
+    }
+
+    #[test]
+    fn timer_expirations(rt: HostRuntime) -> Result<(), Fail> {
+        let calls = vec![in rt.alloc();
+            TimerCall::Deadline(999),
+            TimerCall::Poll(A, 200, 1),
+            TimerCall::Next,
+            TimerCall::Delay(200, Duration::from_millis(300)),
+            TimerCall::Poll(B, 200, 2),
+            TimerCall::Next,
+            TimerCall::Delay(200, Duration::from_millis(500)),
+            TimerCall::Poll(C, 200, 3),
+            TimerCall::Next,
+            TimerCall::Check(500),
+            TimerCall::NextWake,
+            TimerCall::NextWake,
+            TimerCall::Poll(B, 500, 2),
+            TimerCall::Next,
+            TimerCall::Check(699),
+            TimerCall::NextWake,
+            TimerCall::Check(700),
+            TimerCall::NextWake,
+            TimerCall::NextWake,
+        ]?;
+        let wanted = [
+            Answer::Made(A),
+            Answer::Pending,
+            Answer::Moment(Some(999)),
+            Answer::Made(B),
+            Answer::Pending,
+            Answer::Moment(Some(500)),
+            Answer::Made(C),
+            Answer::Pending,
+            Answer::Moment(Some(500)),
+            Answer::Done,
+            Answer::Woken(Some(2)),
+            Answer::Woken(None),
+            Answer::Ready,
+            Answer::Moment(Some(700)),
+            Answer::Done,
+            Answer::Woken(None),
+            Answer::Done,
+            Answer::Woken(Some(3)),
+            Answer::Woken(None),
+        ];
+        assert!(rt; answers(rt.alloc(), calls, wanted.as_slice())?);
+        Ok(())
+    }
+
+    #[test]
+    fn timer_saturates(rt: HostRuntime) -> Result<(), Fail> {
+        let late = 18_446_744_073_709_551_610;
+        let calls = vec![in rt.alloc();
+            TimerCall::Delay(late, Duration::from_millis(10)),
+            TimerCall::Poll(A, late, 1),
+            TimerCall::Next,
+            TimerCall::Check(u64::MAX),
+            TimerCall::NextWake,
+            TimerCall::Poll(A, u64::MAX, 1),
+        ]?;
+        let wanted = [
+            Answer::Made(A),
+            Answer::Pending,
+            Answer::Moment(Some(u64::MAX)),
+            Answer::Done,
+            Answer::Woken(Some(1)),
+            Answer::Ready,
+        ];
+        assert!(rt; answers(rt.alloc(), calls, wanted.as_slice())?);
+        Ok(())
+    }
+
+    #[test]
+    fn timer_cancel(rt: HostRuntime) -> Result<(), Fail> {
+        let calls = vec![in rt.alloc();
+            TimerCall::Deadline(300),
+            TimerCall::Deadline(100),
+            TimerCall::Deadline(200),
+            TimerCall::Poll(A, 0, 1),
+            TimerCall::Poll(B, 0, 2),
+            TimerCall::Poll(C, 0, 3),
+            TimerCall::Next,
+            TimerCall::Cancel(B),
+            TimerCall::Next,
+            TimerCall::Check(250),
+            TimerCall::NextWake,
+            TimerCall::NextWake,
+            TimerCall::Next,
+            TimerCall::Check(299),
+            TimerCall::NextWake,
+            TimerCall::Cancel(A),
+            TimerCall::Next,
+            TimerCall::Cancel(A),
+            TimerCall::Poll(A, 0, 1),
+        ]?;
+        let wanted = [
+            Answer::Made(A),
+            Answer::Made(B),
+            Answer::Made(C),
+            Answer::Pending,
+            Answer::Pending,
+            Answer::Pending,
+            Answer::Moment(Some(100)),
+            Answer::Done,
+            Answer::Moment(Some(200)),
+            Answer::Done,
+            Answer::Woken(Some(3)),
+            Answer::Woken(None),
+            Answer::Moment(Some(300)),
+            Answer::Done,
+            Answer::Woken(None),
+            Answer::Done,
+            Answer::Moment(None),
+            Answer::Refused(Fault::NoSlot),
+            Answer::Refused(Fault::NoSlot),
+        ];
+        assert!(rt; answers(rt.alloc(), calls, wanted.as_slice())?);
+        Ok(())
+    }
+
+    #[test]
+    fn timer_clock_set_back(rt: HostRuntime) -> Result<(), Fail> {
+        let calls = vec![in rt.alloc();
+            TimerCall::Deadline(100),
+            TimerCall::Poll(A, 90, 1),
+            TimerCall::Check(95),
+            TimerCall::NextWake,
+            TimerCall::Check(50),
+            TimerCall::NextWake,
+            TimerCall::Deadline(60),
+            TimerCall::Poll(B, 50, 2),
+            TimerCall::Next,
+            TimerCall::Poll(A, 200, 3),
+            TimerCall::Check(60),
+            TimerCall::NextWake,
+            TimerCall::NextWake,
+            TimerCall::Check(100),
+            TimerCall::NextWake,
+            TimerCall::Poll(A, 0, 3),
+        ]?;
+        let wanted = [
+            Answer::Made(A),
+            Answer::Pending,
+            Answer::Done,
+            Answer::Woken(None),
+            Answer::Done,
+            Answer::Woken(None),
+            Answer::Made(B),
+            Answer::Pending,
+            Answer::Moment(Some(60)),
+            Answer::Pending,
+            Answer::Done,
+            Answer::Woken(Some(2)),
+            Answer::Woken(None),
+            Answer::Done,
+            Answer::Woken(Some(3)),
+            Answer::Ready,
+        ];
+        assert!(rt; answers(rt.alloc(), calls, wanted.as_slice())?);
+        Ok(())
+    }
+
+    #[test]
+    fn a_delay_counts_whole_milliseconds(rt: HostRuntime) -> Result<(), Fail> {
+        let calls = vec![in rt.alloc();
+            TimerCall::Delay(5, Duration::from_micros(1_999)),
+            TimerCall::Poll(A, 5, 1),
+            TimerCall::Next,
+        ]?;
+        let wanted = [Answer::Made(A), Answer::Pending, Answer::Moment(Some(6))];
+        assert!(rt; answers(rt.alloc(), calls, wanted.as_slice())?);
+        every_run_of_a_timer::<u64>();
+        Ok(())
+    }
+}
