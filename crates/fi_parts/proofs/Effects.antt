@@ -54,7 +54,7 @@ module _ {W : Type 0} (place : Option (Phase W) → Bool) (rule : IsPlaceRule pl
   unplaced (Some Ended) may untold = rule.ended
 
   -- where the registered have places, and the told have none
-  noticed_by_place : (phase : Phase W) (p now : Option (Phase W)) → rule.waiting ≡ true → place (Some Told) ≡ false →
+  noticed_by_place : (phase : Phase W) (p now : Option (Phase W)) → rule.has_queue ≡ true → place (Some Told) ≡ false →
       (place p ≡ true → now ≡ Some phase) → (place p ≡ false → now ≡ p) → now ≡ noticed_phase phase p
   noticed_by_place phase None now waiting told at off = off rule.none
   noticed_by_place phase (Some Fresh) now waiting told at off = off rule.fresh
@@ -180,7 +180,7 @@ module _ {D W : Type 0} {place : Option (Phase W) → Bool} (rule : IsPlaceRule 
 
   -- the registered have places, and the told have none
   pub queues : (notice : Notice) (old : Waiting D W) → AllowsEffect rule known old (NotifiesAll notice) →
-      (rule.waiting ≡ true) × (place (Some Told) ≡ false)
+      (rule.has_queue ≡ true) × (place (Some Told) ≡ false)
   queues notice old allows = let can = and_parts _ _ (and_parts _ _ allows).1 in (can.0, is_false _ can.1)
 
   pub all_are : (notice : Notice) (old new : Waiting D W) → AllowsEffect rule known old (NotifiesAll notice) →
