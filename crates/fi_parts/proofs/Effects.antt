@@ -1,7 +1,7 @@
 -- What each effect says of each name, and what it keeps.
 use Rattle.std.specs.Prelude.{◌≡◌, ◌≢◌, ◌⊎◌, ◌||◌, ℕ, Bool, true, false, not, if◌then◌else◌, Option, Some, None, List, [], ◌∷◌, ◌++◌, refl}
 use Rattle.std.proofs.Common.{sym, ◌∙◌, ap, subst, inl, inr, is_some}
-use Rattle.std.proofs.lemmas.Bool.{both_ways, cases_Bool, and_parts, or_left, ne_eqb}
+use Rattle.std.proofs.lemmas.Bool.{both_ways, cases_Bool, and_parts, or_left, ne_eqb, cases_eq}
 use Rattle.fi_parts.proofs.Slots.{eqb_same}
 use Rattle.fi_parts.proofs.Oldest.{phase-with_asks, sound_by-exchange}
 use Rattle.std.proofs.lemmas.List.{append-nil}
@@ -24,7 +24,9 @@ use Rattle.fi_parts.specs.Effects.{WaiterEffect, TakesEffect, first_of, oldest_n
 use Rattle.fi_parts.specs.Effects.WaiterEffect.{NoChange, Inserts, Registers, RegistersApart, KeepsWaiting, Ends, EndsPlaced, Renews}
 use Rattle.fi_parts.specs.Effects.WaiterEffect.{NotifiesOldest, NotifiesAll, NotifiesListed, NotifiesFront, PopsOldest, AndThen}
 use Rattle.fi_parts.specs.Effects.WaiterEffect.{Asks, Removes, CompletesOldest}
-use Rattle.fi_parts.specs.Machine.{AllowsBasics, AllowsEffect, Given}
+use Rattle.fi_parts.specs.Machine.{AllowsBasics, AllowsEffect, Given, waker_effect}
+use Rattle.fi_parts.specs.WakerHistory.{WakerEffect}
+use Rattle.fi_parts.specs.WakerHistory.WakerEffect.{Pends, Leaves, NoEffect}
 
 module _ {W : Type 0} where
   pub some_phase : (p : Option (Phase W)) → may_be_named p ≡ true → (phase : Phase W) × (p ≡ Some phase)
@@ -54,7 +56,7 @@ module _ {W : Type 0} (place : Option (Phase W) → Bool) (rule : IsPlaceRule pl
   unplaced (Some Ended) may untold = rule.ended
 
   -- where the registered have places, and the told have none
-  noticed_by_place : (phase : Phase W) (p now : Option (Phase W)) → rule.waiting ≡ true → place (Some Told) ≡ false →
+  noticed_by_place : (phase : Phase W) (p now : Option (Phase W)) → rule.has_queue ≡ true → place (Some Told) ≡ false →
       (place p ≡ true → now ≡ Some phase) → (place p ≡ false → now ≡ p) → now ≡ noticed_phase phase p
   noticed_by_place phase None now waiting told at off = off rule.none
   noticed_by_place phase (Some Fresh) now waiting told at off = off rule.fresh
@@ -180,7 +182,7 @@ module _ {D W : Type 0} {place : Option (Phase W) → Bool} (rule : IsPlaceRule 
 
   -- the registered have places, and the told have none
   pub queues : (notice : Notice) (old : Waiting D W) → AllowsEffect rule known old (NotifiesAll notice) →
-      (rule.waiting ≡ true) × (place (Some Told) ≡ false)
+      (rule.has_queue ≡ true) × (place (Some Told) ≡ false)
   queues notice old allows = let can = and_parts _ _ (and_parts _ _ allows).1 in (can.0, is_false _ can.1)
 
   pub all_are : (notice : Notice) (old new : Waiting D W) → AllowsEffect rule known old (NotifiesAll notice) →
@@ -385,3 +387,65 @@ module _ {D W : Type 0} where
   pub added_fresh : (old new : Waiting D W) (name : ℕ) (asks : D) → TakesEffect (Inserts name asks) old new →
       phase_of new.side name ≡ Some Fresh
   added_fresh old new name asks taken = (to old new _ name (Some Fresh) taken.1 (becomes-made old.side name asks)).here
+
+leaves_something : {W : Type 0} (name : ℕ) → ◌≡◌ {A = WakerEffect W} (Leaves name) NoEffect → ⊥
+leaves_something name e = cc
+
+pends_something : {W : Type 0} (name : ℕ) (waker : W) → ◌≡◌ {A = WakerEffect W} (Pends name waker) NoEffect → ⊥
+pends_something name waker e = cc
+
+still_some : {W : Type 0} (phase : Phase W) (p : Option (Phase W)) → is_some p ≡ true → is_some (noticed_phase phase p) ≡ true
+still_some phase None lives = lives
+still_some phase (Some Fresh) lives = refl
+still_some phase (Some (Registered w)) lives = refl
+still_some phase (Some Told) lives = refl
+still_some phase (Some Complete) lives = refl
+still_some phase (Some Ended) lives = refl
+
+module _ {D W : Type 0} where
+  some_of_these : (old new : Side D W) (names : List ℕ) (phase : Phase W) → AllBecome old new names phase → (q : ℕ) →
+      is_some (phase_of old q) ≡ true → is_some (phase_of new q) ≡ true
+  some_of_these old new names phase now q lives = elim (cases_Bool (holds q names)) [
+    | inl at ↦ ap is_some (now.these q at)
+    | inr off ↦ ap is_some (now.others q off) ∙ lives
+  ]
+
+  some_of_one : (old new : Side D W) (name : ℕ) (phase : Phase W) → Becomes old new name (Some phase) → (q : ℕ) →
+      is_some (phase_of old q) ≡ true → is_some (phase_of new q) ≡ true
+  some_of_one old new name phase now q lives = elim (cases_eq q name) [
+    | inl same ↦ ap (λ n. is_some (phase_of new n)) same ∙ ap is_some now.here
+    | inr ne ↦ ap is_some (now.others q ne) ∙ lives
+  ]
+
+  module _ {place : Option (Phase W) → Bool} (rule : IsPlaceRule place) (known : Option (Phase W) → Bool) (knows : AllowsBasics known) where
+    -- Whoever lives before an effect that is nothing to the wakers lives after it.
+    pub still_lives : (effect : WaiterEffect D W) (old new : Waiting D W) → AllowsEffect rule known old effect →
+        AreSoundBy place known old.side old.out → TakesEffect effect old new → After effect old new → waker_effect effect ≡ NoEffect →
+        (q : ℕ) → is_some (phase_of old.side q) ≡ true → is_some (phase_of new.side q) ≡ true
+    still_lives NoChange old new is was taken now nothing q lives = ap is_some (now q) ∙ lives
+    still_lives (Inserts name asks) old new is was taken now nothing q lives = absurd (leaves_something name nothing)
+    still_lives (Registers name waker) old new is was taken now nothing q lives = absurd (pends_something name waker nothing)
+    still_lives (RegistersApart name waker) old new is was taken now nothing q lives = absurd (pends_something name waker nothing)
+    still_lives (KeepsWaiting name waker) old new is was taken now nothing q lives = absurd (pends_something name waker nothing)
+    still_lives (Ends name) old new is was taken now nothing q lives = absurd (leaves_something name nothing)
+    still_lives (EndsPlaced name) old new is was taken now nothing q lives = absurd (leaves_something name nothing)
+    still_lives (Renews name) old new is was taken now nothing q lives = absurd (leaves_something name nothing)
+    still_lives (Asks name asks) old new is was taken now nothing q lives = ap is_some (now q) ∙ lives
+    still_lives (Removes name) old new is was taken now nothing q lives = absurd (leaves_something name nothing)
+    still_lives (NotifiesOldest notice) old new is was taken now nothing q lives =
+        elim (now q) [ inl same ↦ ap is_some same ∙ lives | inr told ↦ ap is_some told ]
+    still_lives (NotifiesAll notice) old new is was taken now nothing q lives =
+        ap is_some (now q) ∙ still_some (phase_after notice) (phase_of old.side q) lives
+    still_lives (NotifiesListed notice names) old new is was taken now nothing q lives =
+        some_of_these old.side new.side names (phase_after notice) now q lives
+    still_lives (NotifiesFront keeps front) old new is was taken now nothing q lives =
+        some_of_these old.side new.side front Told now q lives
+    still_lives (CompletesOldest name asks) old new is was taken now nothing q lives =
+        some_of_one old.side new.side name Complete now q lives
+    still_lives (PopsOldest waker) old new is was taken now nothing q lives = ap is_some (now q) ∙ lives
+    still_lives (AndThen one other) old new is was taken now nothing q lives =
+        let mid = taken.0 in
+        let sound = effect_sound rule known knows one old mid is.0 was taken.1 in
+        let allows = is.1 mid taken.1 in
+        still_lives other mid new allows sound taken.2 (effect_after rule known knows other mid new allows sound taken.2) is.2 q
+        (still_lives one old mid is.0 was taken.1 (effect_after rule known knows one old mid is.0 was taken.1) nothing q lives)

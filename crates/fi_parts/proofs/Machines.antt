@@ -27,7 +27,7 @@ use Rattle.fi_parts.specs.Effects.WaiterEffect.{Asks, Removes, CompletesOldest}
 use Rattle.fi_parts.specs.Machine.{Machine, phase_at, initial, StepsTo, HasSoundWaitersBy, AllLack, AllowsEffect, LacksAfter, StillLacks}
 use Rattle.fi_parts.specs.Machine.{waker_effect, WaiterRules, Line, poll_effect, PollLine}
 use Rattle.fi_parts.proofs.Effects.{After, AreNotified, IsOf, effect_after, effect_sound, notified_after, queues, oldest_are, all_are}
-use Rattle.fi_parts.proofs.Effects.{listed_are, front_are, polled_lives, added_fresh}
+use Rattle.fi_parts.proofs.Effects.{listed_are, front_are, polled_lives, still_lives, added_fresh}
 
 module _ {D W : Type 0} where
   -- one name changed: another is registered as before, and asks the same
@@ -260,6 +260,25 @@ module _ {S D W : Type 0} (rules : WaiterRules S D W) where
     lives = polled_lives effect old.waiting new.waiting name of steps.1;
     asks = λ q. asks_after effect old.waiting new.waiting steps.1 q ∙ same q;
   }
+
+  -- A poll by two effects, the first on the name that was polled; the second only names futures.
+  pub polls_and_then : {on_wakers : WakerEffect W} (own : S) (one other : WaiterEffect D W) (name : ℕ) (old new : Machine S D W) →
+      HasSoundWaitersBy rules.place rules.phases old → StepsTo old own (AndThen one other) new →
+      AllowsEffect rules.places rules.phases old.waiting (AndThen one other) → ((asks : Option D) → rules.lacks own asks) →
+      IsOf name one → waker_effect one ≡ on_wakers →
+      ((q : ℕ) → asks_step (AndThen one other) q (asks_of old.waiting.side q) ≡ asks_of old.waiting.side q) →
+      PollLine rules name on_wakers old new
+  polls_and_then own one other name old new was steps allows lack of is same =
+      let mid = steps.1.0 in
+      let sound = effect_sound rules.places rules.phases rules.known one old.waiting mid allows.0 was steps.1.1 in
+      let allowed = allows.1 mid steps.1.1 in
+      let now = effect_after rules.places rules.phases rules.known other mid new.waiting allowed sound steps.1.2 in
+      record {
+        line = record { own = own; effect = AndThen one other; steps = steps; allows = allows; lack = lack; effect_is = is };
+        lives = still_lives rules.places rules.phases rules.known other mid new.waiting allowed sound steps.1.2 now allows.2 name
+            (polled_lives one old.waiting mid name of steps.1.1);
+        asks = λ q. asks_after (AndThen one other) old.waiting new.waiting steps.1 q ∙ same q;
+      }
 
   -- a poll that ended the future
   pub ends : {A : Type 0} {x : A} {answer : Poll A} (own : S) (name : ℕ) (waker : W) (old new : Machine S D W) →

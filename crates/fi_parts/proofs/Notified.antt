@@ -170,7 +170,7 @@ module _ {D W : Type 0} (place : Option (Phase W) → Bool) (rule : IsPlaceRule 
       apart false = Apart-back front rest once
 
   -- registered ones that have no place
-  pub may_notify-listed : (phase : Phase W) (names : List ℕ) (old : Waiting D W) → place (Some phase) ≡ false → rule.waiting ≡ false →
+  pub may_notify-listed : (phase : Phase W) (names : List ℕ) (old : Waiting D W) → place (Some phase) ≡ false → rule.has_queue ≡ false →
       IsOrderedBy place old.side old.out → AreRegistered old.side names → MayNotify place phase names old.side.queue old
   may_notify-listed phase names old is apart was names_are = record {
     once = names_are.once;

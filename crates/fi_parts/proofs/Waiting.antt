@@ -91,7 +91,7 @@ module _ {D W : Type 0} where
 
 -- the registered have a place, or none of them has
 pub placed : {W : Type 0} (place : Option (Phase W) → Bool) (rule : IsPlaceRule place) (p : Option (Phase W)) →
-    is_registered p ≡ true → place p ≡ rule.waiting
+    is_registered p ≡ true → place p ≡ rule.has_queue
 placed place rule p is = let w = registered_is p is in ap place w.1 ∙ rule.registered w.0
 
 -- What keeps a store in order, for any choice of the phases that have a place.

@@ -77,14 +77,14 @@ pub record AllowsBasics {W : Type 0} (known : Option (Phase W) → Bool) : Type 
   pub registered : (waker : W) → known (Some (Registered waker)) ≡ true
   pub ended : known (Some Ended) ≡ true
 
--- this, where that holds
+-- that test succeeds, and this holds
 abbrev pub Given : Bool → Type 0 → Type 0
 Given true X = X
 Given false X = ⊥
 
 -- The registered have places in the queue, and nobody else has.
 abbrev pub queues_registered : {W : Type 0} {place : Option (Phase W) → Bool} → IsPlaceRule place → Bool
-queues_registered {place = place} rule = rule.waiting && not (place (Some Told))
+queues_registered {place = place} rule = rule.has_queue && not (place (Some Told))
 
 module _ {W : Type 0} {place : Option (Phase W) → Bool} (rule : IsPlaceRule place) (known : Option (Phase W) → Bool) where
   -- This effect leaves only phases that are known, and the queue holds exactly those who have a place in it: who registers or ends
@@ -98,7 +98,7 @@ module _ {W : Type 0} {place : Option (Phase W) → Bool} (rule : IsPlaceRule pl
   AllowsEffect old (NotifiesOldest notice) = (known (Some (phase_after notice)) && not (place (Some (phase_after notice)))) ≡ true
   AllowsEffect old (NotifiesAll notice) = (known (Some (phase_after notice)) && queues_registered rule) ≡ true
   AllowsEffect old (NotifiesListed notice names) =
-      (known (Some (phase_after notice)) && (not rule.waiting && not (place (Some (phase_after notice))))) ≡ true
+      (known (Some (phase_after notice)) && (not rule.has_queue && not (place (Some (phase_after notice))))) ≡ true
   AllowsEffect old (NotifiesFront keeps front) = (known (Some Told) ≡ true) × (place (Some Told) ≡ keeps)
   AllowsEffect old (CompletesOldest name asks) = known (Some Complete) ≡ true
   AllowsEffect {D} old (AndThen one other) = AllowsEffect old one
