@@ -186,6 +186,7 @@ impl<T: Drop> Drop for Blocks<T> {
             mut linked,
             alloc,
         } = self;
+        linked.close(alloc);
         for (_slot, at) in slab {
             drop(linked.free(alloc, at));
         }

@@ -116,6 +116,13 @@ impl<T> CountedBlocks<T> {
         item
     }
 
+    /// Keeps no memory of freed blocks from here on.
+    pub fn close(&mut self, alloc: Global)
+        ensures { self.new ≡ self.old }
+    {
+        self.vacancies.close(alloc);
+    }
+
     /// Ends where no block is left.
     pub fn end(self)
         requires { self.owner.blocks ≡ [] }

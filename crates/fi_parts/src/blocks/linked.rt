@@ -105,6 +105,13 @@ impl<T> LinkedBlocks<T> {
         self.blocks.free(alloc, at)
     }
 
+    /// Keeps no memory of freed blocks from here on.
+    pub fn close(&mut self, alloc: Global)
+        ensures { self.new ≡ self.old }
+    {
+        self.blocks.close(alloc);
+    }
+
     /// Ends where no block is left.
     pub fn end(self)
         requires { self.blocks.owner.blocks ≡ [] }

@@ -66,4 +66,9 @@ impl<T> Vacancies<T> {
             self.rooms.push_reserved(vacancy);
         }
     }
+
+    /// Gives back what is kept, and keeps no more.
+    pub fn close(&mut self, alloc: Global) {
+        self.rooms = Vec::new(alloc);
+    }
 }
