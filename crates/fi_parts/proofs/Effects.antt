@@ -331,8 +331,8 @@ module _ {D W : Type 0} {place : Option (Phase W) → Bool} (rule : IsPlaceRule 
     effect_after (CompletesOldest name asks) old new is was taken =
         let asked = sound_by-exchange place known old.side old.out name asks was in
         let now =
-            notified_after place known Complete (name ∷ []) (asking name asks old) new
-            (completed name asks old new is asked.ordered taken) in
+        notified_after place known Complete (name ∷ []) (asking name asks old) new
+        (completed name asks old new is asked.ordered taken) in
         record {
           here = now.these name (one_held name);
           others = λ q ne. now.others q (one_apart q name ne) ∙ phase-with_asks old.side.live name asks q;

@@ -345,7 +345,7 @@ module _ {X D W : Type 0} (said : Option (Phase W) → X) where
       (if name == q then is q else was q) ≡ said (phase_of new q)
   history_by old new name phase was is b says here q = elim (cases_eq name q) [
     | inl same ↦ if_true (name == q) (is q) (was q) (eq-eqb name q same) ∙ ap is (sym same) ∙ here ∙ ap said (sym b.here) ∙ ap
-    (λ n. said (phase_of new n)) same
+        (λ n. said (phase_of new n)) same
     | inr ne ↦ if_false (name == q) (is q) (was q) (ne_eqb name q ne) ∙ says q ∙ ap said (sym (b.others q (λ e. ne (sym e))))
   ]
 

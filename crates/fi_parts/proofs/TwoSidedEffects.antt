@@ -160,8 +160,11 @@ module _ {D E W : Type 0} where
 
 module _ {D W : Type 0} where
   -- one waker of either side is handed out
-  sends_popped : (side : Side D W) (out : List (Waiter × W)) → CarriesOn (gives (first_waker out)) (record { side =
-      side; out = sends_in out })
+  sends_popped : (side : Side D W) (out : List (Waiter × W)) → CarriesOn (gives (first_waker out)) (record {
+    side =
+        side;
+    out = sends_in out;
+  })
       (record { side = side; out = sends_in (drop 1 out) })
   sends_popped side [] = λ q v has. has
   sends_popped side ((Send n, w) ∷ ps) =
@@ -173,8 +176,11 @@ module _ {D W : Type 0} where
   receives_popped side [] = λ q v has. has
   receives_popped side ((Send n, w) ∷ ps) = λ q v has. inl has
   receives_popped side ((Receive n, w) ∷ ps) =
-      handed_carries (Some w) (record { side =
-          side; out = (n, w) ∷ receives_in ps }) (record { side = side; out = receives_in ps }) refl refl
+      handed_carries (Some w) (record {
+        side =
+            side;
+        out = (n, w) ∷ receives_in ps;
+      }) (record { side = side; out = receives_in ps }) refl refl
 
   nothing_carries : (old new : Waiting D W) → new ≡ old → CarriesOn NoEffect old new
   nothing_carries old new same q v has = subst (λ (w : Waiting D W). HasWaker w q v) (sym same) has

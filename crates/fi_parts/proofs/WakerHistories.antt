@@ -89,8 +89,10 @@ module _ {D W : Type 0} where
         | inr at ↦ inr (in_append_left (q, v) old.out (named old.side.live names) at)
       ])
 
-  pub handed_carries : (waker : Option W) (old new : Waiting D W) → waker ≡ oldest old.out → new ≡ record old { out =
-      drop 1 old.out } → CarriesOn (gives waker) old new
+  pub handed_carries : (waker : Option W) (old new : Waiting D W) → waker ≡ oldest old.out → new ≡ record old {
+    out =
+        drop 1 old.out;
+  } → CarriesOn (gives waker) old new
   handed_carries None old new is taken = λ q v has. rw taken (elim has [
     | inl there ↦ inl there
     | inr at ↦ elim (oldest_or_rest old.out (q, v) at) [ inl e ↦ absurd (none_some v (is ∙ e)) | inr rest ↦ inr rest ]

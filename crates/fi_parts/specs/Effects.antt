@@ -80,8 +80,11 @@ module _ {D W : Type 0} where
   TakesEffect NoChange old new = new ≡ old
   TakesEffect (Inserts name asks) old new = (phase_of old.side name ≡ None) × (new ≡ record old { side = made old.side name asks })
   TakesEffect (Registers name waker) old new =
-      (may_be_named (phase_of old.side name) ≡ true) × (new ≡ record { side =
-          registered old.side name waker; out = without_pair name old.out })
+      (may_be_named (phase_of old.side name) ≡ true) × (new ≡ record {
+        side =
+            registered old.side name waker;
+        out = without_pair name old.out;
+      })
   TakesEffect (RegistersApart name waker) old new =
       (may_be_named (phase_of old.side name) ≡ true) × (new ≡ record { side = stays old.side name waker; out = without_pair name old.out })
   TakesEffect (KeepsWaiting name waker) old new =
