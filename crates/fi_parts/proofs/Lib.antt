@@ -40,3 +40,4 @@ pub mod Effects
 pub mod Machines
 pub mod WakerHistories
 pub mod PairsWithin
+pub mod Vacancies
