@@ -47,3 +47,4 @@ pub mod FirstSeat
 pub mod Telling
 pub mod Results
 pub mod TwoSidedMachines
+pub mod Vacancies

@@ -1,36 +1,53 @@
 //! The memory of freed blocks, which later blocks take over.
+ghost use Rattle.std.specs.Prelude.{◌≡◌};
+
 use crate::blocks::block::Block;
-use std::alloc::Global;
+use std::alloc::{Allocator, Global};
 use std::marker::{Model, Send, Sync};
 use std_alloc::room::Vacant;
 
-// Memory for one block. Its drop frees it.
-struct Vacancy<T> {
-    room: Vacant<Block<T>, Global>,
+/// Memory for one value. Its drop gives it back.
+pub struct Vacancy<T, A: Allocator> {
+    pub(crate) room: Vacant<T, A>,
 }
 
-unsafe impl<T: Send> Send for Vacancy<T> {}
+impl<T, A: Allocator> Model for Vacancy<T, A> {
+    ghost use Rattle.std.specs.Borrow.{ftrue};
 
-unsafe impl<T: Sync> Sync for Vacancy<T> {}
+    ghost also_owns = { λ _. ftrue };
+}
 
-impl<T> Vacancy<T> {
-    fn into_room(self) -> Vacant<Block<T>, Global> {
+unsafe impl<T: Send, A: Allocator + Send> Send for Vacancy<T, A> {}
+
+unsafe impl<T: Sync, A: Allocator + Sync> Sync for Vacancy<T, A> {}
+
+impl<T, A: Allocator> Vacancy<T, A> {
+    /// This memory, as a value that may be let go.
+    pub fn of(room: Vacant<T, A>) -> Self
+        ensures { result.room ≡ room }
+    {
+        Vacancy { room }
+    }
+
+    /// The memory, to be filled.
+    pub fn into_room(self) -> Vacant<T, A>
+        ensures { result ≡ self.room }
+    {
         let Vacancy { room } = self;
         room
     }
 }
 
-impl<T> Drop for Vacancy<T> {
+impl<T, A: Allocator + Drop> Drop for Vacancy<T, A> {
     fn drop(self) {
-        let Vacancy { room } = self;
-        drop(room.free());
+        drop(self.into_room().free());
     }
 }
 
 /// Memory of freed blocks. No contract tells how much there is, as none tells how much memory there is.
 #[derive(Drop)]
 pub struct Vacancies<T> {
-    rooms: Vec<Vacancy<T>>,
+    rooms: Vec<Vacancy<Block<T>, Global>>,
 }
 
 impl<T> Model for Vacancies<T> {
@@ -61,7 +78,7 @@ impl<T> Vacancies<T> {
 
     /// Keeps the memory of a freed block, if a place was made for it.
     pub fn keep(&mut self, room: Vacant<Block<T>, Global>) {
-        let vacancy = Vacancy { room };
+        let vacancy = Vacancy::of(room);
         if self.rooms.len() < self.rooms.capacity() {
             self.rooms.push_reserved(vacancy);
         }
