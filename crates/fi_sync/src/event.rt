@@ -43,17 +43,17 @@ impl<R: Wait> ManualResetEvent<R> {
     ///
     /// Keeps `ManualResetEvent::set`.
     pub fn set(&self) {
-        self.monitor.call(|event| event.set());
+        self.monitor.call((), |event, ()| event.set());
     }
 
     /// Clears the flag; waits that were told stay told. Keeps `ManualResetEvent::reset`.
     pub fn reset(&self) {
-        self.monitor.call(|event| event.reset());
+        self.monitor.call((), |event, ()| event.reset());
     }
 
     /// The event was set when it was looked at. Keeps `ManualResetEvent::is_set`.
     pub fn is_set(&self) -> bool {
-        self.monitor.call(|event| event.is_set())
+        self.monitor.call((), |event, ()| event.is_set())
     }
 
     /// A future that waits for the event. Refused only with `NoMemory`; then nothing has changed.
@@ -63,7 +63,7 @@ impl<R: Wait> ManualResetEvent<R> {
         ensures made { IfOk result (λ future. future ≡ record { source = self.now; has_ended = false }) }
         ensures fault { IfErr result (λ fault. fault ≡ Fault.NoMemory) }
     {
-        let slot = self.monitor.call(|event| event.claim_waiter())?;
+        let slot = self.monitor.call((), |event, ()| event.claim_waiter())?;
         Ok(WaitForEventFuture::new(self, Claim::of(slot)))
     }
 }

@@ -105,7 +105,7 @@ impl<R: Wait> Future for WaitForEventFuture<'_, R> {
         let slot = self.claim.slot();
         let (answer, leftover) = event
             .monitor
-            .call(move |state| poll_wait(state, slot, waker));
+            .call(waker, move |state, waker| poll_wait(state, slot, waker));
         self.spare = leftover.displaced.or(leftover.unused);
         match answer {
             Some(Poll::Ready(())) => {
@@ -141,7 +141,7 @@ impl<R: Wait> Drop for WaitForEventFuture<'_, R> {
         } = self;
         let displaced = event
             .monitor
-            .call_with(claim, |state, claim| claim.cancel(state));
+            .call(claim, |state, claim| claim.cancel(state));
         // Their drops wake the tasks that polled, with no lock held.
         drop(displaced);
         drop(spare);

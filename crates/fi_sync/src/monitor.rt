@@ -1,7 +1,6 @@
 //! A state whose calls are made one at a time, each in one hold of a lock.
 ghost use Rattle.std.specs.Prelude.{◌≡◌};
 ghost use Rattle.std.specs.Borrow.{MutBor};
-ghost use Rattle.std.specs.Fn.{FnOnceReturnsAtMut};
 
 use crate::wakes::{HasOutbox, Owed};
 use futures::task::Source;
@@ -45,22 +44,12 @@ impl<S, R> Monitor<S, R> {
 impl<S: HasOutbox, R: Wait> Monitor<S, R> {
     /// Makes a call on the state in one hold of the lock, lets go, and then wakes those that the state had named.
     ///
-    /// What the call answers is let go after the lock is.
-    pub fn call<A, F: FnOnce(&mut S) -> A>(&self, call: F) -> A
-        requires { F.IsAlwaysCallable call }
-        ensures { (old : S) × (new : S) × FnOnceReturnsAtMut F.FnOnce call old result new }
-    {
-        let (answer, owed) = Owed::after(&mut *self.state.lock(&self.rt), call);
-        owed.pay(&self.rt, &self.state);
-        answer
-    }
-
-    /// The same for a call with an input, which may be what no closure can hold since it cannot be let go.
-    pub fn call_with<I, A, F: FnOnce(&mut S, I) -> A>(&self, input: I, call: F) -> A
+    /// The call has an input, since no closure can hold what cannot just be let go. What it answers is let go after the lock is.
+    pub fn call<I, A, F: FnOnce(&mut S, I) -> A>(&self, input: I, call: F) -> A
         requires { F.IsAlwaysCallable call }
         ensures { (shown : MutBor S) × (left : MutBor S) × F.post call shown input result left }
     {
-        let (answer, owed) = Owed::after_with(&mut *self.state.lock(&self.rt), input, call);
+        let (answer, owed) = Owed::after(&mut *self.state.lock(&self.rt), input, call);
         owed.pay(&self.rt, &self.state);
         answer
     }

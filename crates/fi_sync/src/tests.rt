@@ -337,13 +337,13 @@ fn crosses_threads(rt: HostRuntime) {
 
 // Whenever the lock is got, the event behind it is sound and owes no wake.
 fn look<R: Wait>(event: &ManualResetEvent<R>) {
-    let look = |state: &mut EventState<Waker>|
+    let look = |state: &mut EventState<Waker>, ()|
         ensures sound { IsSound state.old }
         ensures no_wake { OwesNoWake state.old }
     {
         state.show();
     };
-    event.monitor.call(look)
+    event.monitor.call((), look)
 }
 
 #[test]

@@ -1,7 +1,6 @@
 //! The duty to wake those that a call on a state named.
 ghost use Rattle.std.specs.Prelude.{◌≡◌, ℕ, List, length};
 ghost use Rattle.std.specs.Borrow.{MutBor};
-ghost use Rattle.std.specs.Fn.{FnOnceReturnsAtMut};
 ghost use Rattle.futures.specs.declared.task.waker.Waker.{Waker};
 ghost use Rattle.fi_sync.specs.Wakes.{TakesOldest};
 
@@ -35,19 +34,8 @@ impl Model for Owed {
 }
 
 impl Owed {
-    /// Makes a call on a state. What is owed after it is a wake for each waker that is named then.
-    pub fn after<S: HasOutbox, A, F: FnOnce(&mut S) -> A>(state: &mut S, call: F) -> (A, Self)
-        requires { F.IsAlwaysCallable call }
-        ensures answered { FnOnceReturnsAtMut F.FnOnce call state.old result.0 state.new }
-        ensures owed { result.1 ≡ length (S.wakers state.new) }
-    {
-        let answer = call(state);
-        let owed = Owed::by(state);
-        (answer, owed)
-    }
-
-    /// The same for a call with an input.
-    pub fn after_with<S: HasOutbox, I, A, F>(state: &mut S, input: I, call: F) -> (A, Self)
+    /// Makes a call on a state, with an input. What is owed after it is a wake for each waker that is named then.
+    pub fn after<S: HasOutbox, I, A, F>(state: &mut S, input: I, call: F) -> (A, Self)
     where
         F: FnOnce(&mut S, I) -> A,
         requires { F.IsAlwaysCallable call }
@@ -55,7 +43,8 @@ impl Owed {
         ensures owed { result.1 ≡ length (S.wakers state.new) }
     {
         let answer = call(state, input);
-        (answer, Owed::by(state))
+        let owed = Owed::by(state);
+        (answer, owed)
     }
 
     // A wake for each waker that is named now.

@@ -55,7 +55,7 @@ fn a_payment_takes_what_was_owed(rt: HostRuntime) -> Result<(), Fail> {
     let mut named = Named {
         wakers: vec![in rt.alloc(); oldest, other]?,
     };
-    let ((), owed) = Owed::after(&mut named, |_named| ());
+    let ((), owed) = Owed::after(&mut named, (), |_named, ()| ());
     named.wakers.push(newest).expect(&rt, "memory");
     let named = Mutex::new(named);
     owed.pay(&rt, &named);
@@ -77,7 +77,7 @@ fn a_payment_ends_where_nobody_is_left(rt: HostRuntime) -> Result<(), Fail> {
     let mut named = Named {
         wakers: vec![in rt.alloc(); oldest, other]?,
     };
-    let ((), owed) = Owed::after(&mut named, |_named| ());
+    let ((), owed) = Owed::after(&mut named, (), |_named, ()| ());
     let taken = named.next_wake();
     let named = Mutex::new(named);
     owed.pay(&rt, &named);
