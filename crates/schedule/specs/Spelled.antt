@@ -20,6 +20,6 @@ IsSpelled line words =
 abbrev pub IsNotSpelled : List ℕ → Type 0
 IsNotSpelled line = (verb : Verb) (label : Option (List ℕ)) (numbers : Numbers) → HasWords line verb label numbers → ⊥
 
--- no numbers are written so
+-- The text is neither a numeral of 64 bits nor two of them with a space between.
 abbrev pub IsNoNumerals : List ℕ → Type 0
 IsNoNumerals text = (numbers : Numbers) → Fit numbers → Some text ≢ numerals numbers

@@ -66,7 +66,7 @@ abbrev pub state_language : Language (StateMachine ℕ ℕ) (Unit {0}) (StateCal
 state_language = machine_language only_opening state_call
 
 -- ---- the timer
--- the delay of so many milliseconds
+-- A delay of this many milliseconds, in seconds and nanoseconds. Its length is in the contract of `delay_of`.
 abbrev pub of_millis : ℕ → Duration
 of_millis millis = record { secs = millis / 1000; nanos = millis % 1000 * 1000000 }
 

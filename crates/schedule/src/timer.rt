@@ -47,7 +47,7 @@ impl Scripted for TimerState<u64> {
     }
 }
 
-/// The delay of so many milliseconds.
+/// A delay of this many milliseconds.
 fn delay_of(millis: u64) -> Duration
     ensures value { result ≡ of_millis millis }
     ensures length { as_nanos result ≡ millis * 1_000_000 }
