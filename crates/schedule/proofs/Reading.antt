@@ -4,18 +4,22 @@ use Rattle.std.proofs.lemmas.Bool.{true≢false, eq-eqb}
 use Rattle.std.specs.Prelude.{Bool, true, false, cond, Option, Some, None, All, IfSome, codes, eqb}
 use Rattle.std.specs.Fmt.{decimal}
 use Rattle.std.proofs.lemmas.Fmt.{digits_value-decimal}
+use Rattle.std.proofs.lemmas.List.{get_or_default}
 use Rattle.std.specs.Str.Parse.{digits_value}
 use Rattle.schedule.specs.Cuts.{IsCut}
 use Rattle.schedule.specs.Labels.{IsLabel, code_of}
-use Rattle.schedule.specs.Lines.{joined, numeral, words_after, HasWords, Labels, row_of, HoldsLine, IsNoCall, IsBad}
+use Rattle.schedule.specs.Lines.{joined, numerals, Fit, words_after, HasWords, Labels, row_of, HoldsLine, IsNoCall, IsBad}
 use Rattle.schedule.specs.declared.row.Row.{Row}
 use Rattle.schedule.specs.Names.{name_of}
-use Rattle.schedule.specs.Spelled.{IsNotSpelled}
+use Rattle.schedule.specs.Spelled.{IsNotSpelled, IsNoNumerals}
 use Rattle.schedule.specs.Verbs.{verb_text, IsNoVerb}
 use Rattle.schedule.specs.declared.named.Named.{Named}
 use Rattle.schedule.specs.declared.named.Named.TheVariants as named
+use Rattle.schedule.specs.declared.numbers.Numbers.{Numbers}
+use Rattle.schedule.specs.declared.numbers.Numbers.TheVariants.{Absent, One, Two}
 use Rattle.schedule.specs.declared.verb.Verb.{Verb}
-use Rattle.schedule.specs.declared.verb.Verb.TheVariants.{Cancel, Close, IsSet, Poll, Receive, Reset, Send, Set, TryReceive, Wait}
+use Rattle.schedule.specs.declared.verb.Verb.TheVariants.{Cancel, Check, Close, Deadline, Delay, IsSet, Next, Poll}
+use Rattle.schedule.specs.declared.verb.Verb.TheVariants.{Receive, Reset, Send, Set, TryReceive, Wait}
 use Rattle.schedule.proofs.Numerals.{own, numeral_digits}
 
 -- no byte is the separator
@@ -91,8 +95,12 @@ lacks_by_test separator (x ∷ xs) e (suc k) d h same =
 verb_lacks : (verb : Verb) → Lacks 32 (verb_text verb)
 unfolding lacks_byte
 verb_lacks Cancel = lacks_by_test 32 (verb_text Cancel) refl
+verb_lacks Check = lacks_by_test 32 (verb_text Check) refl
 verb_lacks Close = lacks_by_test 32 (verb_text Close) refl
+verb_lacks Deadline = lacks_by_test 32 (verb_text Deadline) refl
+verb_lacks Delay = lacks_by_test 32 (verb_text Delay) refl
 verb_lacks IsSet = lacks_by_test 32 (verb_text IsSet) refl
+verb_lacks Next = lacks_by_test 32 (verb_text Next) refl
 verb_lacks Poll = lacks_by_test 32 (verb_text Poll) refl
 verb_lacks Receive = lacks_by_test 32 (verb_text Receive) refl
 verb_lacks Reset = lacks_by_test 32 (verb_text Reset) refl
@@ -107,6 +115,7 @@ name_lacks named.Event = lacks_by_test 32 (name_of named.Event) refl
 name_lacks named.Oneshot = lacks_by_test 32 (name_of named.Oneshot) refl
 name_lacks named.OneshotBroadcast = lacks_by_test 32 (name_of named.OneshotBroadcast) refl
 name_lacks named.StateBroadcast = lacks_by_test 32 (name_of named.StateBroadcast) refl
+name_lacks named.Timer = lacks_by_test 32 (name_of named.Timer) refl
 
 hold_lacks : Lacks 32 (codes "hold")
 unfolding lacks_byte
@@ -123,8 +132,12 @@ label_lacks word label =
 -- ---- each word is read in one way
 same_verb : (v w : Verb) → verb_text v ≡ verb_text w → v ≡ w
 same_verb Cancel Cancel e = refl
+same_verb Check Check e = refl
 same_verb Close Close e = refl
+same_verb Deadline Deadline e = refl
+same_verb Delay Delay e = refl
 same_verb IsSet IsSet e = refl
+same_verb Next Next e = refl
 same_verb Poll Poll e = refl
 same_verb Receive Receive e = refl
 same_verb Reset Reset e = refl
@@ -139,12 +152,17 @@ same_name named.Event named.Event e = refl
 same_name named.Oneshot named.Oneshot e = refl
 same_name named.OneshotBroadcast named.OneshotBroadcast e = refl
 same_name named.StateBroadcast named.StateBroadcast e = refl
+same_name named.Timer named.Timer e = refl
 same_name v w e = absurd (omega (arith, ap code_of e))
 
 verb_is_no_hold : (v : Verb) → verb_text v ≡ codes "hold" → ⊥
 verb_is_no_hold Cancel e = omega (arith, ap code_of e)
+verb_is_no_hold Check e = omega (arith, ap code_of e)
 verb_is_no_hold Close e = omega (arith, ap code_of e)
+verb_is_no_hold Deadline e = omega (arith, ap code_of e)
+verb_is_no_hold Delay e = omega (arith, ap code_of e)
 verb_is_no_hold IsSet e = omega (arith, ap code_of e)
+verb_is_no_hold Next e = omega (arith, ap code_of e)
 verb_is_no_hold Poll e = omega (arith, ap code_of e)
 verb_is_no_hold Receive e = omega (arith, ap code_of e)
 verb_is_no_hold Reset e = omega (arith, ap code_of e)
@@ -157,12 +175,60 @@ same_number : (n m : ℕ) → n < 2 ^ 64 → m < 2 ^ 64 → decimal n ≡ decima
 same_number n m small small' e =
     sym (digits_value-decimal own n small) ∙ ap (digits_value 10) e ∙ digits_value-decimal own m small'
 
-same_numeral : (n m : Option ℕ) → IfSome n (λ k. k < 2 ^ 64) → IfSome m (λ k. k < 2 ^ 64) → numeral n ≡ numeral m
-    → n ≡ m
-same_numeral None None small small' e = refl
-same_numeral None (Some m) small small' e = cc
-same_numeral (Some n) None small small' e = cc
-same_numeral (Some n) (Some m) small small' e = ap (λ k. Some k) (same_number n m small small' (cc))
+none_is_not : {C : Type 0} {call : C} → None ≡ Some call → ⊥
+none_is_not e = cc
+
+pub some_same : {A : Type 0} (x y : A) → Some x ≡ Some y → x ≡ y
+some_same x y e = cc
+
+decimal_lacks : (n : ℕ) → n < 2 ^ 64 → Lacks 32 (decimal n)
+decimal_lacks n small = λ k d h same.
+    let digit = numeral_digits (decimal n) n small refl k h in
+    omega (arith, digit.0, same, get_or_default (decimal n) k d 0 h)
+
+-- Numerals are cut at the space between them.
+numerals_cut : (first second : ℕ) → first < 2 ^ 64
+    → IsCut 32 (joined (decimal first) (Some (decimal second))) (decimal first) (Some (decimal second))
+numerals_cut first second small = cut_of _ (decimal first) (Some (decimal second)) refl (decimal_lacks first small)
+
+one_is_not_two : (n first second : ℕ) → n < 2 ^ 64 → first < 2 ^ 64
+    → decimal n ≡ joined (decimal first) (Some (decimal second)) → ⊥
+one_is_not_two n first second small small' e =
+    none_is_not (one_place 32 (decimal n) (decimal first) None (Some (decimal second))
+    (joined (decimal first) (Some (decimal second)))
+    (cut_of _ (decimal n) None (sym e) (decimal_lacks n small)) (numerals_cut first second small')).1
+
+same_two : (n m first second : ℕ) → Fit (Two n m) → Fit (Two first second)
+    → joined (decimal n) (Some (decimal m)) ≡ joined (decimal first) (Some (decimal second))
+    → Two n m ≡ Two first second
+same_two n m first second fits fits' e =
+    let same = one_place 32 (decimal n) (decimal first) (Some (decimal m)) (Some (decimal second))
+    (joined (decimal n) (Some (decimal m))) (numerals_cut n m fits.0)
+    (cut_of _ (decimal first) (Some (decimal second)) e (decimal_lacks first fits'.0)) in
+    ap (λ k. Two k m) (same_number n first fits.0 fits'.0 same.0) ∙ ap (λ k. Two first k)
+    (same_number m second fits.1 fits'.1 (some_same _ _ same.1))
+
+same_numerals : (n m : Numbers) → Fit n → Fit m → numerals n ≡ numerals m → n ≡ m
+same_numerals Absent Absent fits fits' e = refl
+same_numerals Absent (One m) fits fits' e = cc
+same_numerals Absent (Two m k) fits fits' e = cc
+same_numerals (One n) Absent fits fits' e = cc
+same_numerals (One n) (One m) fits fits' e = ap (λ k. One k) (same_number n m fits fits' (cc))
+same_numerals (One n) (Two m k) fits fits' e = absurd (one_is_not_two n m k fits fits'.0 (cc))
+same_numerals (Two n k) Absent fits fits' e = cc
+same_numerals (Two n k) (One m) fits fits' e = absurd (one_is_not_two m n k fits' fits.0 (cc))
+same_numerals (Two n k) (Two m l) fits fits' e = same_two n k m l fits fits' (cc)
+
+-- A text that is no numeral, and is not cut into two, has no numbers.
+pub no_numerals : (text first : List ℕ) (second : Option (List ℕ)) → IsCut 32 text first second
+    → ((n : ℕ) → n < 2 ^ 64 → text ≢ decimal n)
+    → ((n m : ℕ) → n < 2 ^ 64 → m < 2 ^ 64 → first ≡ decimal n → second ≡ Some (decimal m) → ⊥) → IsNoNumerals text
+no_numerals text first second cut not_one not_two Absent fits e = none_is_not (sym e)
+no_numerals text first second cut not_one not_two (One n) fits e = not_one n fits (some_same _ _ e)
+no_numerals text first second cut not_one not_two (Two n m) fits e =
+    let same = one_place 32 first (decimal n) second (Some (decimal m)) text cut
+    (cut_of text (decimal n) (Some (decimal m)) (some_same _ _ e) (decimal_lacks n fits.0)) in
+    not_two n m fits.0 fits.1 same.0 same.1
 
 -- No numeral begins as a label does.
 pub not_label : (word : List ℕ) (rest : Option (List ℕ)) (n : ℕ) → n < 2 ^ 64 → IsLabel word
@@ -173,100 +239,93 @@ not_label (x ∷ xs) None n small label e =
 not_label (x ∷ xs) (Some rest) n small label e =
     let digit = numeral_digits (x ∷ (xs ++ 32 ∷ rest)) n small e 0 (omega arith) in omega (arith, digit.1, label.2.0)
 
-no_number : (label : List ℕ) (n m : Option ℕ) → IfSome m (λ k. k < 2 ^ 64) → IsLabel label
-    → Some (joined label (numeral n)) ≡ numeral m → ⊥
-no_number label n None small is e = cc
-no_number label n (Some m) small is e = not_label label (numeral n) m small is (cc)
+-- No numerals begin as a label does.
+not_numerals : (label : List ℕ) (rest : Option (List ℕ)) (numbers : Numbers) → Fit numbers → IsLabel label
+    → Some (joined label rest) ≡ numerals numbers → ⊥
+not_numerals label rest Absent fits is e = none_is_not (sym e)
+not_numerals label rest (One n) fits is e = not_label label rest n fits is (cc)
+not_numerals label rest (Two n m) fits is e =
+    let text : joined label rest ≡ joined (decimal n) (Some (decimal m)) = cc in
+    let first : label ≡ decimal n = (one_place 32 label (decimal n) rest (Some (decimal m)) (joined label rest)
+    (cut_of _ label rest refl (label_lacks label is))
+    (cut_of _ (decimal n) (Some (decimal m)) text (decimal_lacks n fits.0))).0 in
+    not_label label None n fits.0 is first
 
-same_after : (l k : Option (List ℕ)) (n m : Option ℕ) → IfSome l IsLabel → IfSome k IsLabel → IfSome n (λ i. i < 2 ^ 64)
-    → IfSome m (λ i. i < 2 ^ 64)
+same_after : (l k : Option (List ℕ)) (n m : Numbers) → IfSome l IsLabel → IfSome k IsLabel → Fit n → Fit m
     → words_after l n ≡ words_after k m → (l ≡ k) × (n ≡ m)
-same_after None None n m label label' small small' e = (refl, same_numeral n m small small' e)
-same_after None (Some k) n m label label' small small' e = absurd (no_number k m n small label' (sym e))
-same_after (Some l) None n m label label' small small' e = absurd (no_number l n m small' label e)
-same_after (Some l) (Some k) n m label label' small small' e =
-    let line : joined l (numeral n) ≡ joined k (numeral m) = cc in
-    let same = one_place 32 l k (numeral n) (numeral m) (joined l (numeral n))
-    (cut_of _ l (numeral n) refl (label_lacks l label)) (cut_of _ k (numeral m) line (label_lacks k label')) in
-    (ap (λ w. Some w) same.0, same_numeral n m small small' same.1)
+same_after None None n m label label' fits fits' e = (refl, same_numerals n m fits fits' e)
+same_after None (Some k) n m label label' fits fits' e =
+    absurd (not_numerals k (numerals m) n fits label' (sym e))
+same_after (Some l) None n m label label' fits fits' e = absurd (not_numerals l (numerals n) m fits' label e)
+same_after (Some l) (Some k) n m label label' fits fits' e =
+    let line : joined l (numerals n) ≡ joined k (numerals m) = cc in
+    let same = one_place 32 l k (numerals n) (numerals m) (joined l (numerals n))
+    (cut_of _ l (numerals n) refl (label_lacks l label)) (cut_of _ k (numerals m) line (label_lacks k label')) in
+    (ap (λ w. Some w) same.0, same_numerals n m fits fits' same.1)
 
-pub same_words : (line : List ℕ) (v w : Verb) (l k : Option (List ℕ)) (n m : Option ℕ) → HasWords line v l n
+pub same_words : (line : List ℕ) (v w : Verb) (l k : Option (List ℕ)) (n m : Numbers) → HasWords line v l n
     → HasWords line w k m → (v ≡ w) × (l ≡ k) × (n ≡ m)
 same_words line v w l k n m words words' =
     let same = one_place 32 (verb_text v) (verb_text w) (words_after l n) (words_after k m) line
     (cut_of line _ _ words.text (verb_lacks v)) (cut_of line _ _ words'.text (verb_lacks w)) in
-    let after = same_after l k n m words.label_is words'.label_is words.number_fits words'.number_fits same.1 in
+    let after = same_after l k n m words.label_is words'.label_is words.numbers_fit words'.numbers_fit same.1 in
     (same_verb v w same.0, after.0, after.1)
 
-none_is_not : {C : Type 0} {call : C} → None ≡ Some call → ⊥
-none_is_not e = cc
-
-not_last : (last : List ℕ) (number : Option ℕ) → IfSome number (λ n. n < 2 ^ 64)
-    → ((n : ℕ) → n < 2 ^ 64 → last ≢ decimal n) → Some last ≡ numeral number → ⊥
-not_last last None fits no_numeral e = none_is_not (sym e)
-not_last last (Some n) fits no_numeral e = no_numeral n fits (cc)
-
 -- ---- what reading finds
-rest_words : (line : List ℕ) (v verb : Verb) (rest label : Option (List ℕ)) (number : Option ℕ)
-    → IsCut 32 line (verb_text v) rest → HasWords line verb label number → rest ≡ words_after label number
-rest_words line v verb rest label number cut words =
+rest_words : (line : List ℕ) (v verb : Verb) (rest label : Option (List ℕ)) (numbers : Numbers)
+    → IsCut 32 line (verb_text v) rest → HasWords line verb label numbers → rest ≡ words_after label numbers
+rest_words line v verb rest label numbers cut words =
     (one_place 32 _ _ _ _ line cut (cut_of line _ _ words.text (verb_lacks verb))).1
 
 pub no_verb : (line word : List ℕ) (rest : Option (List ℕ)) → IsCut 32 line word rest → IsNoVerb word
     → IsNotSpelled line
 no_verb line word rest cut none =
-    λ verb label number words. none verb (one_place 32 _ _ _ _ line cut
+    λ verb label numbers words. none verb (one_place 32 _ _ _ _ line cut
     (cut_of line _ _ words.text (verb_lacks verb))).0
 
--- no numeral of 64 bits
-abbrev pub IsNoNumeral : List ℕ → Type 0
-IsNoNumeral word = (n : ℕ) → n < 2 ^ 64 → word ≢ decimal n
-
 neither_word : (rest word : List ℕ) (after : Option (List ℕ)) → IsCut 32 rest word after → (¬ IsLabel word)
-    → IsNoNumeral rest → (label : Option (List ℕ)) (number : Option ℕ)
-    → IfSome label IsLabel → IfSome number (λ n. n < 2 ^ 64) → Some rest ≡ words_after label number → ⊥
-neither_word rest word after cut no_label no_numeral None None is fits e = none_is_not (sym e)
-neither_word rest word after cut no_label no_numeral None (Some n) is fits e = no_numeral n fits (cc)
-neither_word rest word after cut no_label no_numeral (Some l) number is fits e =
-    let text : rest ≡ joined l (numeral number) = cc in
-    no_label (subst IsLabel (sym (one_place 32 word l after (numeral number) rest cut
-    (cut_of rest l (numeral number) text (label_lacks l is))).0) is)
+    → IsNoNumerals rest → (label : Option (List ℕ)) (numbers : Numbers)
+    → IfSome label IsLabel → Fit numbers → Some rest ≡ words_after label numbers → ⊥
+neither_word rest word after cut no_label no_numerals None numbers is fits e = no_numerals numbers fits e
+neither_word rest word after cut no_label no_numerals (Some l) numbers is fits e =
+    let text : rest ≡ joined l (numerals numbers) = cc in
+    no_label (subst IsLabel (sym (one_place 32 word l after (numerals numbers) rest cut
+    (cut_of rest l (numerals numbers) text (label_lacks l is))).0) is)
 
 pub no_plain : (line : List ℕ) (v : Verb) (rest word : List ℕ) (after : Option (List ℕ))
-    → IsCut 32 line (verb_text v) (Some rest) → IsCut 32 rest word after → (¬ IsLabel word) → IsNoNumeral rest
+    → IsCut 32 line (verb_text v) (Some rest) → IsCut 32 rest word after → (¬ IsLabel word) → IsNoNumerals rest
     → IsNotSpelled line
-no_plain line v rest word after cut cut' no_label no_numeral = λ verb label number words.
-    neither_word rest word after cut' no_label no_numeral label number words.label_is words.number_fits
-    (rest_words line v verb (Some rest) label number cut words)
+no_plain line v rest word after cut cut' no_label no_numerals = λ verb label numbers words.
+    neither_word rest word after cut' no_label no_numerals label numbers words.label_is words.numbers_fit
+    (rest_words line v verb (Some rest) label numbers cut words)
 
-no_number_after : (rest word last : List ℕ) → IsCut 32 rest word (Some last) → IsLabel word → IsNoNumeral last
-    → (label : Option (List ℕ)) (number : Option ℕ)
-    → IfSome label IsLabel → IfSome number (λ n. n < 2 ^ 64) → Some rest ≡ words_after label number → ⊥
-no_number_after rest word last cut is_label no_numeral None None is fits e = none_is_not (sym e)
-no_number_after rest word last cut is_label no_numeral None (Some n) is fits e =
-    let text : rest ≡ decimal n = cc in
-    not_label word (Some last) n fits is_label (sym (of_cut rest word (Some last) cut) ∙ text)
-no_number_after rest word last cut is_label no_numeral (Some l) number is fits e =
-    let text : rest ≡ joined l (numeral number) = cc in
-    not_last last number fits no_numeral (one_place 32 word l (Some last) (numeral number) rest cut
-    (cut_of rest l (numeral number) text (label_lacks l is))).1
+no_numbers_after : (rest word last : List ℕ) → IsCut 32 rest word (Some last) → IsLabel word → IsNoNumerals last
+    → (label : Option (List ℕ)) (numbers : Numbers)
+    → IfSome label IsLabel → Fit numbers → Some rest ≡ words_after label numbers → ⊥
+no_numbers_after rest word last cut is_label no_numerals None numbers is fits e =
+    not_numerals word (Some last) numbers fits is_label
+    (ap (λ r. Some r) (sym (of_cut rest word (Some last) cut)) ∙ e)
+no_numbers_after rest word last cut is_label no_numerals (Some l) numbers is fits e =
+    let text : rest ≡ joined l (numerals numbers) = cc in
+    no_numerals numbers fits (one_place 32 word l (Some last) (numerals numbers) rest cut
+    (cut_of rest l (numerals numbers) text (label_lacks l is))).1
 
 pub no_labelled : (line : List ℕ) (v : Verb) (rest word last : List ℕ) → IsCut 32 line (verb_text v) (Some rest)
-    → IsCut 32 rest word (Some last) → IsLabel word → IsNoNumeral last
+    → IsCut 32 rest word (Some last) → IsLabel word → IsNoNumerals last
     → IsNotSpelled line
-no_labelled line v rest word last cut cut' is_label no_numeral = λ verb label number words.
-    no_number_after rest word last cut' is_label no_numeral label number words.label_is words.number_fits
-    (rest_words line v verb (Some rest) label number cut words)
+no_labelled line v rest word last cut cut' is_label no_numerals = λ verb label numbers words.
+    no_numbers_after rest word last cut' is_label no_numerals label numbers words.label_is words.numbers_fit
+    (rest_words line v verb (Some rest) label numbers cut words)
 
-pub labelled_words : (line : List ℕ) (v : Verb) (rest word : List ℕ) (after : Option (List ℕ)) (number : Option ℕ)
+pub labelled_words : (line : List ℕ) (v : Verb) (rest word : List ℕ) (after : Option (List ℕ)) (numbers : Numbers)
     → IsCut 32 line (verb_text v) (Some rest) → IsCut 32 rest word after → IsLabel word
-    → after ≡ numeral number → IfSome number (λ n. n < 2 ^ 64) → HasWords line v (Some word) number
-labelled_words line v rest word after number cut cut' is_label is fits = record {
+    → after ≡ numerals numbers → Fit numbers → HasWords line v (Some word) numbers
+labelled_words line v rest word after numbers cut cut' is_label is fits = record {
   text =
       of_cut line (verb_text v) (Some rest) cut ∙ ap (λ r. joined (verb_text v) (Some r))
       (of_cut rest word after cut' ∙ ap (λ r. joined word r) is);
   label_is = is_label;
-  number_fits = fits;
+  numbers_fit = fits;
 }
 
 -- ---- what a line does not stand for
@@ -274,13 +333,13 @@ held_once : (call own : List ℕ) → joined (codes "hold") (Some call) ≡ join
 held_once call own e = cc
 
 module _ {C : Type 0} (call_of : Row → Option C) (labels : Labels) where
-  pub no_call : (line : List ℕ) (v : Verb) (l : Option (List ℕ)) (n : Option ℕ) (r : Option Row) → HasWords line v l n
+  pub no_call : (line : List ℕ) (v : Verb) (l : Option (List ℕ)) (n : Numbers) (r : Option Row) → HasWords line v l n
       → r ≡ row_of labels v l n
       → IfSome r (λ row. call_of row ≡ None) → IsNoCall call_of labels line
   no_call line v l n r words is none row label call stands =
       let same = same_words line _ _ _ _ _ _ stands.words words in
-      let rows : row_of labels stands.verb label stands.number ≡ row_of labels v l n =
-      ap (λ w. row_of labels w label stands.number) same.0 ∙ ap (λ w. row_of labels v w stands.number) same.1 ∙ ap
+      let rows : row_of labels stands.verb label stands.numbers ≡ row_of labels v l n =
+      ap (λ w. row_of labels w label stands.numbers) same.0 ∙ ap (λ w. row_of labels v w stands.numbers) same.1 ∙ ap
       (λ w. row_of labels v l w) same.2 in
       let found : r ≡ Some row = is ∙ sym rows ∙ stands.row_is in
       let nothing : call_of row ≡ None = subst (λ it. IfSome it (λ one. call_of one ≡ None)) found none in
@@ -290,9 +349,9 @@ module _ {C : Type 0} (call_of : Row → Option C) (labels : Labels) where
       → (holds : Bool) (own : List ℕ) → HoldsLine holds line own → IsNoCall call_of labels own
   held_calls line call held none true own is = subst (IsNoCall call_of labels) (held_once call own (sym held ∙ is)) none
   held_calls line call held none false own is = λ row label one stands.
-      verb_is_no_hold stands.verb (one_place 32 (verb_text stands.verb) (codes "hold") (words_after label stands.number)
+      verb_is_no_hold stands.verb (one_place 32 (verb_text stands.verb) (codes "hold") (words_after label stands.numbers)
       (Some call) own
-      (cut_of own (verb_text stands.verb) (words_after label stands.number) stands.words.text (verb_lacks stands.verb))
+      (cut_of own (verb_text stands.verb) (words_after label stands.numbers) stands.words.text (verb_lacks stands.verb))
       (cut_of own (codes "hold") (Some call) (sym is ∙ held) hold_lacks)).0
 
   pub bad_held : (line call : List ℕ) → line ≢ codes "wakes" → line ≡ joined (codes "hold") (Some call)

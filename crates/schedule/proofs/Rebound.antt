@@ -11,6 +11,7 @@ use Rattle.schedule.specs.Spelled.{IsLabelOf}
 use Rattle.schedule.specs.Stored.{Stores}
 use Rattle.schedule.specs.declared.label.Label.{Label}
 use Rattle.schedule.specs.declared.labelled.Labelled.{Labelled}
+use Rattle.schedule.specs.declared.numbers.Numbers.{Numbers}
 use Rattle.schedule.specs.declared.row.Row.{Row}
 use Rattle.schedule.specs.declared.row.Row.TheVariants.{Make, Cancel}
 use Rattle.schedule.specs.declared.verb.Verb.{Verb}
@@ -25,21 +26,21 @@ rebinds word slot code old new label is stores =
     (here.0, λ other label' apart. here.1 (code_of other) (λ same. apart (one_word other word label' label same)))
 
 module _ (old new : Labelled Slot) (label : Option Label) (l : Label) (is : label ≡ Some l) where
-  pub bound : (slot : Slot) (row : Row) (verb : Verb) (number : Option ℕ) (answer : Answer ℕ ℕ) → row ≡ Make verb number
-      → answer ≡ Made slot
+  pub bound : (slot : Slot) (row : Row) (verb : Verb) (numbers : Numbers) (answer : Answer ℕ ℕ)
+      → row ≡ Make verb numbers → answer ≡ Made slot
       → Stores l.code (Some slot) old.shelves.items new.shelves.items → (word : Option (List ℕ)) → IsLabelOf word label
       → LabelsAfter row word answer (labels_of old) (labels_of new)
-  bound slot row verb number answer is_row is_answer stores None labelled =
+  bound slot row verb numbers answer is_row is_answer stores None labelled =
       absurd (subst (λ (o : Option Label). IsLabelOf None o) is labelled)
-  bound slot row verb number answer is_row is_answer stores (Some word) labelled =
+  bound slot row verb numbers answer is_row is_answer stores (Some word) labelled =
       let it = subst (λ (o : Option Label). IsLabelOf (Some word) o) is labelled in
       rw (is_row, is_answer) (rebinds word (Some slot) l.code old new it.0 it.1 stores)
 
-  pub unbound : (slot : Slot) (row : Row) (number : Option ℕ) (answer : Answer ℕ ℕ) → row ≡ Cancel slot number
+  pub unbound : (slot : Slot) (row : Row) (numbers : Numbers) (answer : Answer ℕ ℕ) → row ≡ Cancel slot numbers
       → Stores l.code None old.shelves.items new.shelves.items → (word : Option (List ℕ)) → IsLabelOf word label
       → LabelsAfter row word answer (labels_of old) (labels_of new)
-  unbound slot row number answer is_row stores None labelled =
+  unbound slot row numbers answer is_row stores None labelled =
       absurd (subst (λ (o : Option Label). IsLabelOf None o) is labelled)
-  unbound slot row number answer is_row stores (Some word) labelled =
+  unbound slot row numbers answer is_row stores (Some word) labelled =
       let it = subst (λ (o : Option Label). IsLabelOf (Some word) o) is labelled in
       rw is_row (rebinds word None l.code old new it.0 it.1 stores)

@@ -11,7 +11,7 @@ use Rattle.schedule.specs.Script.{OfPrimitive, IsFirst, IsNoFirst, AnswersScript
 use Rattle.schedule.specs.Tables.{event_opening}
 use Rattle.schedule.specs.declared.fault.ScriptFault.{ScriptFault}
 use Rattle.schedule.specs.declared.named.Named.{Named}
-use Rattle.schedule.specs.declared.named.Named.TheVariants.{Event, Oneshot, OneshotBroadcast, StateBroadcast}
+use Rattle.schedule.specs.declared.named.Named.TheVariants.{Event, Oneshot, OneshotBroadcast, StateBroadcast, Timer}
 use Rattle.schedule.specs.declared.output.Output.{Output}
 use Rattle.schedule.proofs.Answered.{if_bad_more}
 use Rattle.schedule.proofs.Bytes.{appends_none}
@@ -66,6 +66,7 @@ on_primitive Event P Q more holds = more _ _ _ _ holds
 on_primitive Oneshot P Q more holds = more _ _ _ _ holds
 on_primitive OneshotBroadcast P Q more holds = more _ _ _ _ holds
 on_primitive StateBroadcast P Q more holds = more _ _ _ _ holds
+on_primitive Timer P Q more holds = more _ _ _ _ holds
 
 -- The words after the name ask for this opening.
 abbrev pub AsksFor : Option (List ℕ) → {S O C : Type 0} → Spoken S O C → O → Type 0
@@ -91,6 +92,8 @@ at_line words rest number text OneshotBroadcast (inl it) = inl it
 at_line words rest number text OneshotBroadcast (inr it) = inr it
 at_line words rest number text StateBroadcast (inl it) = inl it
 at_line words rest number text StateBroadcast (inr it) = inr it
+at_line words rest number text Timer (inl it) = inl it
+at_line words rest number text Timer (inr it) = inr it
 
 module _ (first name : List ℕ) (words : Option (List ℕ)) (cut : IsCut 32 first name words) where
   parts : (named : Named) (text : Option (List ℕ)) → first ≡ joined (name_of named) text → (name ≡ name_of named)
@@ -103,6 +106,7 @@ module _ (first name : List ℕ) (words : Option (List ℕ)) (cut : IsCut 32 fir
   no_name none Oneshot = λ opening is. none Oneshot (parts Oneshot None is).0
   no_name none OneshotBroadcast = λ opening is. none OneshotBroadcast (parts OneshotBroadcast None is).0
   no_name none StateBroadcast = λ opening is. none StateBroadcast (parts StateBroadcast None is).0
+  no_name none Timer = λ opening is. none Timer (parts Timer None is).0
 
   module _ (named : Named) (known : name ≡ name_of named) where
     is_first : {S O C : Type 0} (primitive : Spoken S O C) (opening : O) → AsksFor words primitive opening
@@ -122,6 +126,8 @@ module _ (first name : List ℕ) (words : Option (List ℕ)) (cut : IsCut 32 fir
         λ opening is. let it = parts OneshotBroadcast None is in of_other OneshotBroadcast it.0 nothing opening it.1
     no_opening nothing StateBroadcast =
         λ opening is. let it = parts StateBroadcast None is in of_other StateBroadcast it.0 nothing opening it.1
+    no_opening nothing Timer =
+        λ opening is. let it = parts Timer None is in of_other Timer it.0 nothing opening it.1
 
 module _ {W : Type 0} (contents : W → Option (List ℕ)) (script first name : List ℕ) (rest words : Option (List ℕ))
     (line_cut : IsCut 10 script first rest) (cut : IsCut 32 first name words) (shown left : Output W) where

@@ -1,11 +1,13 @@
 -- What a line of calls stands for.
-use Rattle.std.specs.Prelude.{◌≡◌, ◌≢◌, ℕ, Bool, true, false, List, ◌∷◌, ◌++◌, Option, None, Some, IfSome, codes, ◌<◌, ◌^◌}
+use Rattle.std.specs.Prelude.{◌≡◌, ◌≢◌, ⊤, ℕ, Bool, true, false, List, ◌∷◌, ◌++◌, Option, None, Some, IfSome, codes, ◌<◌, ◌^◌}
 use Rattle.std.specs.Fmt.{decimal}
 use Rattle.fi_parts.specs.declared.errors.Slot.{Slot}
 use Rattle.fi_run.specs.declared.answer.Answer.{Answer}
 use Rattle.fi_run.specs.declared.answer.Answer.TheVariants.{Made}
 use Rattle.schedule.specs.Labels.{IsLabel}
 use Rattle.schedule.specs.Verbs.{verb_text}
+use Rattle.schedule.specs.declared.numbers.Numbers.{Numbers}
+use Rattle.schedule.specs.declared.numbers.Numbers.TheVariants.{Absent, One, Two}
 use Rattle.schedule.specs.declared.row.Row.{Row}
 use Rattle.schedule.specs.declared.row.Row.TheVariants as row
 use Rattle.schedule.specs.declared.verb.Verb.{Verb}
@@ -16,21 +18,28 @@ abbrev pub joined : List ℕ → Option (List ℕ) → List ℕ
 joined word None = word
 joined word (Some rest) = word ++ 32 ∷ rest
 
--- a number in plain decimal, if there is one
-abbrev pub numeral : Option ℕ → Option (List ℕ)
-numeral None = None
-numeral (Some number) = Some (decimal number)
+-- numbers in plain decimal, with a space between two, if there are any
+abbrev pub numerals : Numbers → Option (List ℕ)
+numerals Absent = None
+numerals (One number) = Some (decimal number)
+numerals (Two first second) = Some (joined (decimal first) (Some (decimal second)))
+
+-- each has at most 64 bits
+abbrev pub Fit : Numbers → Type 0
+Fit Absent = ⊤
+Fit (One number) = number < 2 ^ 64
+Fit (Two first second) = (first < 2 ^ 64) × (second < 2 ^ 64)
 
 -- the words after a verb
-abbrev pub words_after : Option (List ℕ) → Option ℕ → Option (List ℕ)
-words_after None number = numeral number
-words_after (Some label) number = Some (joined label (numeral number))
+abbrev pub words_after : Option (List ℕ) → Numbers → Option (List ℕ)
+words_after None numbers = numerals numbers
+words_after (Some label) numbers = Some (joined label (numerals numbers))
 
--- The line is a verb, then a label if it has one, then a number of 64 bits if it has one.
-pub record HasWords (line : List ℕ) (verb : Verb) (label : Option (List ℕ)) (number : Option ℕ) : Type 0 where
-  pub text : line ≡ joined (verb_text verb) (words_after label number)
+-- The line is a verb, then a label if it has one, then numbers of 64 bits if it has any.
+pub record HasWords (line : List ℕ) (verb : Verb) (label : Option (List ℕ)) (numbers : Numbers) : Type 0 where
+  pub text : line ≡ joined (verb_text verb) (words_after label numbers)
   pub label_is : IfSome label IsLabel
-  pub number_fits : IfSome number (λ n. n < 2 ^ 64)
+  pub numbers_fit : Fit numbers
 
 -- The slots that the labels in use stand for.
 abbrev pub Labels : Type 0
@@ -46,21 +55,21 @@ Rebinds label slot old new =
     (new label ≡ slot) × ((other : List ℕ) → IsLabel other → other ≢ label → new other ≡ old other)
 
 -- What a line with a label asks for: a free label is for making a future, one in use for its poll or cancel.
-abbrev pub labelled_row : Verb → Option ℕ → Option Slot → Option Row
-labelled_row verb number None = Some (row.Make verb number)
-labelled_row verb.Poll number (Some slot) = Some (row.Poll slot number)
-labelled_row verb.Cancel number (Some slot) = Some (row.Cancel slot number)
-labelled_row verb number (Some slot) = None
+abbrev pub labelled_row : Verb → Numbers → Option Slot → Option Row
+labelled_row verb numbers None = Some (row.Make verb numbers)
+labelled_row verb.Poll numbers (Some slot) = Some (row.Poll slot numbers)
+labelled_row verb.Cancel numbers (Some slot) = Some (row.Cancel slot numbers)
+labelled_row verb numbers (Some slot) = None
 
 -- what a line of these words asks for
-abbrev pub row_of : Labels → Verb → Option (List ℕ) → Option ℕ → Option Row
-row_of labels verb None number = Some (row.Plain verb number)
-row_of labels verb (Some label) number = labelled_row verb number (labels label)
+abbrev pub row_of : Labels → Verb → Option (List ℕ) → Numbers → Option Row
+row_of labels verb None numbers = Some (row.Plain verb numbers)
+row_of labels verb (Some label) numbers = labelled_row verb numbers (labels label)
 
 -- A label is in use from the making of its future until its cancel.
 abbrev pub LabelsAfter : Row → Option (List ℕ) → Answer ℕ ℕ → Labels → Labels → Type 0
-LabelsAfter (row.Make verb number) (Some label) (Made slot) old new = Rebinds label (Some slot) old new
-LabelsAfter (row.Cancel slot number) (Some label) answer old new = Rebinds label None old new
+LabelsAfter (row.Make verb numbers) (Some label) (Made slot) old new = Rebinds label (Some slot) old new
+LabelsAfter (row.Cancel slot numbers) (Some label) answer old new = Rebinds label None old new
 LabelsAfter row label answer old new = new ≡ old
 
 -- The line as a whole, or what follows `hold` in it.
@@ -73,9 +82,9 @@ module _ {C : Type 0} (call_of : Row → Option C) where
   -- The line stands for this call, where these labels are in use.
   pub record StandsFor (labels : Labels) (line : List ℕ) (row : Row) (label : Option (List ℕ)) (call : C) : Type 0 where
     pub verb : Verb
-    pub number : Option ℕ
-    pub words : HasWords line verb label number
-    pub row_is : row_of labels verb label number ≡ Some row
+    pub numbers : Numbers
+    pub words : HasWords line verb label numbers
+    pub row_is : row_of labels verb label numbers ≡ Some row
     pub call_is : call_of row ≡ Some call
 
   -- It stands for no call.

@@ -1,13 +1,14 @@
 -- The names of the primitives in scripts.
 use Rattle.std.specs.Prelude.{◌≢◌, ℕ, List, codes}
 use Rattle.schedule.specs.declared.named.Named.{Named}
-use Rattle.schedule.specs.declared.named.Named.TheVariants.{Event, Oneshot, OneshotBroadcast, StateBroadcast}
+use Rattle.schedule.specs.declared.named.Named.TheVariants.{Event, Oneshot, OneshotBroadcast, StateBroadcast, Timer}
 
 abbrev pub name_of : Named → List ℕ
 name_of Event = codes "event"
 name_of Oneshot = codes "oneshot"
 name_of OneshotBroadcast = codes "oneshot-broadcast"
 name_of StateBroadcast = codes "state-broadcast"
+name_of Timer = codes "timer"
 
 -- no primitive has this name
 abbrev pub IsNoName : List ℕ → Type 0

@@ -1,26 +1,30 @@
 -- The call for the oldest waker.
-use Rattle.std.specs.Prelude.{◌≡◌, ◌≢◌, ⊤, ℕ, Option, None, Some, List, [], ◌∷◌, drop}
+use Rattle.std.specs.Prelude.{◌≡◌, ◌≢◌, ⊤, ℕ, Option, Some, List, [], ◌∷◌, drop}
 use Rattle.std.proofs.Common.{ap, refl, ◌∙◌}
 use Rattle.fi_parts.specs.Pairs.{oldest, wakers_of}
 use Rattle.fi_channels.specs.Event.{EventMachine}
 use Rattle.fi_channels.specs.Oneshot.{OneshotMachine, Giving}
 use Rattle.fi_channels.specs.StateBroadcast.{StateMachine}
+use Rattle.fi_locks.specs.Timer.{TimerMachine}
 use Rattle.fi_parts.specs.Effects.WaiterEffect.{PopsOldest}
 use Rattle.fi_parts.specs.Machine.{Machine, StepsTo}
 use Rattle.schedule.specs.Language.{first_of, machine_language, HandsOutOldest}
-use Rattle.schedule.specs.Tables.{event_opening, only_opening, event_call, oneshot_call, state_call}
-use Rattle.schedule.specs.Tables.{event_language, oneshot_language, state_language}
+use Rattle.schedule.specs.Tables.{event_opening, only_opening, event_call, oneshot_call, state_call, timer_call}
+use Rattle.schedule.specs.Tables.{event_language, oneshot_language, state_language, timer_language}
+use Rattle.schedule.specs.declared.numbers.Numbers.TheVariants.{Absent, One, Two}
 use Rattle.schedule.specs.declared.row.Row.{Row}
 use Rattle.schedule.specs.declared.row.Row.TheVariants.{Plain, Make, Poll, Cancel}
 use Rattle.schedule.specs.declared.verb.Verb.TheVariants as verb
 use Rattle.fi_run.specs.Event as event
 use Rattle.fi_run.specs.Oneshot as oneshot
 use Rattle.fi_run.specs.State as state
+use Rattle.fi_run.specs.Timer as timer
 use Rattle.fi_run.specs.declared.answer.Answer.{Answer}
 use Rattle.fi_run.specs.declared.answer.Answer.TheVariants.{Woken, Refused}
 use Rattle.fi_run.specs.declared.event.EventCall.TheVariants as event_calls
 use Rattle.fi_run.specs.declared.oneshot.OneshotCall.TheVariants as oneshot_calls
 use Rattle.fi_run.specs.declared.state.StateCall.TheVariants as state_calls
+use Rattle.fi_run.specs.declared.timer.TimerCall.TheVariants as timer_calls
 
 -- a number's clone is the number, and can't fail
 abbrev pub is_same : ℕ → ℕ → Type 0
@@ -70,29 +74,44 @@ state_takes old (Woken waker) new did = pops_oldest only_opening state_call old 
 state_takes old (Refused fault) new did = absurd did.0
 state_takes old answer new did = absurd did
 
+pub timer_takes : (old : TimerMachine ℕ) (answer : Answer ℕ ℕ) (new : TimerMachine ℕ)
+    → timer.Step old timer_calls.NextWake answer new → HandsOutOldest timer_language old answer new
+timer_takes old (Woken waker) new did = pops_oldest only_opening timer_call old waker new did
+timer_takes old (Refused fault) new did = absurd did.0
+timer_takes old answer new did = absurd did
+
 -- No line asks for it.
 pub event_hides : (row : Row) → event_call row ≢ Some event_calls.NextWake
-event_hides (Make verb.Wait None) e = cc
-event_hides (Poll slot (Some waker)) e = cc
-event_hides (Cancel slot None) e = cc
-event_hides (Plain verb.Set None) e = cc
-event_hides (Plain verb.Reset None) e = cc
-event_hides (Plain verb.IsSet None) e = cc
+event_hides (Make verb.Wait Absent) e = cc
+event_hides (Poll slot (One waker)) e = cc
+event_hides (Cancel slot Absent) e = cc
+event_hides (Plain verb.Set Absent) e = cc
+event_hides (Plain verb.Reset Absent) e = cc
+event_hides (Plain verb.IsSet Absent) e = cc
 event_hides row e = cc
 
 pub oneshot_hides : (row : Row) → oneshot_call row ≢ Some oneshot_calls.NextWake
-oneshot_hides (Make verb.Receive None) e = cc
-oneshot_hides (Poll slot (Some waker)) e = cc
-oneshot_hides (Cancel slot None) e = cc
-oneshot_hides (Plain verb.Send (Some value)) e = cc
-oneshot_hides (Plain verb.Close None) e = cc
+oneshot_hides (Make verb.Receive Absent) e = cc
+oneshot_hides (Poll slot (One waker)) e = cc
+oneshot_hides (Cancel slot Absent) e = cc
+oneshot_hides (Plain verb.Send (One value)) e = cc
+oneshot_hides (Plain verb.Close Absent) e = cc
 oneshot_hides row e = cc
 
 pub state_hides : (row : Row) → state_call row ≢ Some state_calls.NextWake
-state_hides (Make verb.Receive (Some seen)) e = cc
-state_hides (Poll slot (Some waker)) e = cc
-state_hides (Cancel slot None) e = cc
-state_hides (Plain verb.TryReceive (Some seen)) e = cc
-state_hides (Plain verb.Send (Some value)) e = cc
-state_hides (Plain verb.Close None) e = cc
+state_hides (Make verb.Receive (One seen)) e = cc
+state_hides (Poll slot (One waker)) e = cc
+state_hides (Cancel slot Absent) e = cc
+state_hides (Plain verb.TryReceive (One seen)) e = cc
+state_hides (Plain verb.Send (One value)) e = cc
+state_hides (Plain verb.Close Absent) e = cc
 state_hides row e = cc
+
+pub timer_hides : (row : Row) → timer_call row ≢ Some timer_calls.NextWake
+timer_hides (Make verb.Deadline (One expiry)) e = cc
+timer_hides (Make verb.Delay (Two now millis)) e = cc
+timer_hides (Poll slot (Two now waker)) e = cc
+timer_hides (Cancel slot Absent) e = cc
+timer_hides (Plain verb.Check (One now)) e = cc
+timer_hides (Plain verb.Next Absent) e = cc
+timer_hides row e = cc

@@ -4,23 +4,26 @@ use Rattle.std.specs.Io.KnownBytes.{Appends}
 use Rattle.fi_channels.specs.Event.{EventMachine}
 use Rattle.fi_channels.specs.Oneshot.{OneshotMachine, taking, cloning}
 use Rattle.fi_channels.specs.StateBroadcast.{StateMachine}
+use Rattle.fi_locks.specs.Timer.{TimerMachine}
 use Rattle.fi_run.specs.Event as event
 use Rattle.fi_run.specs.Oneshot as oneshot
 use Rattle.fi_run.specs.State as state
+use Rattle.fi_run.specs.Timer as timer
 use Rattle.fi_run.specs.declared.event.EventCall.{EventCall}
 use Rattle.fi_run.specs.declared.oneshot.OneshotCall.{OneshotCall}
 use Rattle.fi_run.specs.declared.state.StateCall.{StateCall}
+use Rattle.fi_run.specs.declared.timer.TimerCall.{TimerCall}
 use Rattle.schedule.specs.declared.fault.ScriptFault.{ScriptFault}
 use Rattle.schedule.specs.declared.fault.ScriptFault.TheVariants.{Read, Write, BadLine, NoMemory}
 use Rattle.schedule.specs.declared.named.Named.{Named}
-use Rattle.schedule.specs.declared.named.Named.TheVariants.{Event, Oneshot, OneshotBroadcast, StateBroadcast}
+use Rattle.schedule.specs.declared.named.Named.TheVariants.{Event, Oneshot, OneshotBroadcast, StateBroadcast, Timer}
 use Rattle.schedule.specs.Names.{name_of}
 use Rattle.schedule.specs.Answered.{AnswersRest, AnswersFront}
 use Rattle.schedule.specs.Cuts.{IsCut}
 use Rattle.schedule.specs.Language.{Spoken, spoken}
 use Rattle.schedule.specs.Lines.{joined}
 use Rattle.schedule.specs.Oldest.{is_same, never_fails}
-use Rattle.schedule.specs.Tables.{event_language, oneshot_language, state_language}
+use Rattle.schedule.specs.Tables.{event_language, oneshot_language, state_language, timer_language}
 
 -- This holds of the primitive of this name.
 abbrev pub OfPrimitive : Named → ((S O C : Type 0) → Spoken S O C → Type 0) → Type 0
@@ -32,6 +35,7 @@ OfPrimitive OneshotBroadcast P =
     (oneshot.Step (cloning is_same never_fails)) oneshot_language)
 OfPrimitive StateBroadcast P =
     P (StateMachine ℕ ℕ) (Unit {0}) (StateCall ℕ ℕ) (spoken state.Opens (state.Step is_same never_fails) state_language)
+OfPrimitive Timer P = P (TimerMachine ℕ) (Unit {0}) (TimerCall ℕ) (spoken timer.Opens timer.Step timer_language)
 
 -- The first line is the primitive's name, and what stands after it for the opening.
 abbrev pub IsFirst : {S O C : Type 0} → Named → Spoken S O C → List ℕ → O → Type 0

@@ -1,8 +1,9 @@
 -- What a line spells.
-use Rattle.std.specs.Prelude.{◌≡◌, ⊤, ℕ, List, Option, None, Some}
+use Rattle.std.specs.Prelude.{◌≡◌, ◌≢◌, ⊤, ℕ, List, Option, None, Some}
 use Rattle.schedule.specs.Labels.{IsLabel, code_of}
-use Rattle.schedule.specs.Lines.{HasWords}
+use Rattle.schedule.specs.Lines.{HasWords, Fit, numerals}
 use Rattle.schedule.specs.declared.label.Label.{Label}
+use Rattle.schedule.specs.declared.numbers.Numbers.{Numbers}
 use Rattle.schedule.specs.declared.verb.Verb.{Verb}
 use Rattle.schedule.specs.declared.words.Words.{Words}
 
@@ -14,7 +15,11 @@ IsLabelOf word label = ⊥
 
 abbrev pub IsSpelled : List ℕ → Words → Type 0
 IsSpelled line words =
-    (label : Option (List ℕ)) × HasWords line words.verb label words.number × IsLabelOf label words.label
+    (label : Option (List ℕ)) × HasWords line words.verb label words.numbers × IsLabelOf label words.label
 
 abbrev pub IsNotSpelled : List ℕ → Type 0
-IsNotSpelled line = (verb : Verb) (label : Option (List ℕ)) (number : Option ℕ) → HasWords line verb label number → ⊥
+IsNotSpelled line = (verb : Verb) (label : Option (List ℕ)) (numbers : Numbers) → HasWords line verb label numbers → ⊥
+
+-- The text is neither a numeral of 64 bits nor two of them with a space between.
+abbrev pub IsNoNumerals : List ℕ → Type 0
+IsNoNumerals text = (numbers : Numbers) → Fit numbers → Some text ≢ numerals numbers

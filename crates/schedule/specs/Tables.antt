@@ -1,5 +1,6 @@
 -- The lines of each primitive, and the calls that they ask for.
-use Rattle.std.specs.Prelude.{ℕ, Bool, true, false, List, [], Option, None, Some, codes}
+use Rattle.std.specs.Prelude.{ℕ, ◌*◌, ◌/◌, ◌%◌, Bool, true, false, List, Option, None, Some, codes}
+use Rattle.std.specs.declared.time.Duration.{Duration}
 use Rattle.fi_channels.specs.Event.{EventMachine}
 use Rattle.fi_channels.specs.Oneshot.{OneshotMachine}
 use Rattle.fi_channels.specs.StateBroadcast.{StateMachine}
@@ -9,7 +10,11 @@ use Rattle.fi_run.specs.declared.oneshot.OneshotCall.{OneshotCall}
 use Rattle.fi_run.specs.declared.oneshot.OneshotCall.TheVariants as oneshot
 use Rattle.fi_run.specs.declared.state.StateCall.{StateCall}
 use Rattle.fi_run.specs.declared.state.StateCall.TheVariants as state
+use Rattle.fi_locks.specs.Timer.{TimerMachine}
+use Rattle.fi_run.specs.declared.timer.TimerCall.{TimerCall}
+use Rattle.fi_run.specs.declared.timer.TimerCall.TheVariants as timer
 use Rattle.schedule.specs.Language.{Language, machine_language}
+use Rattle.schedule.specs.declared.numbers.Numbers.TheVariants.{Absent, One, Two}
 use Rattle.schedule.specs.declared.row.Row.{Row}
 use Rattle.schedule.specs.declared.row.Row.TheVariants.{Plain, Make, Poll, Cancel}
 use Rattle.schedule.specs.declared.verb.Verb.TheVariants as verb
@@ -20,28 +25,28 @@ event_opening true = Some (codes "set")
 event_opening false = Some (codes "reset")
 
 abbrev pub event_call : Row → Option (EventCall ℕ)
-event_call (Make verb.Wait None) = Some event.Wait
-event_call (Poll slot (Some waker)) = Some (event.Poll slot waker)
-event_call (Cancel slot None) = Some (event.Cancel slot)
-event_call (Plain verb.Set None) = Some event.Set
-event_call (Plain verb.Reset None) = Some event.Reset
-event_call (Plain verb.IsSet None) = Some event.IsSet
+event_call (Make verb.Wait Absent) = Some event.Wait
+event_call (Poll slot (One waker)) = Some (event.Poll slot waker)
+event_call (Cancel slot Absent) = Some (event.Cancel slot)
+event_call (Plain verb.Set Absent) = Some event.Set
+event_call (Plain verb.Reset Absent) = Some event.Reset
+event_call (Plain verb.IsSet Absent) = Some event.IsSet
 event_call row = None
 
 abbrev pub event_language : Language (EventMachine ℕ) Bool (EventCall ℕ)
 event_language = machine_language event_opening event_call
 
--- ---- the channels, whose openings are one
+-- ---- the channels and the timer, whose openings are one
 abbrev pub only_opening : Unit {0} → Option (List ℕ)
 only_opening opening = None
 
 -- ---- the two channels of one value
 abbrev pub oneshot_call : Row → Option (OneshotCall ℕ ℕ)
-oneshot_call (Make verb.Receive None) = Some oneshot.Receive
-oneshot_call (Poll slot (Some waker)) = Some (oneshot.Poll slot waker)
-oneshot_call (Cancel slot None) = Some (oneshot.Cancel slot)
-oneshot_call (Plain verb.Send (Some value)) = Some (oneshot.Send value)
-oneshot_call (Plain verb.Close None) = Some oneshot.Close
+oneshot_call (Make verb.Receive Absent) = Some oneshot.Receive
+oneshot_call (Poll slot (One waker)) = Some (oneshot.Poll slot waker)
+oneshot_call (Cancel slot Absent) = Some (oneshot.Cancel slot)
+oneshot_call (Plain verb.Send (One value)) = Some (oneshot.Send value)
+oneshot_call (Plain verb.Close Absent) = Some oneshot.Close
 oneshot_call row = None
 
 abbrev pub oneshot_language : Language (OneshotMachine ℕ ℕ) (Unit {0}) (OneshotCall ℕ ℕ)
@@ -49,13 +54,30 @@ oneshot_language = machine_language only_opening oneshot_call
 
 -- ---- the state broadcast
 abbrev pub state_call : Row → Option (StateCall ℕ ℕ)
-state_call (Make verb.Receive (Some seen)) = Some (state.Receive seen)
-state_call (Poll slot (Some waker)) = Some (state.Poll slot waker)
-state_call (Cancel slot None) = Some (state.Cancel slot)
-state_call (Plain verb.TryReceive (Some seen)) = Some (state.TryReceive seen)
-state_call (Plain verb.Send (Some value)) = Some (state.Send value)
-state_call (Plain verb.Close None) = Some state.Close
+state_call (Make verb.Receive (One seen)) = Some (state.Receive seen)
+state_call (Poll slot (One waker)) = Some (state.Poll slot waker)
+state_call (Cancel slot Absent) = Some (state.Cancel slot)
+state_call (Plain verb.TryReceive (One seen)) = Some (state.TryReceive seen)
+state_call (Plain verb.Send (One value)) = Some (state.Send value)
+state_call (Plain verb.Close Absent) = Some state.Close
 state_call row = None
 
 abbrev pub state_language : Language (StateMachine ℕ ℕ) (Unit {0}) (StateCall ℕ ℕ)
 state_language = machine_language only_opening state_call
+
+-- ---- the timer
+-- A delay of this many milliseconds, in seconds and nanoseconds. Its length is in the contract of `delay_of`.
+abbrev pub of_millis : ℕ → Duration
+of_millis millis = record { secs = millis / 1000; nanos = millis % 1000 * 1000000 }
+
+abbrev pub timer_call : Row → Option (TimerCall ℕ)
+timer_call (Make verb.Deadline (One expiry)) = Some (timer.Deadline expiry)
+timer_call (Make verb.Delay (Two now millis)) = Some (timer.Delay now (of_millis millis))
+timer_call (Poll slot (Two now waker)) = Some (timer.Poll slot now waker)
+timer_call (Cancel slot Absent) = Some (timer.Cancel slot)
+timer_call (Plain verb.Check (One now)) = Some (timer.Check now)
+timer_call (Plain verb.Next Absent) = Some timer.Next
+timer_call row = None
+
+abbrev pub timer_language : Language (TimerMachine ℕ) (Unit {0}) (TimerCall ℕ)
+timer_language = machine_language only_opening timer_call

@@ -1,12 +1,17 @@
 -- The verbs of script lines.
 use Rattle.std.specs.Prelude.{◌≢◌, ℕ, List, codes}
 use Rattle.schedule.specs.declared.verb.Verb.{Verb}
-use Rattle.schedule.specs.declared.verb.Verb.TheVariants.{Cancel, Close, IsSet, Poll, Receive, Reset, Send, Set, TryReceive, Wait}
+use Rattle.schedule.specs.declared.verb.Verb.TheVariants.{Cancel, Check, Close, Deadline, Delay, IsSet, Next, Poll}
+use Rattle.schedule.specs.declared.verb.Verb.TheVariants.{Receive, Reset, Send, Set, TryReceive, Wait}
 
 abbrev pub verb_text : Verb → List ℕ
 verb_text Cancel = codes "cancel"
+verb_text Check = codes "check"
 verb_text Close = codes "close"
+verb_text Deadline = codes "deadline"
+verb_text Delay = codes "delay"
 verb_text IsSet = codes "is-set"
+verb_text Next = codes "next"
 verb_text Poll = codes "poll"
 verb_text Receive = codes "receive"
 verb_text Reset = codes "reset"

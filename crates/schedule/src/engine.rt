@@ -22,6 +22,7 @@ use crate::scripted::Scripted;
 use crate::texts::{put_waker, write_answer};
 use crate::words::{Lines, Words, after_hold, split_at_first};
 use fi_channels::{EventState, OneshotBroadcastState, OneshotState, StateBroadcastState};
+use fi_locks::TimerState;
 use fi_parts::Slot;
 use fi_run::Answer;
 use std::alloc::Global;
@@ -88,6 +89,7 @@ fn answer_script<W: Write>(
         Some(Named::StateBroadcast) => {
             answer_calls::<StateBroadcastState<u64, u64>, W>(alloc, words, lines, output)
         }
+        Some(Named::Timer) => answer_calls::<TimerState<u64>, W>(alloc, words, lines, output),
         None => Err(ScriptFault::BadLine(1)),
     }
 }
@@ -225,11 +227,11 @@ impl<P: Scripted> Session<P> {
     /// What a line of these words asks for.
     fn row(&self, words: Words) -> Option<Row>
         ensures { (label : Option (List ℕ)) → IsLabelOf label words.label
-            → result ≡ row_of (labels_of self.now.futures) words.verb label words.number }
+            → result ≡ row_of (labels_of self.now.futures) words.verb label words.numbers }
     {
         match words.label {
-            None => Some(Row::Plain(words.verb, words.number)),
-            Some(label) => Row::labelled(words.verb, words.number, self.futures.get(label)),
+            None => Some(Row::Plain(words.verb, words.numbers)),
+            Some(label) => Row::labelled(words.verb, words.numbers, self.futures.get(label)),
         }
     }
 

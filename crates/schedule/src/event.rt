@@ -1,5 +1,6 @@
 //! Script lines of the event.
 
+use crate::numbers::Numbers;
 use crate::row::Row;
 use crate::scripted::Scripted;
 use crate::verb::Verb;
@@ -29,12 +30,12 @@ impl Scripted for EventState<u64> {
 
     fn call(row: Row) -> Option<EventCall<u64>> {
         match row {
-            Row::Make(Verb::Wait, None) => Some(EventCall::Wait),
-            Row::Poll(slot, Some(waker)) => Some(EventCall::Poll(slot, waker)),
-            Row::Cancel(slot, None) => Some(EventCall::Cancel(slot)),
-            Row::Plain(Verb::Set, None) => Some(EventCall::Set),
-            Row::Plain(Verb::Reset, None) => Some(EventCall::Reset),
-            Row::Plain(Verb::IsSet, None) => Some(EventCall::IsSet),
+            Row::Make(Verb::Wait, Numbers::Absent) => Some(EventCall::Wait),
+            Row::Poll(slot, Numbers::One(waker)) => Some(EventCall::Poll(slot, waker)),
+            Row::Cancel(slot, Numbers::Absent) => Some(EventCall::Cancel(slot)),
+            Row::Plain(Verb::Set, Numbers::Absent) => Some(EventCall::Set),
+            Row::Plain(Verb::Reset, Numbers::Absent) => Some(EventCall::Reset),
+            Row::Plain(Verb::IsSet, Numbers::Absent) => Some(EventCall::IsSet),
             _ => None,
         }
     }

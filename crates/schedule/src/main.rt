@@ -9,6 +9,7 @@ mod label;
 mod labelled;
 mod named;
 mod number;
+mod numbers;
 mod oneshot;
 mod output;
 mod program;
@@ -18,6 +19,7 @@ mod state;
 #[cfg(test)]
 mod tests;
 mod texts;
+mod timer;
 mod verb;
 mod words;
 

@@ -9,6 +9,7 @@ pub enum Named {
     Oneshot,
     OneshotBroadcast,
     StateBroadcast,
+    Timer,
 }
 
 impl Named {
@@ -24,6 +25,8 @@ impl Named {
             Some(Named::OneshotBroadcast)
         } else if word == b"state-broadcast".as_slice() {
             Some(Named::StateBroadcast)
+        } else if word == b"timer".as_slice() {
+            Some(Named::Timer)
         } else {
             None
         }

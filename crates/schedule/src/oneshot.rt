@@ -1,9 +1,8 @@
 //! Script lines of the two channels of one value.
-ghost use Rattle.std.specs.Prelude.{◌≡◌, ◌≢◌, MatchOption, option_copied};
-ghost use Rattle.schedule.specs.Tables.{only_opening};
 
+use crate::numbers::Numbers;
 use crate::row::Row;
-use crate::scripted::Scripted;
+use crate::scripted::{Scripted, opening_without_words};
 use crate::verb::Verb;
 use fi_channels::{GivesValue, OneValueState};
 use fi_run::OneshotCall;
@@ -22,33 +21,21 @@ impl<G: GivesValue<u64>> Scripted for OneValueState<u64, u64, G> {
     ghost hides = { oneshot_hides };
 
     fn opening(words: Option<&[u8]>) -> Option<()> {
-        open_channel(words)
+        opening_without_words(words)
     }
 
     fn call(row: Row) -> Option<OneshotCall<u64, u64>> {
         match row {
-            Row::Make(Verb::Receive, None) => Some(OneshotCall::Receive),
-            Row::Poll(slot, Some(waker)) => Some(OneshotCall::Poll(slot, waker)),
-            Row::Cancel(slot, None) => Some(OneshotCall::Cancel(slot)),
-            Row::Plain(Verb::Send, Some(value)) => Some(OneshotCall::Send(value)),
-            Row::Plain(Verb::Close, None) => Some(OneshotCall::Close),
+            Row::Make(Verb::Receive, Numbers::Absent) => Some(OneshotCall::Receive),
+            Row::Poll(slot, Numbers::One(waker)) => Some(OneshotCall::Poll(slot, waker)),
+            Row::Cancel(slot, Numbers::Absent) => Some(OneshotCall::Cancel(slot)),
+            Row::Plain(Verb::Send, Numbers::One(value)) => Some(OneshotCall::Send(value)),
+            Row::Plain(Verb::Close, Numbers::Absent) => Some(OneshotCall::Close),
             _ => None,
         }
     }
 
     fn next_wake() -> OneshotCall<u64, u64> {
         OneshotCall::NextWake
-    }
-}
-
-/// The opening of a channel, after whose name no word stands.
-pub fn open_channel(words: Option<&[u8]>) -> Option<()>
-    ensures { MatchOption result
-        ((opening : Unit {0}) → option_copied words.entry ≢ only_opening opening)
-        (λ opening. option_copied words.entry ≡ only_opening opening) }
-{
-    match words {
-        None => Some(()),
-        Some(_) => None,
     }
 }

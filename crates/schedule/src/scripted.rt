@@ -4,6 +4,7 @@ ghost use Rattle.std.specs.Prelude.{◌≡◌, ◌≢◌, ℕ, Some, MatchOption
 ghost use Rattle.fi_run.specs.declared.answer.Answer.{Answer};
 ghost use Rattle.schedule.specs.declared.row.Row.{Row};
 ghost use Rattle.schedule.specs.Language.{Language, HandsOutOldest};
+ghost use Rattle.schedule.specs.Tables.{only_opening};
 
 use crate::row::Row;
 use fi_run::{Answer, Primitive};
@@ -35,4 +36,16 @@ pub trait Scripted: Primitive<Answer = Answer<u64, u64>> + Drop {
 
     /// No line asks for it.
     ghost hides: { (row : Row) → language.call_of row ≢ Some take_waker };
+}
+
+/// The opening of a primitive that has no other, after whose name no word stands.
+pub fn opening_without_words(words: Option<&[u8]>) -> Option<()>
+    ensures { MatchOption result
+        ((opening : Unit {0}) → option_copied words.entry ≢ only_opening opening)
+        (λ opening. option_copied words.entry ≡ only_opening opening) }
+{
+    match words {
+        None => Some(()),
+        Some(_) => None,
+    }
 }

@@ -1,8 +1,8 @@
 //! Script lines of the state broadcast.
 
-use crate::oneshot::open_channel;
+use crate::numbers::Numbers;
 use crate::row::Row;
-use crate::scripted::Scripted;
+use crate::scripted::{Scripted, opening_without_words};
 use crate::verb::Verb;
 use fi_channels::StateBroadcastState;
 use fi_parts::StateId;
@@ -22,21 +22,21 @@ impl Scripted for StateBroadcastState<u64, u64> {
     ghost hides = { state_hides };
 
     fn opening(words: Option<&[u8]>) -> Option<()> {
-        open_channel(words)
+        opening_without_words(words)
     }
 
     fn call(row: Row) -> Option<StateCall<u64, u64>> {
         match row {
-            Row::Make(Verb::Receive, Some(seen)) => {
+            Row::Make(Verb::Receive, Numbers::One(seen)) => {
                 Some(StateCall::Receive(StateId::from_value(seen)))
             }
-            Row::Poll(slot, Some(waker)) => Some(StateCall::Poll(slot, waker)),
-            Row::Cancel(slot, None) => Some(StateCall::Cancel(slot)),
-            Row::Plain(Verb::TryReceive, Some(seen)) => {
+            Row::Poll(slot, Numbers::One(waker)) => Some(StateCall::Poll(slot, waker)),
+            Row::Cancel(slot, Numbers::Absent) => Some(StateCall::Cancel(slot)),
+            Row::Plain(Verb::TryReceive, Numbers::One(seen)) => {
                 Some(StateCall::TryReceive(StateId::from_value(seen)))
             }
-            Row::Plain(Verb::Send, Some(value)) => Some(StateCall::Send(value)),
-            Row::Plain(Verb::Close, None) => Some(StateCall::Close),
+            Row::Plain(Verb::Send, Numbers::One(value)) => Some(StateCall::Send(value)),
+            Row::Plain(Verb::Close, Numbers::Absent) => Some(StateCall::Close),
             _ => None,
         }
     }

@@ -13,6 +13,7 @@ mod edges;
 mod event;
 mod faults;
 mod program;
+mod timer;
 
 /// What stands between a row's line and its answer.
 const ANSWERED: &str = " -> ";

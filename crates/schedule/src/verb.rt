@@ -6,8 +6,12 @@ ghost use Rattle.schedule.specs.Verbs.{verb_text, IsNoVerb};
 #[derive(Clone, Copy, Debug, PartialEq, Eq)]
 pub enum Verb {
     Cancel,
+    Check,
     Close,
+    Deadline,
+    Delay,
     IsSet,
+    Next,
     Poll,
     Receive,
     Reset,
@@ -33,6 +37,10 @@ impl Verb {
             b"send" => Some(Verb::Send),
             b"close" => Some(Verb::Close),
             b"try-receive" => Some(Verb::TryReceive),
+            b"deadline" => Some(Verb::Deadline),
+            b"delay" => Some(Verb::Delay),
+            b"check" => Some(Verb::Check),
+            b"next" => Some(Verb::Next),
             _ => None,
         }
     }

@@ -5,7 +5,7 @@ ghost use Rattle.schedule.specs.Lines.{joined};
 ghost use Rattle.schedule.specs.Spelled.{IsSpelled, IsNotSpelled};
 
 use crate::label::Label;
-use crate::number::parse_number;
+use crate::numbers::Numbers;
 use crate::verb::Verb;
 use memchr::memchr;
 
@@ -69,11 +69,11 @@ impl<'a> Lines<'a> {
 pub struct Words {
     pub verb: Verb,
     pub label: Option<Label>,
-    pub number: Option<u64>,
+    pub numbers: Numbers,
 }
 
 impl Words {
-    /// Reads a verb, then a label if there is one, then a number if there is one. Words are parted by single spaces.
+    /// Reads a verb, then a label if there is one, then at most two numbers. Words are parted by single spaces.
     pub fn read(line: &[u8]) -> Option<Words>
         ensures { MatchOption result (IsNotSpelled line.now) (IsSpelled line.now) }
     {
@@ -83,7 +83,7 @@ impl Words {
             return Some(Words {
                 verb,
                 label: None,
-                number: None,
+                numbers: Numbers::Absent,
             });
         };
         let (word, after) = split_at_first(rest, b' ');
@@ -91,20 +91,20 @@ impl Words {
             return Some(Words {
                 verb,
                 label: None,
-                number: Some(parse_number(rest)?),
+                numbers: Numbers::parse(rest)?,
             });
         };
-        let Some(numeral) = after else {
+        let Some(numerals) = after else {
             return Some(Words {
                 verb,
                 label: Some(label),
-                number: None,
+                numbers: Numbers::Absent,
             });
         };
         Some(Words {
             verb,
             label: Some(label),
-            number: Some(parse_number(numeral)?),
+            numbers: Numbers::parse(numerals)?,
         })
     }
 }

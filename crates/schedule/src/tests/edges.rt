@@ -73,6 +73,11 @@ event set set
 event 0
 events set
 hold event set
+timer 0
+timer 
+timers
+Timer
+hold timer
 latch
 set
 wakes";
@@ -107,7 +112,11 @@ send 5
 close
 lock a
 release 1
-check 1";
+check 1
+next
+deadline a 1
+delay a 1 1
+timer";
 
 #[test]
 fn bad_calls(rt: HostRuntime) -> Result<(), Fail> {
@@ -119,6 +128,8 @@ wait
 wait  a
 wait a 
 wait a b
+wait a 1
+wait a 1 1
 wait A
 wait aB
 wait 1
@@ -156,6 +167,7 @@ poll  w 1
 poll w  1
 poll w 1 
 poll w 1 1
+poll w 1 1 1
 poll w 00
 poll w 01
 poll w -1

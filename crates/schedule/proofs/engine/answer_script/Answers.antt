@@ -1,5 +1,5 @@
 use Rattle.std.specs.Prelude.{option_copied}
-use Rattle.schedule.specs.declared.named.Named.TheVariants.{Event, Oneshot, OneshotBroadcast, StateBroadcast}
+use Rattle.schedule.specs.declared.named.Named.TheVariants.{Event, Oneshot, OneshotBroadcast, StateBroadcast, Timer}
 use Rattle.schedule.proofs.Script.{script_answered, script_refused, refused_first}
 use Rattle.schedule.proofs.engine.answer_script.Goals as goal
 
@@ -70,6 +70,24 @@ returns-in-Some-StateBroadcast-clause-bad g c =
     c.answer_calls-in-Some-StateBroadcast.new.output StateBroadcast
     (rw c.in-Some-StateBroadcast.field-0-is at c.in-Some-StateBroadcast.ensures)
     c.answer_calls-in-Some-StateBroadcast.result c.answer_calls-in-Some-StateBroadcast.ensures.bad
+
+pub returns-in-Some-Timer-clause-answered : goal.returns-in-Some-Timer-clause-answered
+returns-in-Some-Timer-clause-answered g c =
+    script_answered g.W.Write.contents c.args.script.now c.split_at_first.result.0.now c.split_at_first-2.result.0.now
+    (option_copied c.after-lines.result.rest) (option_copied c.split_at_first-2.result.1)
+    (rw c.after-lines.ensures c.split_at_first.ensures) c.split_at_first-2.ensures c.args.output.now
+    c.answer_calls-in-Some-Timer.new.output Timer
+    (rw c.in-Some-Timer.field-0-is at c.in-Some-Timer.ensures)
+    c.answer_calls-in-Some-Timer.result c.answer_calls-in-Some-Timer.ensures.answered
+
+pub returns-in-Some-Timer-clause-bad : goal.returns-in-Some-Timer-clause-bad
+returns-in-Some-Timer-clause-bad g c =
+    script_refused g.W.Write.contents c.args.script.now c.split_at_first.result.0.now c.split_at_first-2.result.0.now
+    (option_copied c.after-lines.result.rest) (option_copied c.split_at_first-2.result.1)
+    (rw c.after-lines.ensures c.split_at_first.ensures) c.split_at_first-2.ensures c.args.output.now
+    c.answer_calls-in-Some-Timer.new.output Timer
+    (rw c.in-Some-Timer.field-0-is at c.in-Some-Timer.ensures)
+    c.answer_calls-in-Some-Timer.result c.answer_calls-in-Some-Timer.ensures.bad
 
 pub returns-in-None-clause-bad : goal.returns-in-None-clause-bad
 returns-in-None-clause-bad g c =

@@ -1,6 +1,7 @@
-use Rattle.std.specs.Prelude.{None, Some, option_copied}
-use Rattle.std.proofs.Common.{refl, arith, ap}
+use Rattle.std.specs.Prelude.{Some, option_copied}
+use Rattle.std.proofs.Common.{refl, ap}
 use Rattle.schedule.specs.Cuts.{IsCut}
+use Rattle.schedule.specs.declared.numbers.Numbers.TheVariants.{Absent}
 use Rattle.schedule.specs.Verbs.{verb_text}
 use Rattle.schedule.proofs.Reading.{cut_is, no_verb, no_plain, no_labelled, labelled_words}
 use Rattle.schedule.proofs.words.Words.read.Goals as goal
@@ -8,44 +9,42 @@ use Rattle.schedule.proofs.words.Words.read.Goals as goal
 pub returns-in_err-verb : goal.returns-in_err-verb
 returns-in_err-verb c = rw c.from_residual.ensures (no_verb _ _ _ c.split_at_first.ensures c.in_err-verb.ensures)
 
-pub returns-in_err-parse_number : goal.returns-in_err-parse_number
-returns-in_err-parse_number c =
+pub returns-in_err-parse : goal.returns-in_err-parse
+returns-in_err-parse c =
     let cut : IsCut 32 c.args.line.now (verb_text c.in_ok-verb.verb) (Some c.in-Some.rest.now) = cut_is _ _ _ _ _
     c.split_at_first.ensures c.in_ok-verb.ensures (ap option_copied c.in-Some.is) in
-    rw c.from_residual-in_err-parse_number.ensures
-    (no_plain _ _ _ _ _ cut c.split_at_first-2.ensures c.in_default-parse.ensures.label
-    (λ n fits. c.in_err-parse_number.ensures n (omega (arith, fits))))
+    rw c.from_residual-in_err-parse.ensures
+    (no_plain _ _ _ _ _ cut c.split_at_first-2.ensures c.in_default-parse.ensures.label c.in_err-parse.ensures)
 
 pub returns-in_default-after : goal.returns-in_default-after
 returns-in_default-after c =
     let cut : IsCut 32 c.args.line.now (verb_text c.in_ok-verb.verb) (Some c.in-Some.rest.now) = cut_is _ _ _ _ _
     c.split_at_first.ensures c.in_ok-verb.ensures (ap option_copied c.in-Some.is) in (
       Some c.split_at_first-2.result.0.now,
-      labelled_words _ _ _ _ _ None cut c.split_at_first-2.ensures
+      labelled_words _ _ _ _ _ Absent cut c.split_at_first-2.ensures
           c.in-Some-parse.ensures.label.0 (ap option_copied c.in_default-after.is) tt,
       c.in-Some-parse.ensures.label,
     )
 
-pub returns-in_err-parse_number-2 : goal.returns-in_err-parse_number-2
-returns-in_err-parse_number-2 c =
+pub returns-in_err-parse-2 : goal.returns-in_err-parse-2
+returns-in_err-parse-2 c =
     let cut : IsCut 32 c.args.line.now (verb_text c.in_ok-verb.verb) (Some c.in-Some.rest.now) = cut_is _ _ _ _ _
     c.split_at_first.ensures c.in_ok-verb.ensures (ap option_copied c.in-Some.is) in
     let cut' : IsCut 32 c.in-Some.rest.now c.split_at_first-2.result.0.now
-    (Some c.in-Some-after.numeral.now) = cut_is _ _ _ _ _ c.split_at_first-2.ensures refl
+    (Some c.in-Some-after.numerals.now) = cut_is _ _ _ _ _ c.split_at_first-2.ensures refl
     (ap option_copied c.in-Some-after.is) in
-    rw c.from_residual-in_err-parse_number-2.ensures
-    (no_labelled _ _ _ _ _ cut cut' c.in-Some-parse.ensures.label.0
-    (λ n fits. c.in_err-parse_number-2.ensures n (omega (arith, fits))))
+    rw c.from_residual-in_err-parse-2.ensures
+    (no_labelled _ _ _ _ _ cut cut' c.in-Some-parse.ensures.label.0 c.in_err-parse-2.ensures)
 
 pub returns : goal.returns
 returns c =
     let cut : IsCut 32 c.args.line.now (verb_text c.in_ok-verb.verb) (Some c.in-Some.rest.now) = cut_is _ _ _ _ _
     c.split_at_first.ensures c.in_ok-verb.ensures (ap option_copied c.in-Some.is) in
     let cut' : IsCut 32 c.in-Some.rest.now c.split_at_first-2.result.0.now
-    (Some c.in-Some-after.numeral.now) = cut_is _ _ _ _ _ c.split_at_first-2.ensures refl
+    (Some c.in-Some-after.numerals.now) = cut_is _ _ _ _ _ c.split_at_first-2.ensures refl
     (ap option_copied c.in-Some-after.is) in (
       Some c.split_at_first-2.result.0.now,
-      labelled_words _ _ _ _ _ (Some c.in_ok-parse_number-2.field-0) cut cut' c.in-Some-parse.ensures.label.0
-          (ap (λ w. Some w) c.in_ok-parse_number-2.ensures) (omega arith),
+      labelled_words _ _ _ _ _ c.in_ok-parse-2.field-0 cut cut' c.in-Some-parse.ensures.label.0
+          c.in_ok-parse-2.ensures.1 c.in_ok-parse-2.ensures.0,
       c.in-Some-parse.ensures.label,
     )

@@ -1,0 +1,29 @@
+//! The numbers of a line.
+ghost use Rattle.std.specs.Prelude.{◌≡◌, Some, MatchOption};
+ghost use Rattle.schedule.specs.Lines.{numerals, Fit};
+ghost use Rattle.schedule.specs.Spelled.{IsNoNumerals};
+
+use crate::number::parse_number;
+use crate::words::split_at_first;
+
+/// The numbers that end a line, at most two.
+#[derive(Clone, Copy, Debug, PartialEq, Eq)]
+pub enum Numbers {
+    Absent,
+    One(u64),
+    Two(u64, u64),
+}
+
+impl Numbers {
+    /// The numbers, one or two with a space between them, that a text spells, if it spells such.
+    pub fn parse(text: &[u8]) -> Option<Numbers>
+        ensures { MatchOption result (IsNoNumerals text.now)
+            (λ numbers. Fit numbers × (Some text.now ≡ numerals numbers)) }
+    {
+        if let Some(number) = parse_number(text) {
+            return Some(Numbers::One(number));
+        }
+        let (first, second) = split_at_first(text, b' ');
+        Some(Numbers::Two(parse_number(first)?, parse_number(second?)?))
+    }
+}

@@ -1,0 +1,56 @@
+//! Script lines of the timer.
+ghost use Rattle.std.specs.Prelude.{◌≡◌, ◌*◌};
+ghost use Rattle.std.specs.Duration.{as_nanos};
+ghost use Rattle.schedule.specs.Tables.{of_millis};
+
+use crate::numbers::Numbers;
+use crate::row::Row;
+use crate::scripted::{Scripted, opening_without_words};
+use crate::verb::Verb;
+use fi_locks::TimerState;
+use fi_run::TimerCall;
+use std::time::Duration;
+
+impl Scripted for TimerState<u64> {
+    ghost use Rattle.fi_run.specs.declared.timer.TimerCall.TheVariants.{NextWake};
+    ghost use Rattle.schedule.specs.Tables.{timer_language};
+    ghost use Rattle.schedule.specs.Oldest.{timer_takes, timer_hides};
+
+    ghost language = { timer_language };
+
+    ghost take_waker = { NextWake };
+
+    ghost takes_oldest = { timer_takes };
+
+    ghost hides = { timer_hides };
+
+    fn opening(words: Option<&[u8]>) -> Option<()> {
+        opening_without_words(words)
+    }
+
+    fn call(row: Row) -> Option<TimerCall<u64>> {
+        match row {
+            Row::Make(Verb::Deadline, Numbers::One(expiry)) => Some(TimerCall::Deadline(expiry)),
+            Row::Make(Verb::Delay, Numbers::Two(now, millis)) => {
+                Some(TimerCall::Delay(now, delay_of(millis)))
+            }
+            Row::Poll(slot, Numbers::Two(now, waker)) => Some(TimerCall::Poll(slot, now, waker)),
+            Row::Cancel(slot, Numbers::Absent) => Some(TimerCall::Cancel(slot)),
+            Row::Plain(Verb::Check, Numbers::One(now)) => Some(TimerCall::Check(now)),
+            Row::Plain(Verb::Next, Numbers::Absent) => Some(TimerCall::Next),
+            _ => None,
+        }
+    }
+
+    fn next_wake() -> TimerCall<u64> {
+        TimerCall::NextWake
+    }
+}
+
+/// A delay of this many milliseconds.
+fn delay_of(millis: u64) -> Duration
+    ensures value { result ≡ of_millis millis }
+    ensures length { as_nanos result ≡ millis * 1_000_000 }
+{
+    Duration::from_millis(millis)
+}
