@@ -4,11 +4,11 @@ use base.Shift.{Keyless}
 use mir.Raw.{raw as bare}
 use mir.Syntax.{Ty}
 use denote.RattleType.{RattleType}
-use denote.Memory.{lone}
+use denote.Memory.{lone, part_of, raw_all}
 use denote.RawPtr.{Ptr, block_ptr, null_ptr, room_for}
 use denote.Struct.Struct.{exits_of}
 use denote.Struct.Owning.{shape, fields, to}
-use denote.Param.Send.{IsSend, IsSync, Common, AllSend, owning_send, struct_send, struct_sync, sendable}
+use denote.Param.Send.{IsSend, IsSync, Common, AllSend, cell_keyless, owning_send, struct_send, struct_sync, sendable}
 use Rattle.std_alloc.proofs.SendSync.{FreesAnywhere, quiet, lies, seen}
 use Rattle.std.proofs.Crossing.{frees}
 use Rattle.fi_parts.proofs.blocks.block.Block.TheSendSync.{the_send, the_sync}
@@ -53,17 +53,13 @@ module _ (T A : RattleType) (g : Ghosts A.Denot) where
       owning_send O all (λ d. (room (bare (lone T.mir)) d.ptr, frees.frees d.alloc (bare (lone T.mir)) d.ptr))
       (λ k. quiet (to O) (exits_of k (fields O)) ((struct_send (shape O) all).leaving k))
 
-  room_sync : IsSync A → IsSync Room
-  room_sync syncs = let O = vacant.the_type T A g in record {
-    shared = λ d b o κ. ((struct_sync (shape O) (search sendable, (syncs, tt))).shared (to O d) b o κ);
-  }
-
   pub Vacancy-send : IsSend A → FreesAnywhere A.Denot g → IsSend (vacancy.the_row T A g)
   Vacancy-send sends frees =
       let O = vacancy.the_type T A g in let all : AllSend (fields O) = (room_send sends frees, tt) in
       owning_send O all (λ d. tt) (λ k. quiet (to O) (exits_of k (fields O)) ((struct_send (shape O) all).leaving k))
 
-  pub Vacancy-sync : IsSync A → IsSync (vacancy.the_row T A g)
-  Vacancy-sync syncs = let O = vacancy.the_type T A g in record {
-    shared = λ d b o κ. ((struct_sync (shape O) (room_sync syncs, tt)).shared (to O d) b o κ);
+  pub Vacancy-sync : IsSend A → FreesAnywhere A.Denot g → IsSync (vacancy.the_row T A g)
+  unfolding part_of
+  Vacancy-sync sends frees = record {
+    shared = λ d b o κ. λ q vs. (cell_keyless q (raw_all (vacancy.the_row T A g).mir) vs b o, (Vacancy-send sends frees).owned d vs);
   }

@@ -19,7 +19,7 @@ impl<T, A: Allocator> Model for Vacancy<T, A> {
 
 unsafe impl<T: Send, A: Allocator + Send> Send for Vacancy<T, A> {}
 
-unsafe impl<T: Sync, A: Allocator + Sync> Sync for Vacancy<T, A> {}
+unsafe impl<T, A: Allocator + Send> Sync for Vacancy<T, A> {}
 
 impl<T, A: Allocator> Vacancy<T, A> {
     /// This memory, as a value that may be let go.
