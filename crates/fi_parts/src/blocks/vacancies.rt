@@ -7,6 +7,8 @@ use std::marker::{Model, Send, Sync};
 use std_alloc::room::Vacant;
 
 /// Memory for one value. Its drop gives it back.
+///
+/// What it `also_owns` is nothing: it says so because only then laws of its own are read on whether it may cross threads.
 pub struct Vacancy<T, A: Allocator> {
     pub(crate) room: Vacant<T, A>,
 }
