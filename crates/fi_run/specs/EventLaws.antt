@@ -19,6 +19,7 @@ use Rattle.fi_run.specs.declared.answer.Answer.{Answer}
 use Rattle.fi_run.specs.declared.answer.Answer.TheVariants.{Made, Pending, Ready, Done, Flag, Woken, Refused}
 use Rattle.fi_run.specs.declared.event.EventCall.{EventCall}
 use Rattle.fi_run.specs.declared.event.EventCall.TheVariants.{Wait, Poll, Cancel, Set, Reset, IsSet, NextWake}
+use Rattle.fi_run.specs.Outgoing.{TakesOldest, machine_outgoing, pops_oldest}
 use Rattle.fi_run.specs.WakerEffects.{on_wakers}
 use Rattle.fi_run.specs.Event.{Opens, Step}
 use Rattle.fi_run.specs.EventHistory.{subject, flag_step, first_seen, set_from_then, seen_by, seen_step, was_set_since_first_poll}
@@ -195,3 +196,9 @@ module _ {W : Type 0} where
         wakers = line_keeps_wakers rules (λ entry. on_wakers (subject entry.0) entry.1) first.waiting history (call, answer) old new sound
             (is_line old call answer new did) was.wakers;
       }
+
+pub event_takes_oldest : {W : Type 0} (old : EventMachine W) (answer : Answer ℕ W) (new : EventMachine W)
+    → Step old NextWake answer new → TakesOldest machine_outgoing (λ waker. Woken waker) old answer new
+event_takes_oldest old (Woken waker) new did = pops_oldest (λ found. Woken found) old waker new did
+event_takes_oldest old (Refused fault) new did = absurd did.0
+event_takes_oldest old answer new did = absurd did

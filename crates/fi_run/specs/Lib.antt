@@ -1,5 +1,6 @@
 pub mod Run
 pub mod WakerEffects
+pub mod Outgoing
 pub mod Event
 pub mod EventHistory
 pub mod EventLaws

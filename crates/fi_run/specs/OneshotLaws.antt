@@ -26,6 +26,7 @@ use Rattle.fi_run.specs.declared.answer.Answer.{Answer}
 use Rattle.fi_run.specs.declared.answer.Answer.TheVariants.{Made, Pending, Item, Nothing, Done, Newly, Already, Woken, Back, Refused}
 use Rattle.fi_run.specs.declared.oneshot.OneshotCall.{OneshotCall}
 use Rattle.fi_run.specs.declared.oneshot.OneshotCall.TheVariants.{Receive, Poll, Cancel, Send, Close, NextWake}
+use Rattle.fi_run.specs.Outgoing.{TakesOldest, machine_outgoing, pops_oldest}
 use Rattle.fi_run.specs.WakerEffects.{on_wakers}
 use Rattle.fi_run.specs.Oneshot.{Step, Opens}
 use Rattle.fi_run.specs.OneshotHistory.{subject, accepted, received, new_closes, Fits, ContentFits, GivesOnce, IsSettledOnce}
@@ -264,3 +265,9 @@ module _ {T W : Type 0} where
     | inl closed ↦ inl closed.1
     | inr given ↦ inr (given.1.0, given.1.3, given.1.4 ∙ ap (λ (x : T). x ∷ []) given.1.2)
   ]
+
+pub oneshot_takes_oldest : {T W : Type 0} (giving : Giving T) (old : OneshotMachine T W) (answer : Answer T W) (new : OneshotMachine T W)
+    → Step giving old NextWake answer new → TakesOldest machine_outgoing (λ waker. Woken waker) old answer new
+oneshot_takes_oldest giving old (Woken waker) new did = pops_oldest (λ found. Woken found) old waker new did
+oneshot_takes_oldest giving old (Refused fault) new did = absurd did.0
+oneshot_takes_oldest giving old answer new did = absurd did

@@ -26,6 +26,7 @@ use Rattle.fi_run.specs.declared.answer.Answer.{Answer}
 use Rattle.fi_run.specs.declared.answer.Answer.TheVariants.{Made, Pending, State, Nothing, Done, Newly, Already, Woken, Back, Refused}
 use Rattle.fi_run.specs.declared.state.StateCall.{StateCall}
 use Rattle.fi_run.specs.declared.state.StateCall.TheVariants.{Receive, Poll, Cancel, TryReceive, Send, Close, NextWake}
+use Rattle.fi_run.specs.Outgoing.{TakesOldest, machine_outgoing, pops_oldest}
 use Rattle.fi_run.specs.WakerEffects.{on_wakers}
 use Rattle.fi_run.specs.State.{Step, Opens}
 use Rattle.fi_run.specs.StateHistory.{newest_after, IsCopyOf, OpenFits, sends_step, sends, asked_step, asked_by, IsNewest, GivesNewest}
@@ -323,3 +324,9 @@ module _ {T W : Type 0} (is_clone : T → T → Type 0) (is_infallible : T → T
             (call, answer) old new sound.waiters
             (is_line old call answer new sound.numbered did) was.wakers;
       }
+
+pub state_takes_oldest : {T W : Type 0} (is_clone : T → T → Type 0) (is_infallible : T → Type 0) (old : StateMachine T W) (answer : Answer T W) (new : StateMachine T W)
+    → Step is_clone is_infallible old NextWake answer new → TakesOldest machine_outgoing (λ waker. Woken waker) old answer new
+state_takes_oldest is_clone is_infallible old (Woken waker) new did = pops_oldest (λ found. Woken found) old waker new did
+state_takes_oldest is_clone is_infallible old (Refused fault) new did = absurd did.0
+state_takes_oldest is_clone is_infallible old answer new did = absurd did

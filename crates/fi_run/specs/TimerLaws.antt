@@ -25,6 +25,7 @@ use Rattle.fi_run.specs.declared.answer.Answer.{Answer}
 use Rattle.fi_run.specs.declared.answer.Answer.TheVariants.{Made, Pending, Ready, Done, Moment, Woken, Refused}
 use Rattle.fi_run.specs.declared.timer.TimerCall.{TimerCall}
 use Rattle.fi_run.specs.declared.timer.TimerCall.TheVariants.{Deadline, Delay, Poll, Cancel, Check, Next, NextWake}
+use Rattle.fi_run.specs.Outgoing.{TakesOldest, machine_outgoing, pops_oldest}
 use Rattle.fi_run.specs.WakerEffects.{on_wakers}
 use Rattle.fi_run.specs.Timer.{Opens, Step}
 use Rattle.fi_run.specs.TimerHistory.{first_polled, checked, moments_at_first, IsLater, moments_step, moments_since_first_poll}
@@ -250,3 +251,9 @@ module _ {W : Type 0} where
     wakers = line_keeps_wakers rules (λ entry. on_wakers (subject entry.0) entry.1) first.waiting history (call, answer) old new sound
         (is_line old call answer new did) was.wakers;
   }
+
+pub timer_takes_oldest : {W : Type 0} (old : TimerMachine W) (answer : Answer ℕ W) (new : TimerMachine W)
+    → Step old NextWake answer new → TakesOldest machine_outgoing (λ waker. Woken waker) old answer new
+timer_takes_oldest old (Woken waker) new did = pops_oldest (λ found. Woken found) old waker new did
+timer_takes_oldest old (Refused fault) new did = absurd did.0
+timer_takes_oldest old answer new did = absurd did

@@ -37,13 +37,18 @@ impl<W: Drop> Primitive for EventState<W> {
     ghost use Rattle.fi_channels.specs.Event.{IsSound, OwesNoWake};
     ghost use Rattle.fi_run.specs.Event.{Opens, Step};
     ghost use Rattle.fi_run.specs.EventHistory.{HistoryHolds};
-    ghost use Rattle.fi_run.specs.EventLaws.{event_starts, event_keeps, event_history_initial, event_history_preserved};
+    ghost use Rattle.fi_run.specs.declared.answer.Answer.TheVariants.{Woken};
+    ghost use Rattle.fi_run.specs.declared.event.EventCall.TheVariants.{NextWake};
+    ghost use Rattle.fi_run.specs.Outgoing.{machine_outgoing};
+    ghost use Rattle.fi_run.specs.EventLaws.{event_starts, event_keeps, event_takes_oldest, event_history_initial, event_history_preserved};
 
     type Opening = bool;
 
     type Call = EventCall<W>;
 
     type Answer = Answer<u64, W>;
+
+    type Waker = W;
 
     ghost step = { Step };
 
@@ -55,11 +60,19 @@ impl<W: Drop> Primitive for EventState<W> {
 
     ghost history_invariant = { HistoryHolds };
 
+    ghost outgoing = { machine_outgoing };
+
+    ghost take_waker = { NextWake };
+
+    ghost hands_out = { λ waker. Woken waker };
+
     ghost starts = { event_starts };
 
     ghost keeps = { event_keeps };
 
     ghost history_initial = { event_history_initial };
+
+    ghost takes_oldest = { event_takes_oldest };
 
     ghost history_preserved = { event_history_preserved };
 
@@ -107,6 +120,10 @@ impl<W: Drop> Primitive for EventState<W> {
             EventCall::IsSet => Answer::Flag(self.is_set()),
             EventCall::NextWake => Answer::Woken(self.next_wake()),
         }
+    }
+
+    fn next_wake_call() -> EventCall<W> {
+        EventCall::NextWake
     }
 
     fn show(&self) {

@@ -41,13 +41,18 @@ impl<T: Drop, W: Drop, G: GivesValue<T>> Primitive for OneValueState<T, W, G> {
     ghost use Rattle.fi_channels.specs.Oneshot.{IsSound, OwesNoWake};
     ghost use Rattle.fi_run.specs.Oneshot.{Opens, Step};
     ghost use Rattle.fi_run.specs.OneshotHistory.{HistoryHolds};
-    ghost use Rattle.fi_run.specs.OneshotLaws.{oneshot_starts, oneshot_keeps, oneshot_history_initial, oneshot_history_preserved};
+    ghost use Rattle.fi_run.specs.declared.answer.Answer.TheVariants.{Woken};
+    ghost use Rattle.fi_run.specs.declared.oneshot.OneshotCall.TheVariants.{NextWake};
+    ghost use Rattle.fi_run.specs.Outgoing.{machine_outgoing};
+    ghost use Rattle.fi_run.specs.OneshotLaws.{oneshot_starts, oneshot_keeps, oneshot_takes_oldest, oneshot_history_initial, oneshot_history_preserved};
 
     type Opening = ();
 
     type Call = OneshotCall<T, W>;
 
     type Answer = Answer<T, W>;
+
+    type Waker = W;
 
     ghost step = { Step G.giving };
 
@@ -59,11 +64,19 @@ impl<T: Drop, W: Drop, G: GivesValue<T>> Primitive for OneValueState<T, W, G> {
 
     ghost history_invariant = { HistoryHolds G.giving };
 
+    ghost outgoing = { machine_outgoing };
+
+    ghost take_waker = { NextWake };
+
+    ghost hands_out = { λ waker. Woken waker };
+
     ghost starts = { oneshot_starts };
 
     ghost keeps = { oneshot_keeps G.giving };
 
     ghost history_initial = { oneshot_history_initial G.giving };
+
+    ghost takes_oldest = { oneshot_takes_oldest G.giving };
 
     ghost history_preserved = { oneshot_history_preserved G.giving };
 
@@ -112,6 +125,10 @@ impl<T: Drop, W: Drop, G: GivesValue<T>> Primitive for OneValueState<T, W, G> {
             },
             OneshotCall::NextWake => Answer::Woken(self.next_wake()),
         }
+    }
+
+    fn next_wake_call() -> OneshotCall<T, W> {
+        OneshotCall::NextWake
     }
 
     fn show(&self) {

@@ -1,5 +1,6 @@
 //! Primitives, and runs of them.
-ghost use Rattle.std.specs.Prelude.{◌≡◌, ◌≤◌, List, [], ◌∷◌, IfOk, IfErr, OnOk, OnErr, vec_len, vec_capacity};
+ghost use Rattle.std.specs.Prelude.{◌≡◌, ◌≤◌, List, [], ◌∷◌, Option, IfOk, IfErr, OnOk, OnErr, vec_len, vec_capacity};
+ghost use Rattle.fi_run.specs.Outgoing.{Outgoing, TakesOldest};
 ghost use Rattle.fi_run.specs.Run.{AfterEveryRun, Answers, AnswersFront};
 
 use fi_parts::Fault;
@@ -9,13 +10,17 @@ use std::alloc::Global;
 ///
 /// Its ghost members say what it means: which answers a call may have and what it leaves (`step`), which states an opening
 /// makes (`opens`), what holds of every state (`is_sound`, `owes_no_wake`), and what holds of a first state, the calls and
-/// answers since, and the state now (`history_invariant`). Its laws: initial states satisfy these, and steps preserve them.
+/// answers since, and the state now (`history_invariant`); which wakers a state has to hand out (`outgoing`), and which call takes
+/// out the oldest (`take_waker`). Its laws: initial states satisfy the invariants, steps preserve them, and that call takes out the
+/// oldest waker and changes nothing else.
 pub trait Primitive {
     type Opening: Drop;
 
     type Call: Drop;
 
     type Answer: Drop;
+
+    type Waker: Drop;
 
     /// The machine may give this answer to the call and go on from old to new.
     ghost step: { Self → Self.Call → Self.Answer → Self → Type 0 };
@@ -32,6 +37,15 @@ pub trait Primitive {
     /// What holds of a first state, the history since (its newest entry first), and the state now.
     ghost history_invariant: { Self → List (Self.Call × Self.Answer) → Self → Type 0 };
 
+    /// The wakers that a state has to hand out.
+    ghost outgoing: { Outgoing Self Self.Waker };
+
+    /// The call that takes out the oldest waker.
+    ghost take_waker: { Self.Call };
+
+    /// The answer that hands out a waker, or says that there is none.
+    ghost hands_out: { Option Self.Waker → Self.Answer };
+
     /// Makes the opening's state. Refused only with `NoMemory`.
     fn open(alloc: Global, opening: Self::Opening) -> Result<Self, Fault>
         ensures opened { IfOk result (λ state. opens opening state) }
@@ -40,6 +54,10 @@ pub trait Primitive {
     /// Makes one call. It is total: what may not be called is answered by a refusal that changes nothing.
     fn apply(&mut self, call: Self::Call) -> Self::Answer
         ensures { step self.old call result self.new };
+
+    /// The call that takes out the oldest waker.
+    fn next_wake_call() -> Self::Call
+        ensures { result ≡ take_waker };
 
     /// For proofs: every value has these.
     fn show(&self)
@@ -55,6 +73,10 @@ pub trait Primitive {
     /// Steps preserve the invariants.
     ghost keeps: { (old : Self) (call : Self.Call) (answer : Self.Answer) (new : Self) →
         is_sound old → owes_no_wake old → step old call answer new → is_sound new × owes_no_wake new };
+
+    /// The call for the oldest waker hands it out, and changes nothing else.
+    ghost takes_oldest: { (old : Self) (answer : Self.Answer) (new : Self) → step old take_waker answer new →
+        TakesOldest outgoing hands_out old answer new };
 
     /// Steps preserve the history's invariant.
     ghost history_preserved: { (first : Self) (history : List (Self.Call × Self.Answer)) (old : Self) (call : Self.Call) (answer : Self.Answer) (new : Self) →

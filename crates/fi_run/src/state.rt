@@ -38,13 +38,18 @@ impl<T: Clone, W: Drop> Primitive for StateBroadcastState<T, W> {
     ghost use Rattle.fi_channels.specs.StateBroadcast.{IsSound, OwesNoWake};
     ghost use Rattle.fi_run.specs.State.{Opens, Step};
     ghost use Rattle.fi_run.specs.StateHistory.{HistoryHolds};
-    ghost use Rattle.fi_run.specs.StateLaws.{state_starts, state_keeps, state_history_initial, state_history_preserved};
+    ghost use Rattle.fi_run.specs.declared.answer.Answer.TheVariants.{Woken};
+    ghost use Rattle.fi_run.specs.declared.state.StateCall.TheVariants.{NextWake};
+    ghost use Rattle.fi_run.specs.Outgoing.{machine_outgoing};
+    ghost use Rattle.fi_run.specs.StateLaws.{state_starts, state_keeps, state_takes_oldest, state_history_initial, state_history_preserved};
 
     type Opening = ();
 
     type Call = StateCall<T, W>;
 
     type Answer = Answer<T, W>;
+
+    type Waker = W;
 
     ghost step = { Step T.is_clone T.is_infallible };
 
@@ -56,11 +61,19 @@ impl<T: Clone, W: Drop> Primitive for StateBroadcastState<T, W> {
 
     ghost history_invariant = { HistoryHolds T.is_clone };
 
+    ghost outgoing = { machine_outgoing };
+
+    ghost take_waker = { NextWake };
+
+    ghost hands_out = { λ waker. Woken waker };
+
     ghost starts = { state_starts T.is_clone T.is_infallible };
 
     ghost keeps = { state_keeps T.is_clone T.is_infallible };
 
     ghost history_initial = { state_history_initial T.is_clone T.is_infallible };
+
+    ghost takes_oldest = { state_takes_oldest T.is_clone T.is_infallible };
 
     ghost history_preserved = { state_history_preserved T.is_clone T.is_infallible };
 
@@ -108,6 +121,10 @@ impl<T: Clone, W: Drop> Primitive for StateBroadcastState<T, W> {
             },
             StateCall::NextWake => Answer::Woken(self.next_wake()),
         }
+    }
+
+    fn next_wake_call() -> StateCall<T, W> {
+        StateCall::NextWake
     }
 
     fn show(&self) {

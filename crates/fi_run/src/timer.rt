@@ -38,13 +38,18 @@ impl<W: Drop> Primitive for TimerState<W> {
     ghost use Rattle.fi_locks.specs.Timer.{IsSound, OwesNoWake};
     ghost use Rattle.fi_run.specs.Timer.{Opens, Step};
     ghost use Rattle.fi_run.specs.TimerHistory.{HistoryHolds};
-    ghost use Rattle.fi_run.specs.TimerLaws.{timer_starts, timer_keeps, timer_history_initial, timer_history_preserved};
+    ghost use Rattle.fi_run.specs.declared.answer.Answer.TheVariants.{Woken};
+    ghost use Rattle.fi_run.specs.declared.timer.TimerCall.TheVariants.{NextWake};
+    ghost use Rattle.fi_run.specs.Outgoing.{machine_outgoing};
+    ghost use Rattle.fi_run.specs.TimerLaws.{timer_starts, timer_keeps, timer_takes_oldest, timer_history_initial, timer_history_preserved};
 
     type Opening = ();
 
     type Call = TimerCall<W>;
 
     type Answer = Answer<u64, W>;
+
+    type Waker = W;
 
     ghost step = { Step };
 
@@ -56,11 +61,19 @@ impl<W: Drop> Primitive for TimerState<W> {
 
     ghost history_invariant = { HistoryHolds };
 
+    ghost outgoing = { machine_outgoing };
+
+    ghost take_waker = { NextWake };
+
+    ghost hands_out = { λ waker. Woken waker };
+
     ghost starts = { timer_starts };
 
     ghost keeps = { timer_keeps };
 
     ghost history_initial = { timer_history_initial };
+
+    ghost takes_oldest = { timer_takes_oldest };
 
     ghost history_preserved = { timer_history_preserved };
 
@@ -109,6 +122,10 @@ impl<W: Drop> Primitive for TimerState<W> {
             TimerCall::Next => Answer::Moment(self.next_expiration()),
             TimerCall::NextWake => Answer::Woken(self.next_wake()),
         }
+    }
+
+    fn next_wake_call() -> TimerCall<W> {
+        TimerCall::NextWake
     }
 
     fn show(&self) {

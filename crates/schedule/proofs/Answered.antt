@@ -56,9 +56,9 @@ module _ {S O C : Type 0} (primitive : Spoken S O C) where
 
   pub told_answer : (line text : List ℕ) (holds : Bool) (labels after then : Labels) (old called new : S)
       (answer : Answer ℕ ℕ) → Calls primitive line holds labels old answer after called
-      → holds ≡ false → then ≡ after → primitive.language.owed new ≡ []
-      → primitive.language.without_wakers new ≡ primitive.language.without_wakers called
-      → line_text (answer_text answer) (wakes_text true (primitive.language.owed called)) ≡ Some text
+      → holds ≡ false → then ≡ after → primitive.outgoing.wakers new ≡ []
+      → primitive.outgoing.without_wakers new ≡ primitive.outgoing.without_wakers called
+      → line_text (answer_text answer) (wakes_text true (primitive.outgoing.wakers called)) ≡ Some text
       → AnswersLine primitive line labels old then new text
   told_answer line text holds labels after then old called new answer calls is same emptied rest told = record {
     holds = holds;

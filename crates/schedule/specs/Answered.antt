@@ -44,9 +44,9 @@ module _ {S O C : Type 0} (primitive : Spoken S O C) where
   abbrev pub TellsWakers : Bool → S → Answer ℕ ℕ → S → List ℕ → Type 0
   TellsWakers true called answer new text = (new ≡ called) × (line_text (answer_text answer) [] ≡ Some text)
   TellsWakers false called answer new text =
-      (primitive.language.owed new ≡ [])
-      × (primitive.language.without_wakers new ≡ primitive.language.without_wakers called)
-      × (line_text (answer_text answer) (wakes_text true (primitive.language.owed called)) ≡ Some text)
+      (primitive.outgoing.wakers new ≡ [])
+      × (primitive.outgoing.without_wakers new ≡ primitive.outgoing.without_wakers called)
+      × (line_text (answer_text answer) (wakes_text true (primitive.outgoing.wakers called)) ≡ Some text)
 
   pub record AnswersLine (line : List ℕ) (labels : Labels) (old : S) (after : Labels) (new : S) (text : List ℕ) : Type 0
     where

@@ -3,12 +3,12 @@ pub mod Asked
 pub mod Begun
 pub mod Cuts
 pub mod Ended
+pub mod Hidden
 pub mod InUse
 pub mod Labels
 pub mod Language
 pub mod Lines
 pub mod Names
-pub mod Oldest
 pub mod Outputs
 pub mod Script
 pub mod Spelled

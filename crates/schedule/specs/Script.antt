@@ -7,6 +7,7 @@ use Rattle.fi_channels.specs.StateBroadcast.{StateMachine}
 use Rattle.fi_locks.specs.Timer.{TimerMachine}
 use Rattle.fi_run.specs.Event as event
 use Rattle.fi_run.specs.Oneshot as oneshot
+use Rattle.fi_run.specs.Outgoing.{machine_outgoing}
 use Rattle.fi_run.specs.State as state
 use Rattle.fi_run.specs.Timer as timer
 use Rattle.fi_run.specs.declared.event.EventCall.{EventCall}
@@ -22,20 +23,28 @@ use Rattle.schedule.specs.Answered.{AnswersRest, AnswersFront}
 use Rattle.schedule.specs.Cuts.{IsCut}
 use Rattle.schedule.specs.Language.{Spoken, spoken}
 use Rattle.schedule.specs.Lines.{joined}
-use Rattle.schedule.specs.Oldest.{is_same, never_fails}
 use Rattle.schedule.specs.Tables.{event_language, oneshot_language, state_language, timer_language}
+
+-- a number's clone is the number, and can't fail
+abbrev pub is_same : ℕ → ℕ → Type 0
+is_same value copy = copy ≡ value
+
+abbrev pub never_fails : ℕ → Type 0
+never_fails value = ⊤
 
 -- This holds of the primitive of this name.
 abbrev pub OfPrimitive : Named → ((S O C : Type 0) → Spoken S O C → Type 0) → Type 0
-OfPrimitive Event P = P (EventMachine ℕ) Bool (EventCall ℕ) (spoken event.Opens event.Step event_language)
+OfPrimitive Event P = P (EventMachine ℕ) Bool (EventCall ℕ) (spoken event.Opens event.Step machine_outgoing event_language)
 OfPrimitive Oneshot P =
-    P (OneshotMachine ℕ ℕ) (Unit {0}) (OneshotCall ℕ ℕ) (spoken oneshot.Opens (oneshot.Step taking) oneshot_language)
+    P (OneshotMachine ℕ ℕ) (Unit {0}) (OneshotCall ℕ ℕ)
+    (spoken oneshot.Opens (oneshot.Step taking) machine_outgoing oneshot_language)
 OfPrimitive OneshotBroadcast P =
     P (OneshotMachine ℕ ℕ) (Unit {0}) (OneshotCall ℕ ℕ) (spoken oneshot.Opens
-    (oneshot.Step (cloning is_same never_fails)) oneshot_language)
+    (oneshot.Step (cloning is_same never_fails)) machine_outgoing oneshot_language)
 OfPrimitive StateBroadcast P =
-    P (StateMachine ℕ ℕ) (Unit {0}) (StateCall ℕ ℕ) (spoken state.Opens (state.Step is_same never_fails) state_language)
-OfPrimitive Timer P = P (TimerMachine ℕ) (Unit {0}) (TimerCall ℕ) (spoken timer.Opens timer.Step timer_language)
+    P (StateMachine ℕ ℕ) (Unit {0}) (StateCall ℕ ℕ)
+    (spoken state.Opens (state.Step is_same never_fails) machine_outgoing state_language)
+OfPrimitive Timer P = P (TimerMachine ℕ) (Unit {0}) (TimerCall ℕ) (spoken timer.Opens timer.Step machine_outgoing timer_language)
 
 -- The first line is the primitive's name, and what stands after it for the opening.
 abbrev pub IsFirst : {S O C : Type 0} → Named → Spoken S O C → List ℕ → O → Type 0

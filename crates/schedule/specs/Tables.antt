@@ -1,19 +1,15 @@
 -- The lines of each primitive, and the calls that they ask for.
 use Rattle.std.specs.Prelude.{ℕ, ◌*◌, ◌/◌, ◌%◌, Bool, true, false, List, Option, None, Some, codes}
 use Rattle.std.specs.declared.time.Duration.{Duration}
-use Rattle.fi_channels.specs.Event.{EventMachine}
-use Rattle.fi_channels.specs.Oneshot.{OneshotMachine}
-use Rattle.fi_channels.specs.StateBroadcast.{StateMachine}
 use Rattle.fi_run.specs.declared.event.EventCall.{EventCall}
 use Rattle.fi_run.specs.declared.event.EventCall.TheVariants as event
 use Rattle.fi_run.specs.declared.oneshot.OneshotCall.{OneshotCall}
 use Rattle.fi_run.specs.declared.oneshot.OneshotCall.TheVariants as oneshot
 use Rattle.fi_run.specs.declared.state.StateCall.{StateCall}
 use Rattle.fi_run.specs.declared.state.StateCall.TheVariants as state
-use Rattle.fi_locks.specs.Timer.{TimerMachine}
 use Rattle.fi_run.specs.declared.timer.TimerCall.{TimerCall}
 use Rattle.fi_run.specs.declared.timer.TimerCall.TheVariants as timer
-use Rattle.schedule.specs.Language.{Language, machine_language}
+use Rattle.schedule.specs.Language.{Language}
 use Rattle.schedule.specs.declared.numbers.Numbers.TheVariants.{Absent, One, Two}
 use Rattle.schedule.specs.declared.row.Row.{Row}
 use Rattle.schedule.specs.declared.row.Row.TheVariants.{Plain, Make, Poll, Cancel}
@@ -33,8 +29,8 @@ event_call (Plain verb.Reset Absent) = Some event.Reset
 event_call (Plain verb.IsSet Absent) = Some event.IsSet
 event_call row = None
 
-abbrev pub event_language : Language (EventMachine ℕ) Bool (EventCall ℕ)
-event_language = machine_language event_opening event_call
+abbrev pub event_language : Language Bool (EventCall ℕ)
+event_language = record { opening_text = event_opening; call_of = event_call }
 
 -- ---- the channels and the timer, whose openings are one
 abbrev pub only_opening : Unit {0} → Option (List ℕ)
@@ -49,8 +45,8 @@ oneshot_call (Plain verb.Send (One value)) = Some (oneshot.Send value)
 oneshot_call (Plain verb.Close Absent) = Some oneshot.Close
 oneshot_call row = None
 
-abbrev pub oneshot_language : Language (OneshotMachine ℕ ℕ) (Unit {0}) (OneshotCall ℕ ℕ)
-oneshot_language = machine_language only_opening oneshot_call
+abbrev pub oneshot_language : Language (Unit {0}) (OneshotCall ℕ ℕ)
+oneshot_language = record { opening_text = only_opening; call_of = oneshot_call }
 
 -- ---- the state broadcast
 abbrev pub state_call : Row → Option (StateCall ℕ ℕ)
@@ -62,8 +58,8 @@ state_call (Plain verb.Send (One value)) = Some (state.Send value)
 state_call (Plain verb.Close Absent) = Some state.Close
 state_call row = None
 
-abbrev pub state_language : Language (StateMachine ℕ ℕ) (Unit {0}) (StateCall ℕ ℕ)
-state_language = machine_language only_opening state_call
+abbrev pub state_language : Language (Unit {0}) (StateCall ℕ ℕ)
+state_language = record { opening_text = only_opening; call_of = state_call }
 
 -- ---- the timer
 -- A delay of this many milliseconds, in seconds and nanoseconds. Its length is in the contract of `delay_of`.
@@ -79,5 +75,5 @@ timer_call (Plain verb.Check (One now)) = Some (timer.Check now)
 timer_call (Plain verb.Next Absent) = Some timer.Next
 timer_call row = None
 
-abbrev pub timer_language : Language (TimerMachine ℕ) (Unit {0}) (TimerCall ℕ)
-timer_language = machine_language only_opening timer_call
+abbrev pub timer_language : Language (Unit {0}) (TimerCall ℕ)
+timer_language = record { opening_text = only_opening; call_of = timer_call }

@@ -2,7 +2,8 @@
 ghost use Rattle.std.specs.Prelude.{◌≡◌, ℕ, List, [], Option, Some, true, OnOk, OnErr, IfOk, IfErr, MatchOption, drop, option_copied};
 ghost use Rattle.schedule.specs.Answered.{AnswersLine, AnswersRest, AnswersFront, RefusesLine, IfBad};
 ghost use Rattle.schedule.specs.Asked.{Requests, Asks, Performs};
-ghost use Rattle.schedule.specs.Language.{spoken, first_of};
+ghost use Rattle.fi_parts.specs.Order.{head_or};
+ghost use Rattle.schedule.specs.Language.{spoken};
 ghost use Rattle.schedule.specs.Lines.{IsNoCall, IsBad, LabelsAfter, row_of};
 ghost use Rattle.schedule.specs.Script.{AnswersScript, RefusesScript, Turns, IfFault};
 ghost use Rattle.schedule.specs.Spelled.{IsLabelOf};
@@ -102,12 +103,12 @@ fn answer_calls<P: Scripted, W: Write>(
     output: &mut Output<'_, W>,
 ) -> Result<(), ScriptFault>
     ensures answered { OnOk result (Tells W.contents output.old output.new
-        (AnswersRest (spoken P.opens P.step P.Scripted.language)
+        (AnswersRest (spoken P.opens P.step P.outgoing P.Scripted.language)
         (λ opening. option_copied words.entry ≡ P.Scripted.language.opening_text opening)
         (lines_left lines.entry))) }
     ensures bad { IfErr result (IfBad (λ number.
         Tells W.contents output.old output.new (RefusesLine
-        (spoken P.opens P.step P.Scripted.language)
+        (spoken P.opens P.step P.outgoing P.Scripted.language)
         (λ opening. option_copied words.entry ≡ P.Scripted.language.opening_text opening)
         (lines_left lines.entry) number))) }
     ensures same_writer { SameWriter output.old output.new }
@@ -126,11 +127,11 @@ fn answer_lines<P: Scripted, W: Write>(
     output: &mut Output<'_, W>,
 ) -> Result<(), ScriptFault>
     ensures answered { OnOk result (Tells W.contents output.old output.new
-        (AnswersRest (spoken P.opens P.step P.Scripted.language) (λ asked. asked ≡ opening)
+        (AnswersRest (spoken P.opens P.step P.outgoing P.Scripted.language) (λ asked. asked ≡ opening)
         (lines_left lines.entry))) }
     ensures bad { IfErr result (IfBad (λ number.
         Tells W.contents output.old output.new (AnswersFront
-        (spoken P.opens P.step P.Scripted.language) (λ asked. asked ≡ opening)
+        (spoken P.opens P.step P.outgoing P.Scripted.language) (λ asked. asked ≡ opening)
         (lines_left lines.entry) number))) }
     ensures same_writer { SameWriter output.old output.new }
 {
@@ -173,7 +174,7 @@ impl<P: Scripted> Session<P> {
         output: &mut Output<'_, W>,
     ) -> Result<(), ScriptFault>
         ensures answered { OnOk result (Tells W.contents output.old output.new
-            (AnswersLine (spoken P.opens P.step P.Scripted.language) line.now
+            (AnswersLine (spoken P.opens P.step P.outgoing P.Scripted.language) line.now
             (labels_of self.old.futures) self.old.primitive (labels_of self.new.futures) self.new.primitive)) }
         // A bad line is told by its number; the session and the output stay as they were.
         ensures bad { IfErr result (IfBad (λ at. (at ≡ number)
@@ -284,14 +285,14 @@ impl<P: Scripted> Session<P> {
 
     /// Takes out the oldest waker, if there is one.
     fn take_waker(&mut self) -> Option<u64>
-        ensures waker { result ≡ first_of (P.Scripted.language.owed self.old.primitive) }
-        ensures taken { P.Scripted.language.owed self.new.primitive
-            ≡ drop 1 (P.Scripted.language.owed self.old.primitive) }
-        ensures rest { P.Scripted.language.without_wakers self.new.primitive
-            ≡ P.Scripted.language.without_wakers self.old.primitive }
+        ensures waker { result ≡ head_or (P.outgoing.wakers self.old.primitive) None }
+        ensures taken { P.outgoing.wakers self.new.primitive
+            ≡ drop 1 (P.outgoing.wakers self.old.primitive) }
+        ensures rest { P.outgoing.without_wakers self.new.primitive
+            ≡ P.outgoing.without_wakers self.old.primitive }
         ensures futures { self.new.futures ≡ self.old.futures }
     {
-        match self.primitive.apply(P::next_wake()) {
+        match self.primitive.apply(P::next_wake_call()) {
             Answer::Woken(waker) => waker,
             // The law of the call leaves no other answer.
             _ => None,
@@ -301,10 +302,10 @@ impl<P: Scripted> Session<P> {
     /// Takes out all wakers and writes them, oldest first.
     fn write_wakes<W: Write>(&mut self, output: &mut Output<'_, W>) -> Result<(), ScriptFault>
         ensures text { OnOk result (GoesOn W.contents output.old output.new
-            (Some (wakes_text true (P.Scripted.language.owed self.old.primitive)))) }
-        ensures emptied { OnOk result (P.Scripted.language.owed self.new.primitive ≡ []) }
-        ensures rest { OnOk result (P.Scripted.language.without_wakers self.new.primitive
-            ≡ P.Scripted.language.without_wakers self.old.primitive) }
+            (Some (wakes_text true (P.outgoing.wakers self.old.primitive)))) }
+        ensures emptied { OnOk result (P.outgoing.wakers self.new.primitive ≡ []) }
+        ensures rest { OnOk result (P.outgoing.without_wakers self.new.primitive
+            ≡ P.outgoing.without_wakers self.old.primitive) }
         ensures futures { self.new.futures ≡ self.old.futures }
         ensures fault { IfErr result IsOfOutput }
         ensures same_writer { SameWriter output.old output.new }

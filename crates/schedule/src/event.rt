@@ -8,15 +8,13 @@ use fi_channels::EventState;
 use fi_run::EventCall;
 
 impl Scripted for EventState<u64> {
-    ghost use Rattle.fi_run.specs.declared.event.EventCall.TheVariants.{NextWake};
+    ghost use Rattle.std.specs.Prelude.{refl};
     ghost use Rattle.schedule.specs.Tables.{event_language};
-    ghost use Rattle.schedule.specs.Oldest.{event_takes, event_hides};
+    ghost use Rattle.schedule.specs.Hidden.{event_hides};
 
     ghost language = { event_language };
 
-    ghost take_waker = { NextWake };
-
-    ghost takes_oldest = { event_takes };
+    ghost says_woken = { λ waker. refl };
 
     ghost hides = { event_hides };
 
@@ -38,9 +36,5 @@ impl Scripted for EventState<u64> {
             Row::Plain(Verb::IsSet, Numbers::Absent) => Some(EventCall::IsSet),
             _ => None,
         }
-    }
-
-    fn next_wake() -> EventCall<u64> {
-        EventCall::NextWake
     }
 }

@@ -8,15 +8,13 @@ use fi_channels::{GivesValue, OneValueState};
 use fi_run::OneshotCall;
 
 impl<G: GivesValue<u64>> Scripted for OneValueState<u64, u64, G> {
-    ghost use Rattle.fi_run.specs.declared.oneshot.OneshotCall.TheVariants.{NextWake};
+    ghost use Rattle.std.specs.Prelude.{refl};
     ghost use Rattle.schedule.specs.Tables.{oneshot_language};
-    ghost use Rattle.schedule.specs.Oldest.{oneshot_takes, oneshot_hides};
+    ghost use Rattle.schedule.specs.Hidden.{oneshot_hides};
 
     ghost language = { oneshot_language };
 
-    ghost take_waker = { NextWake };
-
-    ghost takes_oldest = { oneshot_takes G.giving };
+    ghost says_woken = { λ waker. refl };
 
     ghost hides = { oneshot_hides };
 
@@ -33,9 +31,5 @@ impl<G: GivesValue<u64>> Scripted for OneValueState<u64, u64, G> {
             Row::Plain(Verb::Close, Numbers::Absent) => Some(OneshotCall::Close),
             _ => None,
         }
-    }
-
-    fn next_wake() -> OneshotCall<u64, u64> {
-        OneshotCall::NextWake
     }
 }

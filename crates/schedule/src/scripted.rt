@@ -1,21 +1,18 @@
 //! What a primitive has to say to be called from scripts.
 
-ghost use Rattle.std.specs.Prelude.{◌≡◌, ◌≢◌, ℕ, Some, MatchOption, option_copied};
-ghost use Rattle.fi_run.specs.declared.answer.Answer.{Answer};
+ghost use Rattle.std.specs.Prelude.{◌≡◌, ◌≢◌, ℕ, Option, Some, MatchOption, option_copied};
+ghost use Rattle.fi_run.specs.declared.answer.Answer.TheVariants.{Woken};
 ghost use Rattle.schedule.specs.declared.row.Row.{Row};
-ghost use Rattle.schedule.specs.Language.{Language, HandsOutOldest};
+ghost use Rattle.schedule.specs.Language.{Language};
 ghost use Rattle.schedule.specs.Tables.{only_opening};
 
 use crate::row::Row;
 use fi_run::{Answer, Primitive};
 
 /// A primitive whose calls can be written as script lines.
-pub trait Scripted: Primitive<Answer = Answer<u64, u64>> + Drop {
+pub trait Scripted: Primitive<Answer = Answer<u64, u64>, Waker = u64> + Drop {
     /// How scripts speak of it.
-    ghost language: { Language Self Self.Opening Self.Call };
-
-    /// The call that takes out the oldest waker.
-    ghost take_waker: { Self.Call };
+    ghost language: { Language Self.Opening Self.Call };
 
     /// The opening that the words after the primitive's name ask for; `None` if they ask for none.
     fn opening(words: Option<&[u8]>) -> Option<Self::Opening>
@@ -27,15 +24,11 @@ pub trait Scripted: Primitive<Answer = Answer<u64, u64>> + Drop {
     fn call(row: Row) -> Option<Self::Call>
         ensures { result ≡ language.call_of row };
 
-    /// The call that takes out the oldest waker. No line asks for it.
-    fn next_wake() -> Self::Call
-        ensures { result ≡ take_waker };
+    /// A waker is handed out in this form.
+    ghost says_woken: { (waker : Option ℕ) → Self.hands_out waker ≡ Woken waker };
 
-    /// The call takes out the oldest waker, and changes nothing else.
-    ghost takes_oldest: { (old : Self) (answer : Answer ℕ ℕ) (new : Self) → Self.step old take_waker answer new → HandsOutOldest language old answer new };
-
-    /// No line asks for it.
-    ghost hides: { (row : Row) → language.call_of row ≢ Some take_waker };
+    /// No line asks for the oldest waker.
+    ghost hides: { (row : Row) → language.call_of row ≢ Some Self.take_waker };
 }
 
 /// The opening of a primitive that has no other, after whose name no word stands.

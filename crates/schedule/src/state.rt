@@ -9,15 +9,13 @@ use fi_parts::StateId;
 use fi_run::StateCall;
 
 impl Scripted for StateBroadcastState<u64, u64> {
-    ghost use Rattle.fi_run.specs.declared.state.StateCall.TheVariants.{NextWake};
+    ghost use Rattle.std.specs.Prelude.{refl};
     ghost use Rattle.schedule.specs.Tables.{state_language};
-    ghost use Rattle.schedule.specs.Oldest.{state_takes, state_hides};
+    ghost use Rattle.schedule.specs.Hidden.{state_hides};
 
     ghost language = { state_language };
 
-    ghost take_waker = { NextWake };
-
-    ghost takes_oldest = { state_takes };
+    ghost says_woken = { λ waker. refl };
 
     ghost hides = { state_hides };
 
@@ -39,9 +37,5 @@ impl Scripted for StateBroadcastState<u64, u64> {
             Row::Plain(Verb::Close, Numbers::Absent) => Some(StateCall::Close),
             _ => None,
         }
-    }
-
-    fn next_wake() -> StateCall<u64, u64> {
-        StateCall::NextWake
     }
 }

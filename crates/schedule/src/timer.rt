@@ -12,15 +12,13 @@ use fi_run::TimerCall;
 use std::time::Duration;
 
 impl Scripted for TimerState<u64> {
-    ghost use Rattle.fi_run.specs.declared.timer.TimerCall.TheVariants.{NextWake};
+    ghost use Rattle.std.specs.Prelude.{refl};
     ghost use Rattle.schedule.specs.Tables.{timer_language};
-    ghost use Rattle.schedule.specs.Oldest.{timer_takes, timer_hides};
+    ghost use Rattle.schedule.specs.Hidden.{timer_hides};
 
     ghost language = { timer_language };
 
-    ghost take_waker = { NextWake };
-
-    ghost takes_oldest = { timer_takes };
+    ghost says_woken = { λ waker. refl };
 
     ghost hides = { timer_hides };
 
@@ -40,10 +38,6 @@ impl Scripted for TimerState<u64> {
             Row::Plain(Verb::Next, Numbers::Absent) => Some(TimerCall::Next),
             _ => None,
         }
-    }
-
-    fn next_wake() -> TimerCall<u64> {
-        TimerCall::NextWake
     }
 }
 

@@ -24,7 +24,7 @@ loop-line-init g c = (
 pub loop-line-preserved : goal.loop-line-preserved
 loop-line-preserved g c = (
   omega (arith, c.loop-line.invariant.0, line_shortens _ _ _ c.in-Some.ensures),
-  so_far_goes_on (spoken g.P.Primitive.opens g.P.Primitive.step g.P.Scripted.language) g.W.Write.contents c.args.opening
+  so_far_goes_on (spoken g.P.Primitive.opens g.P.Primitive.step g.P.Primitive.outgoing g.P.Scripted.language) g.W.Write.contents c.args.opening
       (option_copied c.args.lines.rest) c.args.output.now
       c.loop-line.number (option_copied c.loop-line.lines.rest) (labels_of c.loop-line.session.futures)
       c.loop-line.session.primitive c.loop-line.output c.in-Some.line.now
@@ -38,7 +38,7 @@ returns-in_err-answer_line-clause-bad g c =
     if_err_same c.from_residual.result _ c.in_err-answer_line.field-0.0 c.from_residual.ensures.1
     (if_bad_more _ _ c.in_err-answer_line.field-0.0 c.in_err-answer_line.ensures.bad (λ number told.
     rw (told.0, told.3)
-    (front_answered (spoken g.P.Primitive.opens g.P.Primitive.step g.P.Scripted.language) g.W.Write.contents
+    (front_answered (spoken g.P.Primitive.opens g.P.Primitive.step g.P.Primitive.outgoing g.P.Scripted.language) g.W.Write.contents
     c.args.opening (option_copied c.args.lines.rest) c.args.output.now
     c.loop-line.number (option_copied c.loop-line.lines.rest) (labels_of c.loop-line.session.futures)
     c.loop-line.session.primitive c.loop-line.output c.in-Some.line.now _
@@ -46,7 +46,7 @@ returns-in_err-answer_line-clause-bad g c =
 
 pub returns-clause-answered : goal.returns-clause-answered
 returns-clause-answered g c =
-    rest_answered (spoken g.P.Primitive.opens g.P.Primitive.step g.P.Scripted.language) g.W.Write.contents
+    rest_answered (spoken g.P.Primitive.opens g.P.Primitive.step g.P.Primitive.outgoing g.P.Scripted.language) g.W.Write.contents
     c.args.opening (option_copied c.args.lines.rest) c.args.output.now
     c.loop-line.number (option_copied c.loop-line.lines.rest) (labels_of c.loop-line.session.futures)
     c.loop-line.session.primitive c.loop-line.output _ c.loop-line.invariant.1 c.in_default-line.ensures

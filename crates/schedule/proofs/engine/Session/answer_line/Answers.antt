@@ -10,7 +10,7 @@ use Rattle.schedule.proofs.engine.Session.answer_line.Goals as goal
 
 pub returns-clause-answered : goal.returns-clause-answered
 returns-clause-answered g c =
-    let primitive = spoken g.P.Primitive.opens g.P.Primitive.step g.P.Scripted.language in
+    let primitive = spoken g.P.Primitive.opens g.P.Primitive.step g.P.Primitive.outgoing g.P.Scripted.language in
     let text = answer_text c.in_ok-answer.answer in
     let called = c.perform.new.self in
     let calls = called_by primitive c.args.line.now c.in-Some.holds c.in-Some.request
@@ -21,14 +21,14 @@ returns-clause-answered g c =
       | then-not-holds+in_ok-write_wakes w ↦
           let written = told_line g.W.Write.contents c.args.output.now c.write_answer.new.output
           w.write_wakes.new.output c.put_byte.new.self text
-          (wakes_text true (g.P.Scripted.language.owed called.primitive)) c.in_ok-write_answer.ensures.text
+          (wakes_text true (g.P.Primitive.outgoing.wakers called.primitive)) c.in_ok-write_answer.ensures.text
           w.in_ok-write_wakes.ensures.text (rw w.output-is at last) in (
             written.0,
             told_answer primitive _ written.0 _ _ (labels_of called.futures) (labels_of c.if-not-holds.self.futures) _
                 called.primitive c.if-not-holds.self.primitive c.in_ok-answer.answer calls w.if-not-holds.true
                 (ap (λ s. labels_of s.futures) w.self-is ∙ ap labels_of w.in_ok-write_wakes.ensures.futures)
-                (ap (λ s. g.P.Scripted.language.owed s.primitive) w.self-is ∙ w.in_ok-write_wakes.ensures.emptied)
-                (ap (λ s. g.P.Scripted.language.without_wakers s.primitive)
+                (ap (λ s. g.P.Primitive.outgoing.wakers s.primitive) w.self-is ∙ w.in_ok-write_wakes.ensures.emptied)
+                (ap (λ s. g.P.Primitive.outgoing.without_wakers s.primitive)
                 w.self-is ∙ w.in_ok-write_wakes.ensures.rest) written.1,
             written.2,
           )

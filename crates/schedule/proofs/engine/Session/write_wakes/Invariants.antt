@@ -9,12 +9,12 @@ abbrev pub invariant-loop-waker : goal.invariant-loop-waker
 invariant-loop-waker g l =
     ((new : Output g.row.W.Denot)
     → GoesOn g.W.Write.contents l.output new (Some (wakes_text l.is_first
-    (g.P.Scripted.language.owed l.self.primitive)))
+    (g.P.Primitive.outgoing.wakers l.self.primitive)))
     → GoesOn g.W.Write.contents l.fn.output new (Some (wakes_text true
-    (g.P.Scripted.language.owed l.fn.self.primitive))))
-    × (g.P.Scripted.language.without_wakers l.self.primitive ≡ g.P.Scripted.language.without_wakers l.fn.self.primitive)
+    (g.P.Primitive.outgoing.wakers l.fn.self.primitive))))
+    × (g.P.Primitive.outgoing.without_wakers l.self.primitive ≡ g.P.Primitive.outgoing.without_wakers l.fn.self.primitive)
     × (l.self.futures ≡ l.fn.self.futures)
     × (l.output.writer.ghost_name ≡ l.fn.output.writer.ghost_name)
 
 abbrev pub decreases-loop-waker : goal.decreases-loop-waker
-decreases-loop-waker g l = length (g.P.Scripted.language.owed l.self.primitive)
+decreases-loop-waker g l = length (g.P.Primitive.outgoing.wakers l.self.primitive)

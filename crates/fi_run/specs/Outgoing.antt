@@ -1,0 +1,44 @@
+-- The wakers that a primitive has to hand out, and the call that takes out the oldest.
+use Rattle.std.specs.Prelude.{◌≡◌, ℕ, List, [], ◌∷◌, Option, None, drop}
+use Rattle.std.proofs.Common.{ap, refl, ◌∙◌}
+use Rattle.fi_parts.specs.Effects.WaiterEffect.{PopsOldest}
+use Rattle.fi_parts.specs.Machine.{Machine, StepsTo}
+use Rattle.fi_parts.specs.Order.{head_or}
+use Rattle.fi_parts.specs.Pairs.{oldest, wakers_of}
+
+pub record Outgoing (S W : Type 0) : Type 0 where
+  -- the wakers that are to be woken, oldest first
+  pub wakers : S → List W
+  -- the state when all of them are taken out
+  pub without_wakers : S → S
+
+-- The answer hands out the oldest waker. The others stay, and so does all else.
+abbrev pub TakesOldest : {S A W : Type 0} → Outgoing S W → (Option W → A) → S → A → S → Type 0
+TakesOldest outgoing hands_out old answer new = (answer ≡ hands_out (head_or (outgoing.wakers old) None))
+    × (outgoing.wakers new ≡ drop 1 (outgoing.wakers old)) × (outgoing.without_wakers new ≡ outgoing.without_wakers old)
+
+module _ {S D W : Type 0} where
+  -- Every machine has its wakers in the same place.
+  abbrev pub machine_outgoing : Outgoing (Machine S D W) W
+  machine_outgoing = record {
+    wakers = λ machine. wakers_of machine.waiting.out;
+    without_wakers = λ machine. record machine { waiting = record machine.waiting { out = [] } };
+  }
+
+module _ {W : Type 0} where
+  first_waker : (out : List (ℕ × W)) → oldest out ≡ head_or (wakers_of out) None
+  first_waker [] = refl
+  first_waker (pair ∷ out) = refl
+
+  other_wakers : (out : List (ℕ × W)) → wakers_of (drop 1 out) ≡ drop 1 (wakers_of out)
+  other_wakers [] = refl
+  other_wakers (pair ∷ out) = refl
+
+-- what a machine does whose line for that call is this effect
+pub pops_oldest : {S D A W : Type 0} (hands_out : Option W → A) (old : Machine S D W) (waker : Option W) (new : Machine S D W)
+    → StepsTo old old.own (PopsOldest waker) new → TakesOldest machine_outgoing hands_out old (hands_out waker) new
+pops_oldest hands_out old waker new did = (
+  ap hands_out (did.1.0 ∙ first_waker old.waiting.out),
+  ap (λ waiting. wakers_of waiting.out) did.1.1 ∙ other_wakers old.waiting.out,
+  λ i. record { own = did.0 i; waiting = record (did.1.1 i) { out = [] } },
+)
