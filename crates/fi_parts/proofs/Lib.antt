@@ -24,12 +24,7 @@ pub mod Stores
 pub mod Notified
 pub mod Told
 pub mod Sound
-pub mod Sides
-pub mod BothTied
 pub mod Oldest
-pub mod OldestSend
-pub mod OldestReceive
-pub mod BothSound
 pub mod Rings
 pub mod HeapForests
 pub mod HeapPieces
@@ -42,10 +37,8 @@ pub mod Effects
 pub mod Machines
 pub mod WakerHistories
 pub mod PairsWithin
-pub mod TwoSidedEffects
 pub mod Seats
 pub mod FirstSeat
 pub mod Telling
 pub mod Results
-pub mod TwoSidedMachines
 pub mod Vacancies

@@ -23,8 +23,6 @@ pub mod Codes
 pub mod LineModel
 pub mod Tied
 pub mod Oldest
-pub mod Waiter
-pub mod TwoSidesModel
 pub mod Buffer
 pub mod Rings
 pub mod Clocks
@@ -37,8 +35,6 @@ pub mod Picked
 pub mod Effects
 pub mod Machine
 pub mod WakerHistory
-pub mod TwoSidedEffects
 pub mod Deadlines
 pub mod Seats
 pub mod Polled
-pub mod TwoSidedMachine

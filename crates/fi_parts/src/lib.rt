@@ -19,7 +19,6 @@ mod outbox;
 mod phase;
 #[cfg(test)]
 mod tests;
-mod two_sides;
 mod visits;
 mod waits;
 
@@ -28,9 +27,8 @@ pub use deadlines::Deadlines;
 pub use drain::{Drain, ReverseDrain};
 pub use errors::{ChannelSendError, CloseStatus, Fault, NoRoom, Slot, StateId};
 pub use heap::PairingHeap;
-pub use line::{Entry, Line};
+pub use line::{Entry, Line, last_waker, waker_from};
 pub use list::LinkedList;
 pub use outbox::{Outbox, Ticket};
 pub use phase::{Future, Leftover, Notice, Phase};
-pub use two_sides::{TwoSides, Waiter};
 pub use waits::Waits;

@@ -1,5 +1,0 @@
-use Rattle.fi_parts.proofs.BothTied.{no_waiters-tied}
-use Rattle.fi_parts.proofs.two_sides.TwoSides.new.Goals as goal
-
-pub invariant_of-result : goal.invariant_of-result
-invariant_of-result g c = rw (c.new.ensures, c.new-2.ensures, c.new-3.ensures) (no_waiters-tied _)
