@@ -19,7 +19,7 @@ use Rattle.fi_parts.specs.Order.{last_or}
 use Rattle.fi_parts.proofs.Chains.{last_or-held}
 use Rattle.fi_parts.proofs.Moved.{is_live}
 
-some_same : {A : Type 0} {a b : A} → ◌≡◌ {A = Option A} (Some a) (Some b) → a ≡ b
+pub some_same : {A : Type 0} {a b : A} → ◌≡◌ {A = Option A} (Some a) (Some b) → a ≡ b
 some_same e = cc
 
 pub none_some : {A : Type 0} {a : A} → ◌≡◌ {A = Option A} None (Some a) → ⊥
@@ -135,7 +135,7 @@ module _ {T : Type 0} where
   each_in f None = None
   each_in f (Some p) = Some (f p)
 
-  last_or-each : (f : BlockPtr T → ℕ) (p : Option (BlockPtr T)) (xs : List (BlockPtr T)) → last_or (each_in f p) (map f xs) ≡ each_in f (last_or p xs)
+  pub last_or-each : (f : BlockPtr T → ℕ) (p : Option (BlockPtr T)) (xs : List (BlockPtr T)) → last_or (each_in f p) (map f xs) ≡ each_in f (last_or p xs)
   last_or-each f p [] = refl
   last_or-each f p (x ∷ xs) = last_or-each f (Some x) xs
 

@@ -10,6 +10,7 @@ pub mod BlockKeys
 pub mod Chains
 pub mod Moved
 pub mod BlockSlots
+pub mod BlockNeighbours
 pub mod BlockChanges
 pub mod BlocksFreed
 pub mod BlocksListed

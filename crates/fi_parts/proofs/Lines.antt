@@ -1,7 +1,7 @@
 -- The entries of a list, seen as a line of futures with tickets.
 use Rattle.std.proofs.Common.{◌≡◌, ℕ, Bool, true, false, Bor, List, [], ◌∷◌, ◌++◌, Option, Some, None, MatchOption, is_some, option_copied, cond, map, reverse, refl, sym, ap, ◌∙◌, inl, inr}
 use Rattle.std.proofs.lemmas.Bool.{cases_eq, both_ways}
-use Rattle.std.proofs.lemmas.List.{reverse-append}
+use Rattle.std.proofs.lemmas.List.{reverse-append, reverse-reverse, append_assoc}
 use Rattle.std.specs.Option.{IsSome, option_map}
 use Rattle.std.specs.Ordering.{nat_cmp, eq_by_cmp}
 use Rattle.std.specs.Cmp.{nat_cmp_total}
@@ -17,6 +17,21 @@ use Rattle.fi_parts.specs.Waiting.{phase_in, phase_of, asks_in, asks_of, is_regi
 use Rattle.fi_parts.specs.LineModel.{LineModel, mapped, future_of, ticket_of, line_of, empty_line}
 use Rattle.fi_parts.proofs.FiniteMaps.{get-insert_same, get-insert_other, get-remove_same, get-remove_other}
 use Rattle.fi_parts.proofs.Queues.{reverse_cons, reverse-without, holds-reverse}
+
+-- a queue is its list's order reversed, also where it is cut
+pub order-cut : (order : List ℕ) (k : ℕ) (front rest : List ℕ) → reverse order ≡ front ++ k ∷ rest
+    → order ≡ reverse rest ++ k ∷ reverse front
+order-cut order k front rest is =
+    sym (reverse-reverse order) ∙ ap reverse is ∙ reverse-append front (k ∷ rest)
+    ∙ ap (λ zs. zs ++ reverse front) (reverse_cons k rest) ∙ append_assoc (reverse rest) (k ∷ []) (reverse front)
+
+-- the last of a list is the first of it reversed
+pub next-reversed : (rest : List ℕ) (found : Option Slot)
+    → MatchOption found (reverse rest ≡ []) (λ next. (others : List ℕ) × (reverse rest ≡ others ++ next.0 ∷ []))
+    → MatchOption found (rest ≡ []) (λ next. (others : List ℕ) × (rest ≡ next.0 ∷ others))
+next-reversed rest None none = sym (reverse-reverse rest) ∙ ap reverse none
+next-reversed rest (Some next) last =
+    (reverse last.0, sym (reverse-reverse rest) ∙ ap reverse last.1 ∙ reverse-append last.0 (next.0 ∷ []))
 
 -- A map with a function of each value.
 module _ {A B : Type 0} (f : A → B) where

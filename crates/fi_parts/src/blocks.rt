@@ -1,5 +1,5 @@
 //! The store of a list: live slots, each with a block of its own, some of which are linked by raw pointers.
-ghost use Rattle.std.specs.Prelude.{◌≡◌, ◌+◌, ◌≤◌, ◌<◌, ◌^◌, length, ◌∷◌, [], Some, None, false, IfOk, IfErr, OnErr, option_copied};
+ghost use Rattle.std.specs.Prelude.{◌≡◌, ℕ, ◌+◌, ◌≤◌, ◌<◌, ◌^◌, length, List, ◌∷◌, ◌++◌, [], Some, None, true, false, IfOk, IfErr, OnErr, option_copied};
 ghost use Rattle.std.specs.Option.{option_copied_mut};
 ghost use Rattle.std.specs.Borrow.{sem};
 ghost use Rattle.std.specs.FinMap as map;
@@ -149,6 +149,21 @@ impl<T> Blocks<T> {
     {
         let at = self.slab.remove(slot);
         self.linked.free(self.alloc, at)
+    }
+
+    /// The next younger linked slot; none for the youngest.
+    pub fn younger(&mut self, slot: usize) -> Option<usize>
+        requires { holds slot self.old.order ≡ true }
+        ensures next { (front rest : List ℕ) → self.old.order ≡ front ++ slot ∷ rest → result ≡ oldest front }
+        ensures live { self.new.live ≡ self.old.live }
+        ensures order { self.new.order ≡ self.old.order }
+        ensures visits { self.new.visits ≡ self.old.visits + 1 }
+    {
+        let at = self.slab[slot];
+        match self.linked.younger(at) {
+            Some(next) => Some(self.linked.slot(next)),
+            None => None,
+        }
     }
 
     /// Links a slot at the youngest place.

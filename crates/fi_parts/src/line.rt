@@ -1,5 +1,5 @@
 //! One line of waiting futures: their phases, their queue, and their tickets in an outbox that may serve other lines too.
-ghost use Rattle.std.specs.Prelude.{◌≡◌, ℕ, ◌∷◌, List, [], Some, None, true, false, Option, IfOk, OnErr, IfErr, IsSome, MatchOption, option_copied};
+ghost use Rattle.std.specs.Prelude.{◌≡◌, ℕ, ◌∷◌, ◌++◌, List, [], Some, None, true, false, Option, IfOk, OnErr, IfErr, IsSome, MatchOption, option_copied};
 ghost use Rattle.std.specs.FinMap as map;
 ghost use Rattle.std.specs.FinSet as set;
 ghost use Rattle.fi_parts.specs.Order.{holds, without};
@@ -215,6 +215,16 @@ impl<D: Drop, W: Drop> Line<D, W> {
             Some(oldest) => Some(oldest),
             None => None,
         }
+    }
+
+    /// The next younger future of the queue; None for the youngest.
+    pub fn younger(&mut self, slot: Slot) -> Option<Slot>
+        requires { holds slot.0 self.old.side.queue ≡ true }
+        ensures next { (front rest : List ℕ) → self.old.side.queue ≡ front ++ slot.0 ∷ rest →
+            MatchOption result (rest ≡ []) (λ next. (others : List ℕ) × (rest ≡ next.0 ∷ others)) }
+        ensures same { self.new ≡ self.old }
+    {
+        self.list.younger(slot)
     }
 
     /// Takes the oldest future out of the queue; None if the queue is empty.

@@ -162,6 +162,21 @@ impl<T> LinkedList<T> {
         }
     }
 
+    /// The next younger slot of the list; None for the youngest. One visit.
+    pub fn younger(&mut self, slot: Slot) -> Option<Slot>
+        requires { holds slot.0 self.old.order ≡ true }
+        ensures next { (front rest : List ℕ) → self.old.order ≡ front ++ slot.0 ∷ rest →
+            MatchOption result (front ≡ []) (λ next. (others : List ℕ) × (front ≡ others ++ next.0 ∷ [])) }
+        ensures live { self.new.live ≡ self.old.live }
+        ensures order { self.new.order ≡ self.old.order }
+        ensures visits { self.new.visits ≡ self.old.visits + 1 }
+    {
+        match self.blocks.younger(slot.0) {
+            Some(next) => Some(Slot(next)),
+            None => None,
+        }
+    }
+
     /// Takes the youngest slot out; it stays live. None for an empty list. Keeps `LinkedList::remove_first`.
     pub fn remove_first(&mut self) -> Option<Slot>
         ensures order { MatchOption result ((self.old.order ≡ []) × (self.new.order ≡ [])) (λ slot. self.old.order ≡ slot.0 ∷ self.new.order) }

@@ -141,6 +141,16 @@ impl<D: Drop, W: Drop> Waits<D, W> {
         self.line.oldest()
     }
 
+    /// The next younger future of the queue; None for the youngest.
+    pub fn younger(&mut self, slot: Slot) -> Option<Slot>
+        requires { holds slot.0 self.old.side.queue ≡ true }
+        ensures next { (front rest : List ℕ) → self.old.side.queue ≡ front ++ slot.0 ∷ rest →
+            MatchOption result (rest ≡ []) (λ next. (others : List ℕ) × (rest ≡ next.0 ∷ others)) }
+        ensures same { self.new ≡ self.old }
+    {
+        self.line.younger(slot)
+    }
+
     /// Takes a future out of the queue, wherever its place is; it stays live. Does nothing if it isn't queued.
     pub fn leave(&mut self, slot: Slot)
         ensures { self.new ≡ record self.old { side = record self.old.side { queue = without slot.0 self.old.side.queue } } }

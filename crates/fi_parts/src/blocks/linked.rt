@@ -1,8 +1,10 @@
 //! The blocks and the two ends of the list.
-ghost use Rattle.std.specs.Prelude.{◌≡◌, ◌≤◌, ◌+◌, ◌∷◌, Some, None, false, [], IsSome, IfSome, IfOk, IfErr, OnErr};
+ghost use Rattle.std.specs.Prelude.{◌≡◌, ◌≤◌, ◌+◌, ◌∷◌, ◌++◌, List, Some, None, true, false, [], IsSome, IfSome, IfOk, IfErr, OnErr};
 ghost use Rattle.std.specs.Borrow.{sem};
 ghost use Rattle.fi_parts.specs.Placed.{IsAddress, without_at};
 ghost use Rattle.fi_parts.specs.Links.{names, without};
+ghost use Rattle.fi_parts.specs.Order.{last_or};
+ghost use Rattle.fi_parts.specs.declared.blocks.block.BlockPtr.{BlockPtr};
 ghost use Rattle.fi_parts.specs.CountedBlocks.{item_in, slot_in, loose_block};
 ghost use Rattle.fi_parts.specs.LinkedBlocks.{block_at, data_of, links_at, with_links, with_older, with_younger, chain_of, IsChained, SameData, SameList, LendsBlockItem};
 
@@ -154,6 +156,19 @@ impl<T> LinkedBlocks<T> {
         ensures address { IsAddress at.ptr }
     {
         mem::replace(self.blocks.reach(at), links)
+    }
+
+    /// The next younger block of the list; none for the youngest.
+    pub fn younger(&mut self, at: BlockPtr<T>) -> Option<BlockPtr<T>>
+        requires chained { IsChained self.old }
+        requires listed { names at (chain_of self.old) ≡ true }
+        ensures next { (front rest : List (BlockPtr T)) → chain_of self.old ≡ front ++ at ∷ rest → result ≡ last_or None front }
+        ensures chained { IsChained self.new }
+        ensures order { chain_of self.new ≡ chain_of self.old }
+        ensures data { SameData self.old self.new }
+        ensures visits { self.new.blocks.visits.count ≡ self.old.blocks.visits.count + 1 }
+    {
+        self.blocks.reach(at).younger.block()
     }
 
     /// Puts the block at the youngest place.
