@@ -1,3 +1,12 @@
 pub mod Timer
 pub mod TimerLaws
 pub mod TimerFields
+pub mod ToldFutures
+pub mod Semaphore
+pub mod SemaphoreCode
+pub mod FrontLaws
+pub mod ToldFuturesLaws
+pub mod SemaphoreSoundLaws
+pub mod SemaphoreFairLaws
+pub mod SemaphoreUnfairLaws
+pub mod SemaphoreLaws

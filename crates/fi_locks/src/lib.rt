@@ -2,6 +2,7 @@
 //! that are used by one thread.
 #![tactic(auto)]
 
+mod asked;
 #[cfg(test)]
 mod tests;
 mod timer;
