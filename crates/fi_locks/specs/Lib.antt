@@ -10,3 +10,6 @@ pub mod SemaphoreSoundLaws
 pub mod SemaphoreFairLaws
 pub mod SemaphoreUnfairLaws
 pub mod SemaphoreLaws
+pub mod Mutex
+pub mod MutexLaws
+pub mod MutexFields

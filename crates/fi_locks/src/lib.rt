@@ -3,10 +3,16 @@
 #![tactic(auto)]
 
 mod asked;
+mod mutex;
+mod mutex_future;
+mod mutex_guard;
 #[cfg(test)]
 mod tests;
 mod timer;
 mod timer_future;
 
+pub use mutex::{LocalMutex, MutexState};
+pub use mutex_future::LocalMutexLockFuture;
+pub use mutex_guard::LocalMutexGuard;
 pub use timer::{LocalTimerService, TimerState};
 pub use timer_future::LocalTimerFuture;

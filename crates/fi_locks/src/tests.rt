@@ -1,6 +1,8 @@
 //! The timer: each call by slot and by local future, and makings in every kind of state.
 
 mod makings;
+mod mutex;
+mod mutex_reference;
 
 use crate::{LocalTimerService, TimerState};
 use fi_parts::Slot;

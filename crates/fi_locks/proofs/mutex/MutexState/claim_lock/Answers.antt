@@ -1,0 +1,12 @@
+use Rattle.fi_parts.proofs.Results.{either}
+use Rattle.fi_locks.specs.MutexFields.{machine_of}
+use Rattle.fi_locks.specs.MutexLaws.{stays_well, made, unchanged_well}
+use Rattle.fi_locks.proofs.mutex.MutexState.claim_lock.Goals as goal
+
+pub invariant_of-self : goal.invariant_of-self
+invariant_of-self g c =
+    let old = machine_of c.self.inside.fields in
+    let new = machine_of c.claim_lock.new.self in
+    either c.claim_lock.result _ _ _ c.claim_lock.ensures.made c.claim_lock.ensures.refused
+    (λ slot did. stays_well old new (made old new c.self.invariant slot.0 did) c.self.invariant)
+    (λ same. stays_well old new (unchanged_well old new c.self.invariant same) c.self.invariant)

@@ -1,0 +1,14 @@
+use Rattle.fi_locks.specs.MutexFields.{machine_of}
+use Rattle.fi_locks.specs.MutexLaws.{stays_well, polled, locks_if_ready}
+use Rattle.fi_locks.proofs.mutex.MutexState.try_wait.Goals as goal
+
+pub invariant_of-self : goal.invariant_of-self
+invariant_of-self g c =
+    let old = machine_of c.self.inside.fields in
+    let new = machine_of c.try_wait.new.self in
+    stays_well old new
+    (polled old c.args.slot.0 c.args.waker c.try_wait.result.0 new c.self.invariant c.try_wait.ensures.polled) c.self.invariant
+
+pub returns-clause-locked : goal.returns-clause-locked
+returns-clause-locked g c =
+    locks_if_ready (machine_of c.self.inside.fields) c.args.slot.0 c.args.waker c.try_wait.result.0 _ c.try_wait.ensures.polled

@@ -1,0 +1,376 @@
+//! A mutex.
+ghost use Rattle.std.specs.Prelude.{◌≡◌, true, false, Option, Some, None, Result, Ok, Err, IfOk, IfErr, OnErr, is_some, length, not};
+ghost use Rattle.fi_parts.specs.Machine.{phase_at, displaced_at};
+ghost use Rattle.fi_parts.specs.Polled.{unused_after};
+ghost use Rattle.fi_parts.specs.Waiting.{phase_of, displaced};
+ghost use Rattle.fi_locks.specs.Mutex.{opened, is_free, can_be_polled, Makes, Polls, Cancels, TriesLock, Unlocks, Wakes, IsLockedIfReady, IsLockedIfGiven, AllStayLive, IsSound, OwesNoWake};
+
+use crate::mutex_future::LocalMutexLockFuture;
+use crate::mutex_guard::LocalMutexGuard;
+use fi_parts::{Fault, Leftover, Phase, Slot, Waits};
+use futures::task::Poll;
+use std::alloc::Global;
+use std::marker::Model;
+
+/// The fields of a mutex. Between two calls on them the mutex's law may be broken.
+#[derive(Drop)]
+struct Fields<T, W> {
+    is_fair: bool,
+    value: Option<T>,
+    locks: Waits<(), W>,
+}
+
+/// A mutex: one holder at a time has its value, and futures wait for it.
+///
+/// A fair mutex is granted in the order of the futures' first polls. An unfair one is granted to whoever comes while it is free,
+/// also before those who were told. It names the wakers to be woken and wakes nobody itself: whoever calls it takes them out by
+/// `next_wake`. Each call takes constant time, and only the makings of futures take memory. Keeps `GenericMutex` of
+/// futures-intrusive's `sync`.
+#[derive(Drop)]
+pub struct MutexState<T, W> {
+    fields: Fields<T, W>,
+}
+
+/// The mutex for one thread: futures are polled with the mutex lent to them.
+pub type LocalMutex<T, W> = MutexState<T, W>;
+
+impl<T, W> Model for MutexState<T, W> {
+    ghost use Rattle.fi_locks.specs.Mutex.{MutexMachine, mutex_code, IsSound, OwesNoWake};
+    ghost use Rattle.fi_locks.specs.MutexFields.{machine_of};
+
+    ghost Value = { MutexMachine T W };
+
+    ghost coded = { mutex_code T.code W.code };
+
+    ghost view = { λ s. machine_of s.fields };
+
+    ghost invariant = { λ s. IsSound (machine_of s.fields) × OwesNoWake (machine_of s.fields) };
+}
+
+impl<T: Drop, W: Drop> MutexState<T, W> {
+    /// A free mutex with this value, fair or not. It takes no memory yet. Keeps `GenericMutex::new`.
+    pub fn new(alloc: Global, value: T, is_fair: bool) -> Self
+        ensures { result ≡ opened value is_fair }
+    {
+        MutexState {
+            fields: Fields {
+                is_fair,
+                value: Some(value),
+                locks: Waits::new(alloc),
+            },
+        }
+    }
+
+    /// For proofs: every mutex is sound and owes no wake.
+    pub fn show(&self)
+        ensures sound { IsSound self.now }
+        ensures no_wake { OwesNoWake self.now }
+    {
+        let _ = &self.fields;
+    }
+
+    /// A future that locks the mutex. Refused only with `NoMemory`; then nothing has changed.
+    ///
+    /// Keeps `GenericMutex::lock`.
+    pub fn lock(&mut self) -> Result<LocalMutexLockFuture, Fault>
+        ensures made { IfOk result (λ future. Makes self.old future.name self.new) }
+        ensures fresh { IfOk result (λ future. future.has_ended ≡ false) }
+        ensures pollable { IfOk result (λ future. can_be_polled (phase_at self.new future.name) ≡ true) }
+        ensures refused { OnErr result (self.new ≡ self.old) }
+        ensures fault { IfErr result (λ fault. fault ≡ Fault.NoMemory) }
+    {
+        let slot = self.claim_lock()?;
+        Ok(LocalMutexLockFuture::at(slot))
+    }
+
+    /// Locks the mutex at once: its value, in a guard. None where it is locked, or is fair and a future is queued for it; then
+    /// nothing has changed.
+    ///
+    /// Keeps `GenericMutex::try_lock`.
+    pub fn try_lock(&mut self) -> Option<LocalMutexGuard<T>>
+        ensures tried { TriesLock self.old result self.new }
+        ensures locked { IsLockedIfGiven result self.new }
+    {
+        match self.try_take() {
+            Some(value) => Some(LocalMutexGuard::of(value)),
+            None => None,
+        }
+    }
+
+    /// Locks the mutex at once, as `try_lock`, without a guard: whoever has the value gives it back by `unlock`.
+    pub fn try_take(&mut self) -> Option<T>
+        ensures tried { TriesLock self.old result self.new }
+        ensures locked { IsLockedIfGiven result self.new }
+    {
+        self.fields.try_take()
+    }
+
+    /// Puts a value back and unlocks the mutex, whose oldest queued future is told and named to be woken. A mutex that isn't
+    /// locked hands the value back, and nothing has changed.
+    ///
+    /// Keeps the drop of `GenericMutexGuard`.
+    pub fn unlock(&mut self, value: T) -> Result<(), T>
+        ensures unlocked { Unlocks self.old value result self.new }
+        ensures live { AllStayLive self.old self.new }
+    {
+        self.fields.unlock(value)
+    }
+
+    /// Somebody has locked the mutex, and has its value. Keeps `GenericMutex::is_locked`.
+    pub fn is_locked(&self) -> bool
+        ensures { result ≡ not (is_free self.now) }
+    {
+        self.fields.is_locked()
+    }
+
+    /// Takes out the oldest waker that was named to be woken; None where none is left.
+    pub fn next_wake(&mut self) -> Option<W>
+        ensures { Wakes self.old result self.new }
+    {
+        self.fields.locks.next_wake()
+    }
+
+    /// How many wakers are named to be woken.
+    pub fn wake_count(&self) -> usize
+        ensures { result ≡ length self.now.waiting.out }
+    {
+        self.fields.locks.wake_count()
+    }
+
+    /// Makes a future under a slot that was not live. Refused only with `NoMemory`; then nothing has changed.
+    pub fn claim_lock(&mut self) -> Result<Slot, Fault>
+        ensures made { IfOk result (λ slot. Makes self.old slot.0 self.new) }
+        ensures refused { OnErr result (self.new ≡ self.old) }
+        ensures fault { IfErr result (λ fault. fault ≡ Fault.NoMemory) }
+    {
+        self.fields.claim_lock()
+    }
+
+    /// A future lives under this slot.
+    pub fn is_live(&self, slot: Slot) -> bool
+        ensures { result ≡ is_some (phase_at self.now slot.0) }
+    {
+        self.fields.locks.phase(slot).is_some()
+    }
+
+    /// A future lives under this slot that has not ended.
+    pub fn can_poll(&self, slot: Slot) -> bool
+        ensures { result ≡ can_be_polled (phase_at self.now slot.0) }
+    {
+        match self.fields.locks.phase(slot) {
+            Some(Phase::Fresh | Phase::Registered(_) | Phase::Told) => true,
+            None | Some(Phase::Complete | Phase::Ended) => false,
+        }
+    }
+
+    /// Polls the future under this slot: ready with the value where the mutex is free for it, else registered with this waker.
+    ///
+    /// The caller has seen that the future lives and has not ended, and gives the value back by `unlock`. The wakers of no more
+    /// use come back.
+    pub fn try_wait(&mut self, slot: Slot, waker: W) -> (Poll<T>, Leftover<W>)
+        requires { can_be_polled (phase_at self.old slot.0) ≡ true }
+        ensures polled { Polls self.old slot.0 waker result.0 self.new }
+        ensures displaced { result.1.displaced ≡ displaced_at self.old slot.0 }
+        ensures unused { result.1.unused ≡ unused_after result.0 waker }
+        ensures locked { IsLockedIfReady result.0 self.new }
+    {
+        self.fields.try_wait(slot, waker)
+    }
+
+    /// Cancels the future under this slot, which is live, and gives back the waker that it had. If it was told, the oldest queued
+    /// future is told in its place, whether or not the mutex is locked.
+    pub fn remove_waiter(&mut self, slot: Slot) -> Option<W>
+        requires { is_some (phase_at self.old slot.0) ≡ true }
+        ensures cancelled { Cancels self.old slot.0 self.new }
+        ensures own { self.new.own ≡ self.old.own }
+        ensures displaced { result ≡ displaced_at self.old slot.0 }
+    {
+        self.fields.remove_waiter(slot)
+    }
+}
+
+impl<T: Drop, W: Drop> Fields<T, W> {
+    ghost use Rattle.fi_parts.specs.Order.{holds};
+    ghost use Rattle.fi_parts.specs.Places.{is_told};
+    ghost use Rattle.fi_parts.specs.Waiting.{IsLive, IsOrderedBy, is_queued, is_registered, may_be_named};
+    ghost use Rattle.fi_parts.specs.Effects.{TakesEffect};
+    ghost use Rattle.fi_parts.specs.Effects.WaiterEffect.{EndsPlaced, Registers};
+    ghost use Rattle.futures.specs.declared.task.Poll.TheVariants as polled;
+    ghost use Rattle.fi_parts.specs.declared.phase.Phase.TheVariants as phases;
+    ghost use Rattle.fi_locks.specs.Mutex.{for_newcomer, PollsAs, tells_oldest};
+    ghost use Rattle.fi_locks.specs.MutexFields.{machine_of, left_of};
+
+    fn is_locked(&self) -> bool
+        ensures { result ≡ not (is_free (machine_of self.now)) }
+    {
+        self.value.is_none()
+    }
+
+    fn claim_lock(&mut self) -> Result<Slot, Fault>
+        ensures made { IfOk result (λ slot. Makes (machine_of self.old) slot.0 (machine_of self.new)) }
+        ensures refused { OnErr result (machine_of self.new ≡ machine_of self.old) }
+        ensures fault { IfErr result (λ fault. fault ≡ Fault.NoMemory) }
+    {
+        match self.locks.make(()) {
+            Ok(slot) => Ok(slot),
+            Err(_) => Err(Fault::NoMemory),
+        }
+    }
+
+    // Takes what there is for one who isn't queued.
+    fn take_for_newcomer(&mut self) -> Option<T>
+        ensures value { result ≡ for_newcomer (machine_of self.old) }
+        ensures rest { self.new ≡ record self.old { value = left_of result self.old.value } }
+    {
+        if self.is_fair && self.locks.oldest().is_some() {
+            return None;
+        }
+        self.value.take()
+    }
+
+    fn try_take(&mut self) -> Option<T>
+        ensures { TriesLock (machine_of self.old) result (machine_of self.new) }
+    {
+        self.take_for_newcomer()
+    }
+
+    // Tells the oldest of the queue, if there is one.
+    fn tell_oldest(&mut self)
+        requires { IsOrderedBy (is_queued self.old.is_fair) self.old.locks.side self.old.locks.out }
+        ensures told { TakesEffect (tells_oldest self.old.is_fair self.old.locks.side.queue) self.old.locks self.new.locks }
+        ensures rest { self.new ≡ record self.old { locks = self.new.locks } }
+    {
+        if let Some(oldest) = self.locks.oldest() {
+            self.locks.tell(oldest, self.is_fair);
+        }
+    }
+
+    fn unlock(&mut self, value: T) -> Result<(), T>
+        requires { IsSound (machine_of self.old) }
+        ensures { Unlocks (machine_of self.old) value result (machine_of self.new) }
+    {
+        if self.value.is_some() {
+            return Err(value);
+        }
+        self.value = Some(value);
+        self.tell_oldest();
+        Ok(())
+    }
+
+    // Grants a live future this value, which was taken of the mutex: the future ends, and leaves the queue.
+    fn grant(&mut self, slot: Slot, value: T, waker: W) -> (Poll<T>, Leftover<W>)
+        requires { IsLive self.old.locks.side slot.0 }
+        ensures granted { result.0 ≡ polled.Ready value }
+        ensures ended { TakesEffect (EndsPlaced slot.0) self.old.locks self.new.locks }
+        ensures rest { self.new ≡ record self.old { locks = self.new.locks } }
+        ensures displaced { result.1.displaced ≡ displaced self.old.locks.side self.old.locks.out slot.0 }
+        ensures unused { result.1.unused ≡ Some waker }
+    {
+        let named = self.locks.take_out(slot);
+        self.locks.leave(slot);
+        let before = self.locks.stand(slot, Phase::Ended);
+        (
+            Poll::Ready(value),
+            Leftover::of(before.or(named), Some(waker)),
+        )
+    }
+
+    // Registers a live future that has no place in the queue: it goes to the queue's end.
+    fn register(&mut self, slot: Slot, waker: W) -> (Poll<T>, Leftover<W>)
+        requires unregistered { may_be_named (phase_of self.old.locks.side slot.0) ≡ true }
+        requires apart { holds slot.0 self.old.locks.side.queue ≡ false }
+        ensures waits { result.0 ≡ polled.Pending }
+        ensures registered { TakesEffect (Registers slot.0 waker) self.old.locks self.new.locks }
+        ensures rest { self.new ≡ record self.old { locks = self.new.locks } }
+        ensures displaced { result.1.displaced ≡ displaced self.old.locks.side self.old.locks.out slot.0 }
+        ensures unused { result.1.unused ≡ None }
+    {
+        let named = self.locks.take_out(slot);
+        self.locks.register(slot, waker);
+        (Poll::Pending, Leftover::of(named, None))
+    }
+
+    fn poll_fresh(&mut self, slot: Slot, waker: W) -> (Poll<T>, Leftover<W>)
+        requires sound { IsSound (machine_of self.old) }
+        requires fresh { phase_of self.old.locks.side slot.0 ≡ Some phases.Fresh }
+        ensures polled { PollsAs (Some phases.Fresh) (machine_of self.old) slot.0 waker result.0 (machine_of self.new) }
+        ensures displaced { result.1.displaced ≡ displaced self.old.locks.side self.old.locks.out slot.0 }
+        ensures unused { result.1.unused ≡ unused_after result.0 waker }
+    {
+        match self.take_for_newcomer() {
+            Some(value) => self.grant(slot, value, waker),
+            None => self.register(slot, waker),
+        }
+    }
+
+    fn poll_registered(&mut self, slot: Slot, waker: W) -> (Poll<T>, Leftover<W>)
+        requires { is_registered (phase_of self.old.locks.side slot.0) ≡ true }
+        ensures polled { PollsAs (phase_of self.old.locks.side slot.0) (machine_of self.old) slot.0 waker result.0 (machine_of self.new) }
+        ensures displaced { result.1.displaced ≡ displaced self.old.locks.side self.old.locks.out slot.0 }
+        ensures unused { result.1.unused ≡ unused_after result.0 waker }
+    {
+        if !self.is_fair {
+            if let Some(value) = self.value.take() {
+                return self.grant(slot, value, waker);
+            }
+        }
+        self.locks.take_out(slot);
+        let before = self.locks.stand(slot, Phase::Registered(waker));
+        (Poll::Pending, Leftover::of(before, None))
+    }
+
+    fn poll_told(&mut self, slot: Slot, waker: W) -> (Poll<T>, Leftover<W>)
+        requires sound { IsSound (machine_of self.old) }
+        requires told { phase_of self.old.locks.side slot.0 ≡ Some phases.Told }
+        requires free { self.old.is_fair ≡ true → is_some self.old.value ≡ true }
+        ensures polled { PollsAs (Some phases.Told) (machine_of self.old) slot.0 waker result.0 (machine_of self.new) }
+        ensures displaced { result.1.displaced ≡ displaced self.old.locks.side self.old.locks.out slot.0 }
+        ensures unused { result.1.unused ≡ unused_after result.0 waker }
+    {
+        match self.value.take() {
+            Some(value) => self.grant(slot, value, waker),
+            None => self.register(slot, waker),
+        }
+    }
+
+    fn try_wait(&mut self, slot: Slot, waker: W) -> (Poll<T>, Leftover<W>)
+        requires sound { IsSound (machine_of self.old) }
+        requires no_wake { OwesNoWake (machine_of self.old) }
+        requires live { can_be_polled (phase_of self.old.locks.side slot.0) ≡ true }
+        ensures polled { Polls (machine_of self.old) slot.0 waker result.0 (machine_of self.new) }
+        ensures displaced { result.1.displaced ≡ displaced self.old.locks.side self.old.locks.out slot.0 }
+        ensures unused { result.1.unused ≡ unused_after result.0 waker }
+    {
+        if self.locks.is_registered(slot) {
+            return self.poll_registered(slot, waker);
+        }
+        if self.is_told(slot) {
+            return self.poll_told(slot, waker);
+        }
+        self.poll_fresh(slot, waker)
+    }
+
+    fn is_told(&self, slot: Slot) -> bool
+        ensures { result ≡ is_told (phase_of self.now.locks.side slot.0) }
+    {
+        match self.locks.phase(slot) {
+            Some(Phase::Told) => true,
+            None | Some(Phase::Fresh | Phase::Registered(_) | Phase::Complete | Phase::Ended) =>
+                false,
+        }
+    }
+
+    fn remove_waiter(&mut self, slot: Slot) -> Option<W>
+        requires sound { IsSound (machine_of self.old) }
+        requires live { is_some (phase_of self.old.locks.side slot.0) ≡ true }
+        ensures cancelled { Cancels (machine_of self.old) slot.0 (machine_of self.new) }
+        ensures displaced { result ≡ displaced self.old.locks.side self.old.locks.out slot.0 }
+    {
+        let was_told = self.is_told(slot);
+        let (_, waker) = self.locks.forget(slot);
+        if was_told {
+            self.tell_oldest();
+        }
+        waker
+    }
+}

@@ -1,0 +1,88 @@
+//! A future that locks a mutex, polled with the mutex lent to it.
+ghost use Rattle.std.specs.Prelude.{◌≡◌, true, false, is_some};
+ghost use Rattle.fi_parts.specs.Machine.{phase_at};
+ghost use Rattle.fi_parts.specs.Polled.{is_ready};
+ghost use Rattle.fi_locks.specs.Mutex.{can_be_polled, Polls, Cancels, IsLockedIfReady};
+
+use crate::mutex::LocalMutex;
+use crate::mutex_guard::LocalMutexGuard;
+use fi_parts::Slot;
+use futures::task::Poll;
+use std::marker::Model;
+
+/// Locks a local mutex. It is spent by `cancel`, with its mutex; it cannot just be let go.
+///
+/// Keeps `GenericMutexLockFuture` of futures-intrusive's `sync`.
+pub struct LocalMutexLockFuture {
+    slot: Slot,
+    is_ended: bool,
+}
+
+impl Model for LocalMutexLockFuture {
+    ghost use Rattle.fi_parts.specs.Polled.{LocalFuture};
+
+    ghost Value = { LocalFuture };
+
+    ghost view = { λ f. record { name = f.slot.0; has_ended = f.is_ended } };
+}
+
+impl LocalMutexLockFuture {
+    // The future that was just made under this slot.
+    pub(crate) fn at(slot: Slot) -> Self
+        ensures name { result.name ≡ slot.0 }
+        ensures fresh { result.has_ended ≡ false }
+    {
+        LocalMutexLockFuture {
+            slot,
+            is_ended: false,
+        }
+    }
+
+    /// The name of this future in its mutex.
+    pub fn slot(&self) -> Slot
+        ensures { result.0 ≡ self.now.name }
+    {
+        self.slot
+    }
+
+    /// The future was polled to its end. Keeps `FusedFuture::is_terminated`.
+    pub fn is_terminated(&self) -> bool
+        ensures { result ≡ self.now.has_ended }
+    {
+        self.is_ended
+    }
+
+    /// Ready with the guard of the mutex, once it is free for this future; else the future is registered with this waker.
+    ///
+    /// The caller lends the future's own mutex, and polls no future that has ended (`LocalMutex::can_poll`).
+    pub fn poll<T: Drop, W: Drop>(
+        &mut self,
+        mutex: &mut LocalMutex<T, W>,
+        waker: W,
+    ) -> Poll<LocalMutexGuard<T>>
+        requires { can_be_polled (phase_at mutex.old self.old.name) ≡ true }
+        ensures polled { Polls mutex.old self.old.name waker result mutex.new }
+        ensures name { self.new.name ≡ self.old.name }
+        ensures ended { self.new.has_ended ≡ is_ready result }
+        ensures live { is_some (phase_at mutex.new self.old.name) ≡ true }
+        ensures locked { IsLockedIfReady result mutex.new }
+    {
+        let (answer, _leftover) = mutex.try_wait(self.slot, waker);
+        self.is_ended = answer.is_ready();
+        match answer {
+            Poll::Ready(value) => Poll::Ready(LocalMutexGuard::of(value)),
+            Poll::Pending => Poll::Pending,
+        }
+    }
+
+    /// Ends the future, which leaves its mutex. If it was told, the oldest queued future is told in its place. The caller lends
+    /// the future's own mutex.
+    pub fn cancel<T: Drop, W: Drop>(self, mutex: &mut LocalMutex<T, W>)
+        requires { is_some (phase_at mutex.old self.name) ≡ true }
+        ensures cancelled { Cancels mutex.old self.name mutex.new }
+        ensures own { mutex.new.own ≡ mutex.old.own }
+    {
+        let LocalMutexLockFuture { slot, is_ended: _ } = self;
+        mutex.remove_waiter(slot);
+    }
+}

@@ -1,0 +1,74 @@
+//! What a local mutex gives to whoever locks it.
+ghost use Rattle.std.specs.Prelude.{◌≡◌, false, Ok};
+ghost use Rattle.std.specs.Borrow.{Lends, sem};
+ghost use Rattle.fi_locks.specs.Mutex.{is_free, Unlocks, AllStayLive};
+
+use crate::mutex::LocalMutex;
+use std::marker::Model;
+use std::ops::{Deref, DerefMut};
+
+/// Holds a local mutex, with its value. It is spent by `unlock`, with its mutex; it cannot just be let go.
+///
+/// Keeps `GenericMutexGuard` of futures-intrusive's `sync`.
+pub struct LocalMutexGuard<T> {
+    value: T,
+}
+
+impl<T> Model for LocalMutexGuard<T> {
+    ghost Value = { T };
+
+    ghost coded = { T.code };
+
+    ghost view = { λ guard. guard.value };
+}
+
+impl<T> LocalMutexGuard<T> {
+    // The guard of a mutex that was just locked, with its value.
+    pub(crate) fn of(value: T) -> Self
+        ensures { result ≡ value }
+    {
+        LocalMutexGuard { value }
+    }
+}
+
+impl<T: Drop> LocalMutexGuard<T> {
+    /// Puts the value back and unlocks the mutex, whose oldest queued future is told and named to be woken.
+    ///
+    /// The caller lends the guard's own mutex, which is locked. Keeps the drop of `GenericMutexGuard`.
+    pub fn unlock<W: Drop>(self, mutex: &mut LocalMutex<T, W>)
+        requires { is_free mutex.old ≡ false }
+        ensures unlocked { Unlocks mutex.old self (Ok tt) mutex.new }
+        ensures live { AllStayLive mutex.old mutex.new }
+    {
+        let LocalMutexGuard { value } = self;
+        match mutex.unlock(value) {
+            Ok(()) => {}
+            Err(_value) => unreachable!(),
+        }
+    }
+}
+
+impl<T> Deref for LocalMutexGuard<T> {
+    type Target = T;
+
+    ghost deref_gives = { λ guard value. value ≡ guard };
+
+    /// The value of the mutex.
+    fn deref(&self) -> &T {
+        &self.value
+    }
+}
+
+impl<T> DerefMut for LocalMutexGuard<T> {
+    ghost use Rattle.fi_locks.specs.contracts.mutex_guard.LocalMutexGuard.{the_row};
+
+    ghost deref_mut_gives = { λ guard value. value ≡ guard };
+
+    /// The value of the mutex, to be changed: what is written there is what `unlock` puts back.
+    fn deref_mut(&mut self) -> &mut T
+        ensures* writes_back { sem 𝓛 (Lends (the_row T.row) T.row self.entry result (λ value. value)) }
+        ensures shows { result.now ≡ self.old }
+    {
+        &mut self.value
+    }
+}
