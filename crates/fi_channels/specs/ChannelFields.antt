@@ -5,6 +5,7 @@ use Rattle.fi_parts.specs.Buffer.{Bounded}
 use Rattle.fi_parts.specs.Oldest.{asks_of_oldest, complete_oldest, pair_of_oldest}
 use Rattle.fi_parts.specs.declared.phase.Phase.{Phase}
 use Rattle.fi_parts.specs.declared.phase.Phase.TheVariants.{Fresh, Ended}
+use Rattle.fi_channels.specs.declared.channel_fields.ChannelFields.{ChannelFields}
 use Rattle.fi_channels.specs.declared.channel_fields.ReceiveKind.{ReceiveKind}
 use Rattle.fi_channels.specs.declared.channel_fields.ReceiveKind.TheVariants.{Stream}
 use Rattle.fi_channels.specs.Channel.{ChannelMachine, next_value}
@@ -24,6 +25,10 @@ module _ {T W : Type 0} where
   -- the machine of a buffer, the sends and receives, and the flag
   abbrev pub machine : Bounded T → Waiters T W → Bool → ChannelMachine T W
   machine buffer waiters is_open = record { own = record { is_open = is_open; buffer = buffer }; waiting = waiters }
+
+  -- the machine of these fields, whose buffer is seen in this way
+  abbrev pub machine_of : {B : Type 0} → (B → Bounded T) → ChannelFields T B W → ChannelMachine T W
+  machine_of bounded fields = machine (bounded fields.buffer) fields.waiters fields.is_open
 
   -- the oldest send is complete and named, and owns no value, if one waits
   abbrev pub completed : Waiters T W → Waiters T W

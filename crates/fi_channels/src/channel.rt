@@ -41,15 +41,15 @@ pub type LocalUnbufferedChannel<T, W> = LocalChannel<T, 0, W>;
 
 impl<T: Drop, B: RingBuf<Item = T>, W> Model for ChannelState<T, B, W> {
     ghost use Rattle.fi_channels.specs.Channel.{ChannelMachine, channel_code, IsSound, OwesNoWake};
-    ghost use Rattle.fi_channels.specs.ChannelFields.{machine};
+    ghost use Rattle.fi_channels.specs.ChannelFields.{machine_of};
 
     ghost Value = { ChannelMachine T W };
 
     ghost coded = { channel_code T.code W.code };
 
-    ghost view = { λ s. machine (B.bounded s.fields.buffer) s.fields.waiters s.fields.is_open };
+    ghost view = { λ s. machine_of B.bounded s.fields };
 
-    ghost invariant = { λ s. IsSound (machine (B.bounded s.fields.buffer) s.fields.waiters s.fields.is_open) × OwesNoWake (machine (B.bounded s.fields.buffer) s.fields.waiters s.fields.is_open) };
+    ghost invariant = { λ s. IsSound (machine_of B.bounded s.fields) × OwesNoWake (machine_of B.bounded s.fields) };
 }
 
 impl<T: Drop, B: RingBuf<Item = T>, W: Drop> ChannelState<T, B, W> {

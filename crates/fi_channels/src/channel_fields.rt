@@ -5,7 +5,7 @@ ghost use Rattle.fi_parts.specs.Waiting.{phase_of, asks_of};
 ghost use Rattle.fi_parts.specs.declared.phase.Phase.TheVariants.{Fresh};
 ghost use Rattle.fi_channels.specs.Polled.{unused_after};
 ghost use Rattle.fi_channels.specs.Channel.{opened, can_send, can_take, can_receive, can_stream, MakesSend, MakesReceive, PollsSend, displaced_by_send, CancelsSend, PollsReceive, PollsNext, displaced_by_next, CancelsReceive, TriesSend, TriesReceive, Closes, Wakes, IsSound, displaced_send, displaced_receive, value_of};
-ghost use Rattle.fi_channels.specs.ChannelFields.{machine, phase_given, Takes};
+ghost use Rattle.fi_channels.specs.ChannelFields.{machine_of, phase_given, Takes};
 
 use crate::access::Sent;
 use crate::channel_errors::{SendFault, TryReceiveError, TrySendError};
@@ -45,7 +45,7 @@ fn phase_given<W>(kind: Option<ReceiveKind>) -> Phase<W>
 impl<T: Drop, B: RingBuf<Item = T>, W: Drop> ChannelFields<T, B, W> {
     /// An open channel over an empty buffer, which has taken no memory.
     pub fn new(alloc: Global) -> Self
-        ensures { machine (B.bounded result.buffer) result.waiters result.is_open ≡ opened (empty (B.capacity_for 0) 0) }
+        ensures { machine_of B.bounded result ≡ opened (empty (B.capacity_for 0) 0) }
     {
         ChannelFields {
             is_open: true,
@@ -56,7 +56,7 @@ impl<T: Drop, B: RingBuf<Item = T>, W: Drop> ChannelFields<T, B, W> {
 
     /// An open channel over an empty buffer for so many values. Refused only with `NoMemory`.
     pub fn with_capacity(alloc: Global, capacity: usize) -> Result<Self, Fault>
-        ensures opened { IfOk result (λ made. machine (B.bounded made.buffer) made.waiters made.is_open ≡ opened (empty (B.capacity_for capacity) (B.bounded made.buffer).reserved)) }
+        ensures opened { IfOk result (λ made. machine_of B.bounded made ≡ opened (empty (B.capacity_for capacity) (B.bounded made.buffer).reserved)) }
         ensures fits { IfOk result (λ made. Fits (B.bounded made.buffer)) }
         ensures fault { IfErr result (λ fault. fault ≡ Fault.NoMemory) }
     {
@@ -121,8 +121,8 @@ impl<T: Drop, B: RingBuf<Item = T>, W: Drop> ChannelFields<T, B, W> {
 
     /// A fresh send of this value. Refused only for want of memory; then the value comes back and nothing has changed.
     pub fn claim_send(&mut self, value: T) -> Result<Slot, NoRoom<T>>
-        ensures made { IfOk result (λ slot. MakesSend (machine (B.bounded self.old.buffer) self.old.waiters self.old.is_open) value slot.0 (machine (B.bounded self.new.buffer) self.new.waiters self.new.is_open)) }
-        ensures refused { OnErr result (machine (B.bounded self.new.buffer) self.new.waiters self.new.is_open ≡ machine (B.bounded self.old.buffer) self.old.waiters self.old.is_open) }
+        ensures made { IfOk result (λ slot. MakesSend (machine_of B.bounded self.old) value slot.0 (machine_of B.bounded self.new)) }
+        ensures refused { OnErr result (machine_of B.bounded self.new ≡ machine_of B.bounded self.old) }
         ensures handed_back { IfErr result (λ failed. failed.0 ≡ value) }
     {
         let back = match self.waiters.insert_send(Some(value)) {
@@ -134,8 +134,8 @@ impl<T: Drop, B: RingBuf<Item = T>, W: Drop> ChannelFields<T, B, W> {
 
     /// A fresh receive, or stream. Refused only with `NoMemory`; then nothing has changed.
     pub fn claim_receive(&mut self, kind: ReceiveKind) -> Result<Slot, Fault>
-        ensures made { IfOk result (λ slot. MakesReceive (machine (B.bounded self.old.buffer) self.old.waiters self.old.is_open) kind slot.0 (machine (B.bounded self.new.buffer) self.new.waiters self.new.is_open)) }
-        ensures refused { OnErr result (machine (B.bounded self.new.buffer) self.new.waiters self.new.is_open ≡ machine (B.bounded self.old.buffer) self.old.waiters self.old.is_open) }
+        ensures made { IfOk result (λ slot. MakesReceive (machine_of B.bounded self.old) kind slot.0 (machine_of B.bounded self.new)) }
+        ensures refused { OnErr result (machine_of B.bounded self.new ≡ machine_of B.bounded self.old) }
         ensures fault { IfErr result (λ fault. fault ≡ Fault.NoMemory) }
     {
         match self.waiters.insert_receive(kind) {
@@ -146,7 +146,7 @@ impl<T: Drop, B: RingBuf<Item = T>, W: Drop> ChannelFields<T, B, W> {
 
     // Takes the oldest value, and lets the oldest send that waits hand its value on; None if there is no value.
     fn take_next(&mut self) -> Option<T>
-        requires { IsSound (machine (B.bounded self.old.buffer) self.old.waiters self.old.is_open) }
+        requires { IsSound (machine_of B.bounded self.old) }
         ensures taken { Takes (B.bounded self.old.buffer) self.old.waiters result (B.bounded self.new.buffer) self.new.waiters }
         ensures flag { self.new.is_open ≡ self.old.is_open }
     {
@@ -165,8 +165,8 @@ impl<T: Drop, B: RingBuf<Item = T>, W: Drop> ChannelFields<T, B, W> {
 
     /// Takes the oldest value at once, if there is one.
     pub fn try_receive(&mut self) -> Result<T, TryReceiveError>
-        requires { IsSound (machine (B.bounded self.old.buffer) self.old.waiters self.old.is_open) }
-        ensures { TriesReceive (machine (B.bounded self.old.buffer) self.old.waiters self.old.is_open) result (machine (B.bounded self.new.buffer) self.new.waiters self.new.is_open) }
+        requires { IsSound (machine_of B.bounded self.old) }
+        ensures { TriesReceive (machine_of B.bounded self.old) result (machine_of B.bounded self.new) }
     {
         if let Some(value) = self.take_next() {
             return Ok(value);
@@ -179,10 +179,10 @@ impl<T: Drop, B: RingBuf<Item = T>, W: Drop> ChannelFields<T, B, W> {
 
     /// Polls a receive or a stream: it takes the oldest value, or is registered, or ends where none will come.
     pub fn receive_or_register(&mut self, slot: Slot, waker: W) -> (Poll<Option<T>>, Leftover<W>)
-        requires sound { IsSound (machine (B.bounded self.old.buffer) self.old.waiters self.old.is_open) }
+        requires sound { IsSound (machine_of B.bounded self.old) }
         requires live { can_take (phase_of self.old.waiters.receives slot.0) ≡ true }
-        ensures polled { PollsReceive (machine (B.bounded self.old.buffer) self.old.waiters self.old.is_open) slot.0 waker result.0 (machine (B.bounded self.new.buffer) self.new.waiters self.new.is_open) }
-        ensures displaced { result.1.displaced ≡ displaced_receive (machine (B.bounded self.old.buffer) self.old.waiters self.old.is_open) slot.0 }
+        ensures polled { PollsReceive (machine_of B.bounded self.old) slot.0 waker result.0 (machine_of B.bounded self.new) }
+        ensures displaced { result.1.displaced ≡ displaced_receive (machine_of B.bounded self.old) slot.0 }
         ensures unused { result.1.unused ≡ unused_after result.0 waker }
     {
         let named = self.waiters.take_out_receive(slot);
@@ -207,10 +207,10 @@ impl<T: Drop, B: RingBuf<Item = T>, W: Drop> ChannelFields<T, B, W> {
 
     /// Polls a stream: like a receive, but one that has ended has no item ever after.
     pub fn next_or_register(&mut self, slot: Slot, waker: W) -> (Poll<Option<T>>, Leftover<W>)
-        requires sound { IsSound (machine (B.bounded self.old.buffer) self.old.waiters self.old.is_open) }
+        requires sound { IsSound (machine_of B.bounded self.old) }
         requires live { is_some (phase_of self.old.waiters.receives slot.0) ≡ true }
-        ensures polled { PollsNext (machine (B.bounded self.old.buffer) self.old.waiters self.old.is_open) slot.0 waker result.0 (machine (B.bounded self.new.buffer) self.new.waiters self.new.is_open) }
-        ensures displaced { result.1.displaced ≡ displaced_by_next (phase_of self.old.waiters.receives slot.0) (displaced_receive (machine (B.bounded self.old.buffer) self.old.waiters self.old.is_open) slot.0) }
+        ensures polled { PollsNext (machine_of B.bounded self.old) slot.0 waker result.0 (machine_of B.bounded self.new) }
+        ensures displaced { result.1.displaced ≡ displaced_by_next (phase_of self.old.waiters.receives slot.0) (displaced_receive (machine_of B.bounded self.old) slot.0) }
         ensures unused { result.1.unused ≡ unused_after result.0 waker }
     {
         if let Some(Phase::Ended) = self.waiters.receive_phase(slot) {
@@ -221,10 +221,10 @@ impl<T: Drop, B: RingBuf<Item = T>, W: Drop> ChannelFields<T, B, W> {
 
     /// Removes a receive or a stream, and returns the waker that it had. A told one passes its notice on to the oldest.
     pub fn remove_receive_waiter(&mut self, slot: Slot) -> Option<W>
-        requires sound { IsSound (machine (B.bounded self.old.buffer) self.old.waiters self.old.is_open) }
+        requires sound { IsSound (machine_of B.bounded self.old) }
         requires live { is_some (phase_of self.old.waiters.receives slot.0) ≡ true }
-        ensures cancelled { CancelsReceive (machine (B.bounded self.old.buffer) self.old.waiters self.old.is_open) slot.0 (machine (B.bounded self.new.buffer) self.new.waiters self.new.is_open) }
-        ensures displaced { result ≡ displaced_receive (machine (B.bounded self.old.buffer) self.old.waiters self.old.is_open) slot.0 }
+        ensures cancelled { CancelsReceive (machine_of B.bounded self.old) slot.0 (machine_of B.bounded self.new) }
+        ensures displaced { result ≡ displaced_receive (machine_of B.bounded self.old) slot.0 }
     {
         if let Some(Phase::Told) = self.waiters.receive_phase(slot) {
             let (_, waker) = self.waiters.remove_receive(slot);
@@ -238,8 +238,8 @@ impl<T: Drop, B: RingBuf<Item = T>, W: Drop> ChannelFields<T, B, W> {
     /// Sends a value at once, if the channel is open and its buffer has room; tells the oldest receive. Else the value comes back and
     /// nothing has changed.
     pub fn try_send(&mut self, value: T) -> Result<(), TrySendError<T>>
-        requires { IsSound (machine (B.bounded self.old.buffer) self.old.waiters self.old.is_open) }
-        ensures { TriesSend (machine (B.bounded self.old.buffer) self.old.waiters self.old.is_open) value result (machine (B.bounded self.new.buffer) self.new.waiters self.new.is_open) }
+        requires { IsSound (machine_of B.bounded self.old) }
+        ensures { TriesSend (machine_of B.bounded self.old) value result (machine_of B.bounded self.new) }
     {
         if !self.is_open {
             return Err(TrySendError::Closed(value));
@@ -257,10 +257,10 @@ impl<T: Drop, B: RingBuf<Item = T>, W: Drop> ChannelFields<T, B, W> {
     /// Polls a send: its value is stored or waits with it, and the oldest receive is told; a closed channel hands it back. Refused where
     /// memory to store it was: then nothing has changed, and the send still owns its value.
     pub fn send_or_register(&mut self, slot: Slot, waker: W) -> Sent<T, W>
-        requires sound { IsSound (machine (B.bounded self.old.buffer) self.old.waiters self.old.is_open) }
+        requires sound { IsSound (machine_of B.bounded self.old) }
         requires live { can_send (phase_of self.old.waiters.sends slot.0) ≡ true }
-        ensures polled { PollsSend (machine (B.bounded self.old.buffer) self.old.waiters self.old.is_open) slot.0 waker result.0 (machine (B.bounded self.new.buffer) self.new.waiters self.new.is_open) }
-        ensures displaced { result.1.displaced ≡ displaced_by_send result.0 (displaced_send (machine (B.bounded self.old.buffer) self.old.waiters self.old.is_open) slot.0) }
+        ensures polled { PollsSend (machine_of B.bounded self.old) slot.0 waker result.0 (machine_of B.bounded self.new) }
+        ensures displaced { result.1.displaced ≡ displaced_by_send result.0 (displaced_send (machine_of B.bounded self.old) slot.0) }
         ensures unused { result.1.unused ≡ unused_after result.0 waker }
     {
         if let Some(Phase::Fresh) = self.waiters.send_phase(slot) {
@@ -277,10 +277,10 @@ impl<T: Drop, B: RingBuf<Item = T>, W: Drop> ChannelFields<T, B, W> {
 
     // Polls a fresh send.
     fn send_fresh(&mut self, slot: Slot, waker: W) -> Sent<T, W>
-        requires sound { IsSound (machine (B.bounded self.old.buffer) self.old.waiters self.old.is_open) }
+        requires sound { IsSound (machine_of B.bounded self.old) }
         requires fresh { phase_of self.old.waiters.sends slot.0 ≡ Some Fresh }
-        ensures polled { PollsSend (machine (B.bounded self.old.buffer) self.old.waiters self.old.is_open) slot.0 waker result.0 (machine (B.bounded self.new.buffer) self.new.waiters self.new.is_open) }
-        ensures displaced { result.1.displaced ≡ displaced_by_send result.0 (displaced_send (machine (B.bounded self.old.buffer) self.old.waiters self.old.is_open) slot.0) }
+        ensures polled { PollsSend (machine_of B.bounded self.old) slot.0 waker result.0 (machine_of B.bounded self.new) }
+        ensures displaced { result.1.displaced ≡ displaced_by_send result.0 (displaced_send (machine_of B.bounded self.old) slot.0) }
         ensures unused { result.1.unused ≡ unused_after result.0 waker }
     {
         if !self.is_open {
@@ -315,16 +315,16 @@ impl<T: Drop, B: RingBuf<Item = T>, W: Drop> ChannelFields<T, B, W> {
     /// Removes a send. Returns the value that it still owned, and the waker that it had.
     pub fn remove_send_waiter(&mut self, slot: Slot) -> (Option<T>, Option<W>)
         requires { is_some (phase_of self.old.waiters.sends slot.0) ≡ true }
-        ensures cancelled { CancelsSend (machine (B.bounded self.old.buffer) self.old.waiters self.old.is_open) slot.0 result.0 (machine (B.bounded self.new.buffer) self.new.waiters self.new.is_open) }
-        ensures displaced { result.1 ≡ displaced_send (machine (B.bounded self.old.buffer) self.old.waiters self.old.is_open) slot.0 }
+        ensures cancelled { CancelsSend (machine_of B.bounded self.old) slot.0 result.0 (machine_of B.bounded self.new) }
+        ensures displaced { result.1 ≡ displaced_send (machine_of B.bounded self.old) slot.0 }
     {
         self.waiters.remove_send(slot)
     }
 
     /// Closes the channel, if it is open: names all receives that wait and then all sends.
     pub fn close(&mut self) -> CloseStatus
-        requires { IsSound (machine (B.bounded self.old.buffer) self.old.waiters self.old.is_open) }
-        ensures { Closes (machine (B.bounded self.old.buffer) self.old.waiters self.old.is_open) result (machine (B.bounded self.new.buffer) self.new.waiters self.new.is_open) }
+        requires { IsSound (machine_of B.bounded self.old) }
+        ensures { Closes (machine_of B.bounded self.old) result (machine_of B.bounded self.new) }
     {
         if !self.is_open {
             return CloseStatus::AlreadyClosed;
@@ -337,7 +337,7 @@ impl<T: Drop, B: RingBuf<Item = T>, W: Drop> ChannelFields<T, B, W> {
 
     /// The oldest waker to be woken.
     pub fn next_wake(&mut self) -> Option<W>
-        ensures { Wakes (machine (B.bounded self.old.buffer) self.old.waiters self.old.is_open) result (machine (B.bounded self.new.buffer) self.new.waiters self.new.is_open) }
+        ensures { Wakes (machine_of B.bounded self.old) result (machine_of B.bounded self.new) }
     {
         self.waiters.next_wake()
     }
