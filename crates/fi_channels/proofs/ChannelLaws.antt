@@ -1,0 +1,758 @@
+-- Each call on a channel is a line of its table, and keeps a channel sound that owes no wake.
+use Rattle.std.proofs.Common.{◌≡◌, ◌≤◌, ◌+◌, ℕ, suc, not, nat_lt, eqb, cond, drop, ◌⊎◌, Bool, true, false, List, [], ◌∷◌, ◌++◌, Option, Some, None, is_some, Result, Ok, Err}
+use Rattle.std.proofs.Common.{length, length-append, refl, sym, ap, subst, ◌∙◌, inl, inr, arith}
+use Rattle.std.proofs.lemmas.Bool.{both_ways, cases_eq}
+use Rattle.std.specs.Option.{option_flatten}
+use Rattle.futures.specs.declared.task.Poll.{Poll}
+use Rattle.futures.specs.declared.task.Poll.TheVariants.{Ready, Pending}
+use Rattle.fi_parts.specs.declared.errors.CloseStatus.{CloseStatus}
+use Rattle.fi_parts.specs.declared.phase.Notice.TheVariants.{Renew}
+use Rattle.fi_parts.specs.declared.phase.Phase.{Phase}
+use Rattle.fi_parts.specs.declared.phase.Phase.TheVariants.{Fresh, Registered, Told, Complete, Ended}
+use Rattle.fi_parts.specs.Buffer.{Bounded, Fits, pushed, popped}
+use Rattle.fi_parts.specs.Effects.{completes_first}
+use Rattle.fi_parts.specs.Effects.WaiterEffect.{NoChange, Inserts, Registers, KeepsWaiting, Ends, Removes, NotifiesAll}
+use Rattle.fi_parts.specs.Machine.{AllowsEffect, waker_effect, poll_effect}
+use Rattle.fi_parts.specs.Oldest.{complete_first, complete_oldest, pop_oldest, asks_of_first, asks_of_oldest}
+use Rattle.fi_parts.specs.Order.{without}
+use Rattle.fi_parts.specs.Pairs.{without_pair}
+use Rattle.fi_parts.specs.Places.{registered_rule, is_told}
+use Rattle.fi_parts.specs.WakerHistory.{WakerEffect, gives}
+use Rattle.fi_parts.specs.WakerHistory.WakerEffect.{Pends, Leaves, NoEffect}
+use Rattle.fi_parts.specs.Waiting.{asks_in}
+use Rattle.fi_parts.proofs.FiniteMaps.{get-insert_same}
+use Rattle.fi_parts.specs.Waiting.{Side, Waiting, phase_of, phase_in, asks_of, is_registered, made, registered, stays, ended, forgotten, exchange, emptied, noticed, IsOrdered}
+use Rattle.fi_parts.proofs.Effects.{some_phase, registered_as}
+use Rattle.fi_parts.proofs.Oldest.{phase-with_asks}
+use Rattle.fi_parts.proofs.PairsWithin.{none_some, some_same}
+use Rattle.fi_parts.proofs.Sound.{none_registered, sound-forgotten}
+use Rattle.fi_parts.proofs.Waiting.{asks-with_phase}
+use Rattle.fi_parts.proofs.Waiting.{Becomes, noticed_phase, becomes-made, becomes-with_phase, becomes-forgotten, phase-emptied, lives_as, live_if_registered, first_registered}
+use Rattle.fi_channels.specs.declared.channel_errors.SendFault.{SendFault}
+use Rattle.fi_channels.specs.declared.channel_errors.SendFault.TheVariants as send_fault
+use Rattle.fi_channels.specs.declared.channel_errors.TryReceiveError.{TryReceiveError}
+use Rattle.fi_channels.specs.declared.channel_errors.TrySendError.{TrySendError}
+use Rattle.fi_channels.specs.declared.channel_errors.TrySendError.TheVariants as not_sent
+use Rattle.fi_channels.specs.declared.channel_fields.ReceiveKind.{ReceiveKind}
+use Rattle.fi_channels.specs.declared.channel_fields.ReceiveKind.TheVariants.{Single, Stream}
+use Rattle.fi_channels.specs.Channel.{ChannelMachine, Buffered, AreTold, rules, is_send_phase, is_receive_phase, owns_value, has_room, Stores}
+use Rattle.fi_channels.specs.Channel.{next_value, next_of, value_count, send_phase, receive_phase, value_of, kind_of, opened}
+use Rattle.fi_channels.specs.Channel.{finishes, is_given, tells_oldest, completes_oldest, MakesSend, MakesReceive, FreshSends, SendsAs, PollsSend}
+use Rattle.fi_channels.specs.Channel.{can_send, can_stream}
+use Rattle.fi_channels.specs.Channel.{CancelsSend, TakesNext, ReceivesAs, PollsReceive, StreamsAs, PollsNext, CancelsReceiveAs, CancelsReceive}
+use Rattle.fi_channels.specs.Channel.{TriesSend, TriesNext, TriesReceive, ClosesAt, Closes, Wakes, IsSound, OwesNoWake}
+use Rattle.fi_channels.specs.declared.two_sides.Waiter.{Waiter}
+use Rattle.fi_channels.specs.declared.two_sides.Waiter.TheVariants.{Send, Receive}
+use Rattle.fi_channels.specs.TwoSidedEffects.{TwoSidedEffect, TakesOn, AllowsTwoSided, on_sends, on_receives}
+use Rattle.fi_channels.specs.TwoSidedEffects.TwoSidedEffect.{OnSends, OnReceives, PopsFirst, Then}
+use Rattle.fi_channels.specs.ChannelFields.{Waiters}
+use Rattle.fi_channels.specs.TwoSidedMachine.{TwoSidedLine, TwoSidedStep}
+use Rattle.fi_channels.specs.Waiter.{same_waiter, sends_in, receives_in}
+use Rattle.std.specs.Ordering.{nat_cmp}
+use Rattle.std.specs.FinMap as map
+use Rattle.fi_channels.proofs.OwnedValues.{Owned, OwnedAt, owned-made, owned-with_phase, owned-finished, owned-forgotten, owned-emptied, owned-completed}
+use Rattle.fi_channels.proofs.ToldReceives.{Enough, none_told, enough_fewer, enough_but, enough_beside, oldest_enough, passed_on}
+use Rattle.fi_channels.proofs.TwoSidedMachines.{two_sided_initial, two_sided_line, two_sided_line_sound}
+
+-- what a poll of a send with this answer is to the wakers of sends: a refusal leaves them as they are
+abbrev pub sent_effect : {T W : Type 0} → ℕ → W → Poll (Result (Unit {0}) (SendFault T)) → WakerEffect W
+sent_effect name waker Pending = Pends name waker
+sent_effect name waker (Ready (Err (send_fault.Fault fault))) = NoEffect
+sent_effect name waker (Ready answer) = Leaves name
+
+-- Whoever sends and waits finds the channel open and its buffer full.
+abbrev Waits : {T W : Type 0} → Buffered T → Side (Option T) W → Type 0
+Waits own sends = (name : ℕ) → is_registered (phase_of sends name) ≡ true → (own.is_open ≡ true) × (has_room own ≡ false)
+
+-- What holds of a buffer, the sends and the receives, beside the order of the queues and of out.
+record Keeps {T W : Type 0} (own : Buffered T) (sending : Side (Option T) W) (receiving : Side ReceiveKind W) : Type 0 where
+  owned : Owned sending
+  buffer : Fits own.buffer
+  told : Enough receiving (length own.buffer.items + length sending.queue)
+  waits : Waits own sending
+
+-- The oldest of this queue owns this value; None if the queue is empty.
+abbrev Fronts : {T : Type 0} → List ℕ → Option T → Type 0
+Fronts [] asks = asks ≡ None
+Fronts {T} (name ∷ others) asks = (value : T) × (asks ≡ Some value)
+
+shorter : (name : ℕ) (names : List ℕ) → length (without name names) ≤ length names
+shorter name [] = omega arith
+shorter name (other ∷ names) = each (shorter name names) (eqb name other)
+  where
+    each : length (without name names) ≤ length names → (b : Bool) →
+        length (cond (not b) (other ∷ without name names) (without name names)) ≤ suc (length names)
+    each rest true = omega (arith, rest)
+    each rest false = omega (arith, rest)
+
+unregistered_fresh : {W : Type 0} (phase : Option (Phase W)) → is_registered (noticed_phase Fresh phase) ≡ false
+unregistered_fresh None = refl
+unregistered_fresh (Some Fresh) = refl
+unregistered_fresh (Some (Registered waker)) = refl
+unregistered_fresh (Some Told) = refl
+unregistered_fresh (Some Complete) = refl
+unregistered_fresh (Some Ended) = refl
+
+module _ {W : Type 0} where
+  given_allowed : (waiting : Waiting ReceiveKind W) (kind : Option ReceiveKind) (name : ℕ) → AllowsEffect registered_rule is_receive_phase waiting
+      (is_given kind name)
+  given_allowed waiting None name = tt
+  given_allowed waiting (Some Single) name = tt
+  given_allowed waiting (Some Stream) name = tt
+
+  given_leaves : (kind : Option ReceiveKind) (name : ℕ) → waker_effect {D = ReceiveKind} {W = W} (is_given kind name) ≡ Leaves name
+  given_leaves None name = refl
+  given_leaves (Some Single) name = refl
+  given_leaves (Some Stream) name = refl
+
+  -- what was given an item
+  given_becomes : (kind : Option ReceiveKind) (old new : Side ReceiveKind W) (name : ℕ) (out after : List (Waiter × W)) →
+      TakesOn Receive same_waiter (is_given kind name) old out new after → (phase : Phase W) × (is_registered (Some phase) ≡ false)
+      × Becomes old new name (Some phase) × (asks_of new name ≡ asks_of old name)
+  given_becomes None old new name out after did =
+      let p = some_phase (phase_of old name) did.0 in (
+        Ended,
+        refl,
+        subst (λ (s : Side ReceiveKind W). Becomes old s name (Some Ended)) (sym did.1)
+            (becomes-with_phase old name Ended old.queue (lives_as old name p.0 p.1)),
+        ap (λ (s : Side ReceiveKind W). asks_of s name) did.1 ∙ asks-with_phase old.live name Ended name,
+      )
+  given_becomes (Some Single) old new name out after did =
+      let p = some_phase (phase_of old name) did.0 in (
+        Ended,
+        refl,
+        subst (λ (s : Side ReceiveKind W). Becomes old s name (Some Ended)) (sym did.1)
+            (becomes-with_phase old name Ended old.queue (lives_as old name p.0 p.1)),
+        ap (λ (s : Side ReceiveKind W). asks_of s name) did.1 ∙ asks-with_phase old.live name Ended name,
+      )
+  given_becomes (Some Stream) old new name out after did =
+      let p = some_phase (phase_of old name) did.0 in (
+        Fresh,
+        refl,
+        subst (λ (s : Side ReceiveKind W). Becomes old s name (Some Fresh)) (sym did.1)
+            (becomes-with_phase old name Fresh old.queue (lives_as old name p.0 p.1)),
+        ap (λ (s : Side ReceiveKind W). asks_of s name) did.1 ∙ asks-with_phase old.live name Fresh name,
+      )
+
+  -- a receive of another phase than this is not told
+  untold : (phase : Option (Phase W)) → is_told phase ≡ false → phase ≡ Some Told → ⊥
+  untold phase off is = both_ways _ off (ap is_told is)
+
+  registered_untold : (phase : Option (Phase W)) → is_registered phase ≡ true → is_told phase ≡ false
+  registered_untold None is = refl
+  registered_untold (Some Fresh) is = refl
+  registered_untold (Some (Registered waker)) is = refl
+  registered_untold (Some Told) is = absurd (both_ways false refl is)
+  registered_untold (Some Complete) is = refl
+  registered_untold (Some Ended) is = refl
+
+module _ {D W : Type 0} where
+  -- one name changed, and is not registered
+  not_joined : (old new : Side D W) (name : ℕ) (phase : Option (Phase W)) → Becomes old new name phase → is_registered phase ≡ false →
+      (q : ℕ) → is_registered (phase_of new q) ≡ true → is_registered (phase_of old q) ≡ true
+  not_joined old new name phase becomes off q now = elim (cases_eq q name) [
+    | inl same ↦ absurd (both_ways _ off (ap is_registered (sym becomes.here) ∙ ap (λ k. is_registered (phase_of new k)) (sym same) ∙ now))
+    | inr ne ↦ ap is_registered (sym (becomes.others q ne)) ∙ now
+  ]
+
+  -- one that was registered already changed
+  joined_before : (old new : Side D W) (name : ℕ) (phase : Option (Phase W)) → Becomes old new name phase → is_registered (phase_of old name) ≡ true →
+      (q : ℕ) → is_registered (phase_of new q) ≡ true → is_registered (phase_of old q) ≡ true
+  joined_before old new name phase becomes was q now = elim (cases_eq q name) [
+    | inl same ↦ ap (λ k. is_registered (phase_of old k)) same ∙ was
+    | inr ne ↦ ap is_registered (sym (becomes.others q ne)) ∙ now
+  ]
+
+module _ {T : Type 0} where
+  -- What is left where the next value was taken.
+  left_over : (own : Buffered T) (items : List T) (queue : List ℕ) (asks : Option T) (next : T × Bounded T) → own.buffer.items ≡ items →
+      Fits own.buffer → Fronts queue asks → next_value own.buffer items asks ≡ Some next → Fits next.1
+      × (length items + length queue ≡ suc (length next.1.items + length (drop 1 queue)))
+      × ((queue ≡ []) ⊎ (has_room (record own { buffer = next.1 }) ≡ has_room own))
+  left_over own [] [] asks next is fits fronts took =
+      absurd (none_some next (sym (ap (next_value own.buffer []) fronts) ∙ took))
+  left_over own [] (n ∷ others) asks next is fits fronts took =
+      let same : (fronts.0, own.buffer) ≡ next = some_same _ _ (sym (ap (next_value own.buffer []) fronts.1) ∙ took) in
+      let none : length own.buffer.items ≡ 0 = ap length is in
+      subst (λ (n2 : T × Bounded T). Fits n2.1 × (0 + suc (length others) ≡ suc (length n2.1.items + length others))
+      × (((n ∷ others) ≡ []) ⊎ (has_room (record own { buffer = n2.1 }) ≡ has_room own))) same
+      (fits, omega (arith, none), inr refl)
+  left_over own (value ∷ left) [] asks next is fits fronts took =
+      let same : (value, popped own.buffer left) ≡ next = some_same _ _ (sym (ap (next_value own.buffer (value ∷ left)) fronts) ∙ took) in
+      let many : length own.buffer.items ≡ suc (length left) = ap length is in
+      let less = fits.0 in
+      subst (λ (n2 : T × Bounded T). Fits n2.1 × (suc (length left) + 0 ≡ suc (length n2.1.items + 0))
+      × ((◌≡◌ {A = List ℕ} [] []) ⊎ (has_room (record own { buffer = n2.1 }) ≡ has_room own))) same
+      ((omega (arith, many, less), fits.1), omega arith, inl refl)
+  left_over own (value ∷ left) (n ∷ others) asks next is fits fronts took =
+      let after = pushed (popped own.buffer left) fronts.0 own.buffer.reserved in
+      let same : (value, after) ≡ next = some_same _ _ (sym (ap (next_value own.buffer (value ∷ left)) fronts.1) ∙ took) in
+      let many : length own.buffer.items ≡ suc (length left) = ap length is in
+      let pushes : length (left ++ fronts.0 ∷ []) ≡ length left + 1 = length-append left (fronts.0 ∷ []) in
+      let still : length (left ++ fronts.0 ∷ []) ≡ length own.buffer.items = omega (arith, many, pushes) in
+      let less = fits.0 in
+      subst (λ (n2 : T × Bounded T). Fits n2.1 × (suc (length left) + suc (length others) ≡ suc (length n2.1.items + length others))
+      × (((n ∷ others) ≡ []) ⊎ (has_room (record own { buffer = n2.1 }) ≡ has_room own))) same
+      ((omega (arith, still, less), fits.1), omega (arith, pushes), inr (ap (λ m. nat_lt m own.buffer.capacity) still))
+
+  -- Where there is no next value there is none at all.
+  nothing_left : (buffer : Bounded T) (items : List T) (queue : List ℕ) (asks : Option T) → Fronts queue asks →
+      next_value buffer items asks ≡ None → length items + length queue ≡ 0
+  nothing_left buffer [] [] asks fronts none = refl
+  nothing_left buffer [] (n ∷ others) asks fronts none =
+      absurd (none_some _ (sym none ∙ ap (next_value buffer []) fronts.1))
+  nothing_left buffer (value ∷ left) queue asks fronts none = absurd (none_some _ (sym none))
+
+completing_quiet : (T W : Type 0) (queue : List ℕ) → ◌≡◌ {A = WakerEffect W} (waker_effect (completes_first {D = Option T} None queue)) NoEffect
+completing_quiet T W [] = refl
+completing_quiet T W (name ∷ others) = refl
+
+module _ {T W : Type 0} where
+  -- What the effects of the channel's table may do.
+  completing_allowed : (waiting : Waiting (Option T) W) (queue : List ℕ) → AllowsEffect registered_rule is_send_phase waiting
+      (completes_first None queue)
+  completing_allowed waiting [] = tt
+  completing_allowed waiting (name ∷ others) = refl
+
+  completes : (queue : List ℕ) (side new : Side (Option T) W) (out after : List (Waiter × W)) → side.queue ≡ queue →
+      TakesOn Send same_waiter (completes_first None queue) side out new after → new ≡ complete_first None side queue
+  completes [] side new out after is did = did.0
+  completes (name ∷ others) side new out after is did =
+      did.3 ∙ ap (λ (names : List ℕ). noticed Complete (exchange side name None) name names) (ap (drop 1) (sym did.1 ∙ is))
+
+  rest_of : (queue : List ℕ) (side : Side (Option T) W) → side.queue ≡ queue → (complete_first None side queue).queue ≡ drop 1 queue
+  rest_of [] side is = is
+  rest_of (name ∷ others) side is = refl
+
+  -- who is registered once the oldest completed was so before
+  completed_before : (queue : List ℕ) (side : Side (Option T) W) (out : List (ℕ × W)) → IsOrdered side out → side.queue ≡ queue → (q : ℕ) →
+      is_registered (phase_of (complete_first None side queue) q) ≡ true → is_registered (phase_of side q) ≡ true
+  completed_before [] side out ordered is q now = now
+  completed_before (name ∷ others) side out ordered is q now =
+      let asked = exchange side name None in
+      let first = first_registered side out name others ordered is in
+      let becomes = becomes-with_phase asked name Complete others
+      (live_if_registered asked name (ap is_registered (phase-with_asks side.live name None name) ∙ first)) in
+      ap is_registered (sym (phase-with_asks side.live name None q))
+      ∙ not_joined asked (complete_first None side (name ∷ others)) name (Some Complete) becomes refl q now
+
+  abbrev pub Holds : ChannelMachine T W → Type 0
+  Holds state = IsSound state × OwesNoWake state
+
+  -- the oldest waiting send owns a value
+  fronts_of : (state : ChannelMachine T W) → Holds state → (queue : List ℕ) → state.waiting.sends.queue ≡ queue →
+      Fronts queue (option_flatten (asks_of_first state.waiting.sends queue))
+  fronts_of state was [] is = refl
+  fronts_of state was (name ∷ others) is =
+      let waker = registered_as (phase_of state.waiting.sends name)
+      (first_registered state.waiting.sends (sends_in state.waiting.out) name others was.0.waiters.sends.ordered is) in
+      some_is (option_flatten (asks_of state.waiting.sends name)) (was.0.owned name ∙ ap owns_value waker.1)
+    where
+      some_is : (asks : Option T) → is_some asks ≡ true → (value : T) × (asks ≡ Some value)
+      some_is None is = absurd (both_ways false refl is)
+      some_is (Some value) is = (value, refl)
+
+  module _ (old new : ChannelMachine T W) where
+    abbrev Was : Type 0
+    Was = Keeps old.own old.waiting.sends old.waiting.receives
+
+    keeps_of : Holds old → Was
+    keeps_of was = record { owned = was.0.owned; buffer = was.0.buffer; told = was.1.receives; waits = was.1.sends }
+
+    abbrev Now : Type 0
+    Now = Keeps new.own new.waiting.sends new.waiting.receives
+
+    keeps_at : (own : Buffered T) (sending : Side (Option T) W) (receiving : Side ReceiveKind W) → new.own ≡ own →
+        new.waiting.sends ≡ sending → new.waiting.receives ≡ receiving → Keeps own sending receiving → Now
+    keeps_at own sending receiving owns sent received keeps =
+        subst (λ (o : Buffered T). Keeps o new.waiting.sends new.waiting.receives) (sym owns)
+        (subst (λ (s : Side (Option T) W). Keeps own s new.waiting.receives) (sym sent)
+        (subst (λ (r : Side ReceiveKind W). Keeps own sending r) (sym received) keeps))
+
+    -- The call is a line of the table, and what held holds afterwards.
+    abbrev pub Goes : (on_send on_receive : WakerEffect W) → Type 0
+    Goes on_send on_receive = TwoSidedLine rules on_send on_receive old new × Holds new
+
+    goes : (own : Buffered T) (effect : TwoSidedEffect (Option T) ReceiveKind W) → TwoSidedStep old own effect new →
+        AllowsTwoSided is_send_phase is_receive_phase old.waiting effect → Holds old → Now → Goes (on_sends effect) (on_receives effect)
+    goes own effect steps allows was keeps =
+        let line = two_sided_line rules own effect old new steps allows in (
+          line,
+          (
+            record { waiters = two_sided_line_sound rules old new line was.0.waiters; owned = keeps.owned; buffer = keeps.buffer },
+            record { receives = keeps.told; sends = keeps.waits },
+          ),
+        )
+
+    pub unchanged : new ≡ old → Holds old → Goes NoEffect NoEffect
+    unchanged same was = (
+      two_sided_line rules old.own (OnSends NoChange) old new (
+        ap (λ (m : ChannelMachine T W). m.own) same,
+        (
+          (
+            ap (λ (m : ChannelMachine T W). m.waiting.sends) same,
+            ap (λ (m : ChannelMachine T W). m.waiting.out) same,
+          ),
+          ap (λ (m : ChannelMachine T W). m.waiting.receives) same,
+        ),
+      ) tt,
+      subst Holds (sym same) was,
+    )
+
+    -- The sends changed alone, and nobody joined those who wait.
+    sends_alone : (sending : Side (Option T) W) → Was → Owned sending → length sending.queue ≤ length old.waiting.sends.queue →
+        ((q : ℕ) → is_registered (phase_of sending q) ≡ true → is_registered (send_phase old q) ≡ true) →
+        Keeps old.own sending old.waiting.receives
+    sends_alone sending was owned fewer joined = record {
+      owned = owned;
+      buffer = was.buffer;
+      told = enough_fewer old.waiting.receives (length old.own.buffer.items + length sending.queue) (value_count old) (omega (arith, fewer)) was.told;
+      waits = λ q now. was.waits q (joined q now);
+    }
+
+    -- One receive changed alone, and did not join those who wait.
+    receives_alone : (receiving : Side ReceiveKind W) (name : ℕ) (phase : Option (Phase W)) → Was → Becomes old.waiting.receives receiving name phase →
+        is_told (receive_phase old name) ≡ false →
+        ((q : ℕ) → is_registered (phase_of receiving q) ≡ true → is_registered (receive_phase old q) ≡ true) →
+        Keeps old.own old.waiting.sends receiving
+    receives_alone receiving name phase was becomes off joined = record {
+      owned = was.owned;
+      buffer = was.buffer;
+      told = λ q now. enough_beside old.waiting.receives receiving name (value_count old) becomes.others
+          (untold (receive_phase old name) off) (was.told q (joined q now));
+      waits = was.waits;
+    }
+
+    pub makes_send : (value : T) (name : ℕ) → MakesSend old value name new → Holds old → Goes (Leaves name) NoEffect
+    makes_send value name did was =
+        let side = old.waiting.sends in
+        let becomes = becomes-made side name (Some value) in
+        goes old.own (OnSends (Inserts name (Some value))) did tt was
+        (keeps_at old.own (made side name (Some value)) old.waiting.receives did.0 did.1.0.1 did.1.1
+        (sends_alone (made side name (Some value)) (keeps_of was) (owned-made side name value was.0.owned) (omega arith)
+        (not_joined side (made side name (Some value)) name (Some Fresh) becomes refl)))
+
+    pub makes_receive : (kind : ReceiveKind) (name : ℕ) → MakesReceive old kind name new → Holds old → Goes NoEffect (Leaves name)
+    makes_receive kind name did was =
+        let side = old.waiting.receives in
+        let becomes = becomes-made side name kind in
+        goes old.own (OnReceives (Inserts name kind)) did tt was
+        (keeps_at old.own old.waiting.sends (made side name kind) did.0 did.1.1 did.1.0.1
+        (receives_alone (made side name kind) name (Some Fresh) (keeps_of was) becomes (ap is_told did.1.0.0)
+        (not_joined side (made side name kind) name (Some Fresh) becomes refl)))
+
+    pub cancels_send : (name : ℕ) (answer : Option T) → CancelsSend old name answer new → Holds old → Goes (Leaves name) NoEffect
+    cancels_send name answer did was =
+        let side = old.waiting.sends in
+        goes old.own (OnSends (Removes name)) did.1 tt was
+        (keeps_at old.own (forgotten side name) old.waiting.receives did.1.0 did.1.1.0.1 did.1.1.1
+        (sends_alone (forgotten side name) (keeps_of was) (owned-forgotten side name was.0.owned) (shorter name side.queue)
+        (not_joined side (forgotten side name) name None (becomes-forgotten side name) refl)))
+
+    pub wakes : (answer : Option W) → Wakes old answer new → Holds old → Goes (gives answer) (gives answer)
+    wakes answer did was =
+        goes old.own (PopsFirst answer) did tt was
+        (keeps_at old.own old.waiting.sends old.waiting.receives did.0 (ap (λ (m : Waiters T W). m.sends) did.1.1)
+        (ap (λ (m : Waiters T W). m.receives) did.1.1) (keeps_of was))
+
+    line_closes : (status : CloseStatus) (is_open : Bool) → ClosesAt is_open old status new → Holds old → Goes NoEffect NoEffect
+    line_closes status false did was = unchanged did.1 was
+    line_closes status true did was =
+        let step = did.1 in
+        let mid = step.1.0 in
+        let sides = old.waiting in
+        let nobody = λ (q : ℕ). unregistered_fresh (phase_of sides.receives q) in
+        goes (record old.own { is_open = false }) (Then (OnReceives (NotifiesAll Renew)) (OnSends (NotifiesAll Renew))) step
+        (refl, λ m did2. refl, refl, refl) was
+        (keeps_at (record old.own { is_open = false }) (emptied Fresh sides.sends) (emptied Fresh sides.receives) step.0
+        (step.1.2.0.0 ∙ ap (emptied Fresh) step.1.1.1) (step.1.2.1 ∙ step.1.1.0.0) (record {
+          owned = owned-emptied sides.sends (sends_in sides.out) was.0.waiters.sends.ordered was.0.owned;
+          buffer = was.0.buffer;
+          told = λ q now. absurd (both_ways _ (ap is_registered (phase-emptied Fresh sides.receives (receives_in sides.out) q
+              was.0.waiters.receives.ordered) ∙ unregistered_fresh (phase_of sides.receives q)) now);
+          waits = λ q now. absurd (both_ways _ (ap is_registered (phase-emptied Fresh sides.sends (sends_in sides.out) q
+              was.0.waiters.sends.ordered) ∙ unregistered_fresh (phase_of sides.sends q)) now);
+        }))
+
+    pub closes : (status : CloseStatus) → Closes old status new → Holds old → Goes NoEffect NoEffect
+    closes status did was = line_closes status old.own.is_open did was
+
+    -- One value more, and the oldest receive was told.
+    told_one_more : (own : Buffered T) (sending : Side (Option T) W) → Holds old → Owned sending → Fits own.buffer →
+        length own.buffer.items + length sending.queue ≡ suc (value_count old) → Waits own sending →
+        Keeps own sending (pop_oldest Told old.waiting.receives)
+    told_one_more own sending was owned fits more waits = record {
+      owned = owned;
+      buffer = fits;
+      told = enough_fewer (pop_oldest Told old.waiting.receives) _ (suc (value_count old)) (omega (arith, more))
+          (oldest_enough old.waiting.receives (receives_in old.waiting.out) (value_count old) was.0.waiters.receives was.1.receives);
+      waits = waits;
+    }
+
+    stored_more : (own : Buffered T) (value : T) (queue : List ℕ) → Stores old.own value own →
+        length own.buffer.items + length queue ≡ suc (length old.own.buffer.items + length queue)
+    stored_more own value queue stores =
+        let many : length own.buffer.items ≡ length (old.own.buffer.items ++ value ∷ []) =
+        ap (λ (o : Buffered T). length o.buffer.items) stores.4 in
+        let one : length (old.own.buffer.items ++ value ∷ []) ≡ length old.own.buffer.items + 1 = length-append old.own.buffer.items (value ∷ []) in
+        omega (arith, many, one)
+
+    stored_fits : (own : Buffered T) (value : T) → Stores old.own value own → Fits own.buffer
+    stored_fits own value stores = subst (λ (o : Buffered T). Fits o.buffer) (sym stores.4) stores.2
+
+    pub tries_send : (value : T) (answer : Result (Unit {0}) (TrySendError T)) → TriesSend old value answer new → Holds old → Goes NoEffect NoEffect
+    tries_send value (Err (not_sent.Closed back)) did was = unchanged did.2 was
+    tries_send value (Err (not_sent.Full back)) did was = unchanged did.3 was
+    tries_send value (Err (not_sent.NoMemory back)) did was = unchanged did.2 was
+    tries_send value (Ok done) did was =
+        let own = did.2 in
+        let step = did.4 in
+        goes own tells_oldest step refl was
+        (keeps_at own old.waiting.sends (pop_oldest Told old.waiting.receives) step.0 step.1.1 step.1.0.0
+        (told_one_more own old.waiting.sends was was.0.owned (stored_fits own value did.3) (stored_more own value old.waiting.sends.queue did.3)
+        (λ q now. absurd (both_ways _ (was.1.sends q now).1 did.1))))
+
+    -- The oldest send completed, and the next value is gone.
+    abbrev completed_side : Side (Option T) W
+    completed_side = complete_oldest None old.waiting.sends
+
+    taken_keeps : (next : T × Bounded T) (receiving : Side ReceiveKind W) → next_of old ≡ Some next → Holds old →
+        ((n : ℕ) → value_count old ≡ suc n → Enough receiving n) → Keeps (record old.own { buffer = next.1 }) completed_side receiving
+    taken_keeps next receiving took was enough =
+        let side = old.waiting.sends in
+        let ordered = was.0.waiters.sends.ordered in
+        let left = left_over old.own old.own.buffer.items side.queue (option_flatten (asks_of_oldest side)) next refl was.0.buffer
+        (fronts_of old was side.queue refl) took in
+        let rest : length completed_side.queue ≡ length (drop 1 side.queue) = ap length (rest_of side.queue side refl) in
+        let count = left.1 in
+        record {
+          owned = owned-completed side (sends_in old.waiting.out) ordered was.0.owned;
+          buffer = left.0;
+          told = enough (length next.1.items + length completed_side.queue) (omega (arith, count, rest));
+          waits = λ q now.
+              let before = completed_before side.queue side (sends_in old.waiting.out) ordered refl q now in
+              let full = was.1.sends q before in (
+                full.0,
+                elim left.2 [
+                  | inl empty ↦ absurd (none_registered is_send_phase side (sends_in old.waiting.out) was.0.waiters.sends empty q before)
+                  | inr same ↦ same ∙ full.1
+                ],
+              );
+        }
+
+    line_tries : (next : Option (T × Bounded T)) (is_open : Bool) (answer : Result T TryReceiveError) → next_of old ≡ next →
+        TriesNext next is_open old answer new → Holds old → Goes NoEffect NoEffect
+    line_tries None true answer is did was = unchanged did.1 was
+    line_tries None false answer is did was = unchanged did.1 was
+    line_tries (Some next) is_open answer is did was =
+        let step = did.1 in
+        let queue = old.waiting.sends.queue in
+        subst (λ (e : WakerEffect W). Goes e NoEffect) (completing_quiet T W queue)
+        (goes (record old.own { buffer = next.1 }) (completes_oldest old) step (completing_allowed _ queue) was
+        (keeps_at (record old.own { buffer = next.1 }) completed_side old.waiting.receives step.0
+        (completes queue old.waiting.sends new.waiting.sends old.waiting.out new.waiting.out refl step.1.0) step.1.1
+        (taken_keeps next old.waiting.receives is was
+        (λ n count. enough_fewer old.waiting.receives n (value_count old) (omega (arith, count)) was.1.receives))))
+
+    pub tries_receive : (answer : Result T TryReceiveError) → TriesReceive old answer new → Holds old → Goes NoEffect NoEffect
+    tries_receive answer did was = line_tries (next_of old) old.own.is_open answer refl did was
+
+    -- a told receive that is cancelled passes its notice on
+    line_cancels : (phase : Option (Phase W)) (name : ℕ) → receive_phase old name ≡ phase → is_told phase ≡ false →
+        TwoSidedStep old old.own (OnReceives (Removes name)) new → Holds old → Goes NoEffect (Leaves name)
+    line_cancels phase name is off step was =
+        let side = old.waiting.receives in
+        let becomes = becomes-forgotten side name in
+        goes old.own (OnReceives (Removes name)) step tt was
+        (keeps_at old.own old.waiting.sends (forgotten side name) step.0 step.1.1 step.1.0.1
+        (receives_alone (forgotten side name) name None (keeps_of was) becomes (ap is_told is ∙ off)
+        (not_joined side (forgotten side name) name None becomes refl)))
+
+    cancels_as : (phase : Option (Phase W)) (name : ℕ) → receive_phase old name ≡ phase → CancelsReceiveAs phase old name new → Holds old →
+        Goes NoEffect (Leaves name)
+    cancels_as (Some Told) name is step was =
+        let side = old.waiting.receives in
+        goes old.own (Then (OnReceives (Removes name)) tells_oldest) step (tt, λ m did2. refl, refl, refl) was
+        (keeps_at old.own old.waiting.sends (pop_oldest Told (forgotten side name)) step.0 (step.1.2.1 ∙ step.1.1.1)
+        (step.1.2.0.0 ∙ ap (pop_oldest Told) step.1.1.0.1) (record {
+          owned = was.0.owned;
+          buffer = was.0.buffer;
+          told = passed_on side (without_pair name (receives_in old.waiting.out)) name (value_count old)
+              (sound-forgotten is_receive_phase side (receives_in old.waiting.out) name refl was.0.waiters.receives) was.1.receives;
+          waits = was.1.sends;
+        }))
+    cancels_as None name is step was = line_cancels None name is refl step was
+    cancels_as (Some Fresh) name is step was = line_cancels (Some Fresh) name is refl step was
+    cancels_as (Some (Registered waker)) name is step was = line_cancels (Some (Registered waker)) name is refl step was
+    cancels_as (Some Complete) name is step was = line_cancels (Some Complete) name is refl step was
+    cancels_as (Some Ended) name is step was = line_cancels (Some Ended) name is refl step was
+
+    pub cancels_receive : (name : ℕ) → CancelsReceive old name new → Holds old → Goes NoEffect (Leaves name)
+    cancels_receive name did was = cancels_as (receive_phase old name) name refl did was
+
+  module _ (old new : ChannelMachine T W) (name : ℕ) (waker : W) where
+    -- A poll is a line, keeps what held, and its receive, or send, still lives; a receive is of the kind that it was.
+    abbrev pub Receives : Poll (Option T) → Type 0
+    Receives answer = Goes old new NoEffect (poll_effect name waker answer)
+        × ((is_some (receive_phase new name) ≡ true) × (kind_of new name ≡ kind_of old name))
+
+    abbrev pub Sends : Poll (Result (Unit {0}) (SendFault T)) → Type 0
+    Sends answer = Goes old new (sent_effect name waker answer) NoEffect × (is_some (send_phase new name) ≡ true)
+
+    -- nothing is there, so nobody need be told
+    nobody_owed : (receiving : Side ReceiveKind W) → next_of old ≡ None → Holds old → Enough receiving (value_count old)
+    nobody_owed receiving none was =
+        let zero = nothing_left old.own.buffer old.own.buffer.items old.waiting.sends.queue (option_flatten (asks_of_oldest old.waiting.sends))
+        (fronts_of old was old.waiting.sends.queue refl) none in
+        enough_fewer receiving (value_count old) 0 (omega (arith, zero)) (λ q now. none_told receiving)
+
+    quiet_keeps : (receiving : Side ReceiveKind W) → next_of old ≡ None → Holds old → Keeps old.own old.waiting.sends receiving
+    quiet_keeps receiving none was =
+        record { owned = was.0.owned; buffer = was.0.buffer; told = nobody_owed receiving none was; waits = was.1.sends }
+
+    lives_received : (receiving : Side ReceiveKind W) (phase : Phase W) → new.waiting.receives ≡ receiving →
+        phase_of receiving name ≡ Some phase → asks_of receiving name ≡ kind_of old name →
+        (is_some (receive_phase new name) ≡ true) × (kind_of new name ≡ kind_of old name)
+    lives_received receiving phase is here asks = (
+      ap (λ (s : Side ReceiveKind W). is_some (phase_of s name)) is ∙ ap is_some here,
+      ap (λ (s : Side ReceiveKind W). asks_of s name) is ∙ asks,
+    )
+
+    takes_next : (next : Option (T × Bounded T)) (is_open : Bool) (answer : Poll (Option T)) → next_of old ≡ next →
+        TakesNext next is_open old name waker answer new → Holds old → Receives answer
+    takes_next (Some next) is_open answer is did was =
+        let step = did.1 in
+        let mid = step.1.0 in
+        let kind = kind_of old name in
+        let queue = old.waiting.sends.queue in
+        let given = given_becomes kind old.waiting.receives mid.receives name old.waiting.out mid.out step.1.1.0 in
+        let received : new.waiting.receives ≡ mid.receives = step.1.2.1 in
+        let sent : new.waiting.sends ≡ completed_side old new =
+        completes queue mid.sends new.waiting.sends mid.out new.waiting.out (ap (λ (s : Side (Option T) W). s.queue) step.1.1.1) step.1.2.0
+        ∙ ap (λ (s : Side (Option T) W). complete_first None s queue) step.1.1.1 in
+        subst Receives (sym did.0) (
+          subst (λ (e : WakerEffect W). Goes old new NoEffect e) (given_leaves kind name)
+              (goes old new (record old.own { buffer = next.1 }) (Then (OnReceives (is_given kind name)) (completes_oldest old)) step
+              (given_allowed _ kind name, λ m did2. completing_allowed _ queue, completing_quiet T W queue, refl) was
+              (keeps_at old new (record old.own { buffer = next.1 }) (completed_side old new) mid.receives step.0 sent received
+              (taken_keeps old new next mid.receives is was (λ n count. enough_but old.waiting.receives mid.receives name n (Some given.0) given.2 given.1
+              (λ q now. subst (AreTold old.waiting.receives) count (was.1.receives q now)))))),
+          lives_received mid.receives given.0 received given.2.here given.3,
+        )
+    takes_next None true answer is did was =
+        let step = did.1 in
+        let side = old.waiting.receives in
+        let p = some_phase (receive_phase old name) step.1.0.0 in
+        let becomes = becomes-with_phase side name (Registered waker) (side.queue ++ name ∷ []) (lives_as side name p.0 p.1) in
+        subst Receives (sym did.0) (
+          goes old new old.own (OnReceives (Registers name waker)) step tt was
+              (keeps_at old new old.own old.waiting.sends (registered side name waker) step.0 step.1.1 step.1.0.1
+              (quiet_keeps (registered side name waker) is was)),
+          lives_received (registered side name waker) (Registered waker) step.1.0.1 becomes.here
+              (asks-with_phase side.live name (Registered waker) name),
+        )
+    takes_next None false answer is did was =
+        let step = did.1 in
+        let side = old.waiting.receives in
+        let p = some_phase (receive_phase old name) step.1.0.0 in
+        let becomes = becomes-with_phase side name Ended side.queue (lives_as side name p.0 p.1) in
+        subst Receives (sym did.0) (
+          goes old new old.own (OnReceives (Ends name)) step tt was
+              (keeps_at old new old.own old.waiting.sends (ended side name) step.0 step.1.1 step.1.0.1 (quiet_keeps (ended side name) is was)),
+          lives_received (ended side name) Ended step.1.0.1 becomes.here (asks-with_phase side.live name Ended name),
+        )
+
+    receives_as : (phase : Option (Phase W)) (answer : Poll (Option T)) → receive_phase old name ≡ phase →
+        ReceivesAs phase old name waker answer new → Holds old → Receives answer
+    receives_as (Some Fresh) answer is did was = takes_next (next_of old) old.own.is_open answer refl did was
+    receives_as (Some Told) answer is did was = takes_next (next_of old) old.own.is_open answer refl did was
+    receives_as (Some (Registered before)) answer is did was =
+        let step = did.1 in
+        let side = old.waiting.receives in
+        let becomes = becomes-with_phase side name (Registered waker) side.queue (live_if_registered side name step.1.0.0) in
+        subst Receives (sym did.0) (
+          goes old new old.own (OnReceives (KeepsWaiting name waker)) step tt was
+              (keeps_at old new old.own old.waiting.sends (stays side name waker) step.0 step.1.1 step.1.0.1
+              (receives_alone old new (stays side name waker) name (Some (Registered waker)) (keeps_of old new was) becomes
+              (registered_untold (receive_phase old name) step.1.0.0)
+              (joined_before side (stays side name waker) name (Some (Registered waker)) becomes step.1.0.0))),
+          lives_received (stays side name waker) (Registered waker) step.1.0.1 becomes.here
+              (asks-with_phase side.live name (Registered waker) name),
+        )
+    receives_as phase answer is did was = absurd did
+
+    pub polls_receive : (answer : Poll (Option T)) → PollsReceive old name waker answer new → Holds old → Receives answer
+    polls_receive answer did was = receives_as (receive_phase old name) answer refl did was
+
+    -- An ended stream's poll changes nothing.
+    abbrev pub StreamsOn : Type 0
+    StreamsOn = Holds new × ((is_some (receive_phase new name) ≡ true) × (kind_of new name ≡ kind_of old name))
+
+    streams_as : (phase : Option (Phase W)) (answer : Poll (Option T)) → receive_phase old name ≡ phase →
+        StreamsAs phase old name waker answer new → Holds old → StreamsOn
+    streams_as (Some Ended) answer is did was = (
+      subst Holds (sym did.1) was,
+      (
+        ap (λ (m : ChannelMachine T W). is_some (receive_phase m name)) did.1 ∙ ap is_some is,
+        ap (λ (m : ChannelMachine T W). kind_of m name) did.1,
+      ),
+    )
+    streams_as None answer is did was = absurd did
+    streams_as (Some Fresh) answer is did was = let now = receives_as (Some Fresh) answer is did was in (now.0.1, now.1)
+    streams_as (Some (Registered before)) answer is did was =
+        let now = receives_as (Some (Registered before)) answer is did was in (now.0.1, now.1)
+    streams_as (Some Told) answer is did was = let now = receives_as (Some Told) answer is did was in (now.0.1, now.1)
+    streams_as (Some Complete) answer is did was = absurd did
+
+    pub polls_next : (answer : Poll (Option T)) → PollsNext old name waker answer new → Holds old → StreamsOn
+    polls_next answer did was = streams_as (receive_phase old name) answer refl did was
+
+    can_still : (kind : Option ReceiveKind) (before after : Option (Phase W)) → can_stream kind before ≡ true → is_some after ≡ true →
+        can_stream kind after ≡ true
+    can_still None before after can lives = absurd (both_ways false refl can)
+    can_still (Some Single) before after can lives = absurd (both_ways false refl can)
+    can_still (Some Stream) before after can lives = lives
+
+    pub still_streams : can_stream (kind_of old name) (receive_phase old name) ≡ true → StreamsOn →
+        can_stream (kind_of new name) (receive_phase new name) ≡ true
+    still_streams can now = ap (λ kind. can_stream kind (receive_phase new name)) now.1.1
+        ∙ can_still (kind_of old name) (receive_phase old name) (receive_phase new name) can now.1.0
+
+    abbrev finished_side : Side (Option T) W
+    finished_side = exchange (ended old.waiting.sends name) name None
+
+    finished_becomes : (before : Phase W) → send_phase old name ≡ Some before → Becomes old.waiting.sends finished_side name (Some Ended)
+    finished_becomes before is =
+        let side = old.waiting.sends in
+        let becomes = becomes-with_phase side name Ended side.queue (lives_as side name before is) in
+        let live = (ended side name).live in
+        record {
+          here = phase-with_asks live name None name ∙ becomes.here;
+          others = λ q ne. phase-with_asks live name None q ∙ becomes.others q ne;
+        }
+
+    lives_sent : (sending : Side (Option T) W) (phase : Phase W) → new.waiting.sends ≡ sending →
+        phase_of sending name ≡ Some phase → is_some (send_phase new name) ≡ true
+    lives_sent sending phase is here = ap (λ (s : Side (Option T) W). is_some (phase_of s name)) is ∙ ap is_some here
+
+    fresh_sends : (is_open room : Bool) (asks : Option T) (answer : Poll (Result (Unit {0}) (SendFault T))) → send_phase old name ≡ Some Fresh →
+        old.own.is_open ≡ is_open → has_room old.own ≡ room → FreshSends is_open room asks old name waker answer new → Holds old → Sends answer
+    fresh_sends is_open room None answer fresh flag has did was = absurd did
+    fresh_sends false room (Some value) answer fresh flag has did was =
+        let step = did.1 in
+        let did2 = step.1.0 in
+        let becomes = finished_becomes Fresh fresh in
+        let sent : new.waiting.sends ≡ finished_side =
+        did2.3.1 ∙ ap (λ (s : Side (Option T) W). exchange s name None) did2.2.1 in
+        subst Sends (sym did.0) (
+          goes old new old.own (OnSends (finishes name)) step (tt, λ m d. tt, refl) was
+              (keeps_at old new old.own finished_side old.waiting.receives step.0 sent step.1.1
+              (sends_alone old new finished_side (keeps_of old new was) (owned-finished old.waiting.sends name Fresh fresh was.0.owned) (omega arith)
+              (not_joined old.waiting.sends finished_side name (Some Ended) becomes refl))),
+          lives_sent finished_side Ended sent becomes.here,
+        )
+    fresh_sends true true (Some value) answer fresh flag has did was =
+        let own = did.1 in
+        let step = did.3 in
+        let did2 = step.1.1.0 in
+        let becomes = finished_becomes Fresh fresh in
+        let sent : new.waiting.sends ≡ finished_side =
+        step.1.2.1 ∙ did2.3.1 ∙ ap (λ (s : Side (Option T) W). exchange s name None) did2.2.1 in
+        subst Sends (sym did.0) (
+          goes old new own (Then (OnSends (finishes name)) tells_oldest) step ((tt, λ m d. tt, refl), λ m d. refl, refl, refl) was
+              (keeps_at old new own finished_side (pop_oldest Told old.waiting.receives) step.0 sent
+              (step.1.2.0.0 ∙ ap (pop_oldest Told) step.1.1.1)
+              (told_one_more old new own finished_side was (owned-finished old.waiting.sends name Fresh fresh was.0.owned)
+              (stored_fits old new own value did.2) (stored_more old new own value old.waiting.sends.queue did.2)
+              (λ q now. absurd (both_ways _ (was.1.sends q (not_joined old.waiting.sends finished_side name (Some Ended) becomes refl q now)).1 has)))),
+          lives_sent finished_side Ended sent becomes.here,
+        )
+    fresh_sends true false (Some value) answer fresh flag has did was =
+        let step = did.1 in
+        let side = old.waiting.sends in
+        let joined = registered side name waker in
+        let becomes = becomes-with_phase side name (Registered waker) joined.queue (lives_as side name Fresh fresh) in
+        let longer : length (side.queue ++ name ∷ []) ≡ length side.queue + 1 = length-append side.queue (name ∷ []) in
+        let sent : new.waiting.sends ≡ joined = step.1.2.1 ∙ step.1.1.0.1 in
+        subst Sends (sym did.0) (
+          goes old new old.own (Then (OnSends (Registers name waker)) tells_oldest) step (tt, λ m d. refl, refl, refl) was
+              (keeps_at old new old.own joined (pop_oldest Told old.waiting.receives) step.0 sent
+              (step.1.2.0.0 ∙ ap (pop_oldest Told) step.1.1.1)
+              (told_one_more old new old.own joined was
+              (owned-with_phase side name Fresh (Registered waker) joined.queue fresh refl was.0.owned) was.0.buffer (omega (arith, longer))
+              (λ q now. elim (cases_eq q name) [
+                | inl same ↦ (flag, has)
+                | inr ne ↦ was.1.sends q (ap is_registered (sym (becomes.others q ne)) ∙ now)
+              ]))),
+          lives_sent joined (Registered waker) sent becomes.here,
+        )
+
+    sends_as : (phase : Option (Phase W)) (answer : Poll (Result (Unit {0}) (SendFault T))) → send_phase old name ≡ phase →
+        SendsAs phase old name waker answer new → Holds old → Sends answer
+    sends_as (Some Fresh) answer is did was = fresh_sends old.own.is_open (has_room old.own) (value_of old name) answer is refl refl did was
+    sends_as (Some (Registered before)) answer is did was =
+        let step = did.1 in
+        let side = old.waiting.sends in
+        let becomes = becomes-with_phase side name (Registered waker) side.queue (lives_as side name (Registered before) is) in
+        subst Sends (sym did.0) (
+          goes old new old.own (OnSends (KeepsWaiting name waker)) step tt was
+              (keeps_at old new old.own (stays side name waker) old.waiting.receives step.0 step.1.0.1 step.1.1
+              (sends_alone old new (stays side name waker) (keeps_of old new was)
+              (owned-with_phase side name (Registered before) (Registered waker) side.queue is refl was.0.owned) (omega arith)
+              (joined_before side (stays side name waker) name (Some (Registered waker)) becomes step.1.0.0))),
+          lives_sent (stays side name waker) (Registered waker) step.1.0.1 becomes.here,
+        )
+    sends_as (Some Complete) answer is did was =
+        let step = did.1 in
+        let side = old.waiting.sends in
+        let becomes = becomes-with_phase side name Ended side.queue (lives_as side name Complete is) in
+        subst Sends (sym did.0) (
+          goes old new old.own (OnSends (Ends name)) step tt was
+              (keeps_at old new old.own (ended side name) old.waiting.receives step.0 step.1.0.1 step.1.1
+              (sends_alone old new (ended side name) (keeps_of old new was)
+              (owned-with_phase side name Complete Ended side.queue is refl was.0.owned) (omega arith)
+              (not_joined side (ended side name) name (Some Ended) becomes refl))),
+          lives_sent (ended side name) Ended step.1.0.1 becomes.here,
+        )
+    sends_as phase answer is did was = absurd did
+
+    pub polls_send : (answer : Poll (Result (Unit {0}) (SendFault T))) → PollsSend old name waker answer new → Holds old → Sends answer
+    polls_send (Ready (Err (send_fault.Fault fault))) did was =
+        (unchanged old new did.3 was, ap (λ (m : ChannelMachine T W). is_some (send_phase m name)) did.3 ∙ ap is_some did.1)
+    polls_send (Ready (Err (send_fault.Closed value))) did was = sends_as (send_phase old name) (Ready (Err (send_fault.Closed value))) refl did was
+    polls_send (Ready (Ok done)) did was = sends_as (send_phase old name) (Ready (Ok done)) refl did was
+    polls_send Pending did was = sends_as (send_phase old name) Pending refl did was
+
+module _ {T W : Type 0} where
+  -- a channel that nobody uses yet
+  pub opened_holds : (buffer : Bounded T) → buffer.items ≡ [] → Fits buffer → Holds (opened {T = T} {W = W} buffer)
+  opened_holds buffer empty fits = let own : Buffered T = record { is_open = true; buffer = buffer } in (
+    record { waiters = two_sided_initial rules own; owned = λ q. nobody_owns q; buffer = fits },
+    record {
+      receives = λ q now. absurd (both_ways _ (ap (λ o. is_registered (phase_in o)) (map.get-empty nat_cmp q)) now);
+      sends = λ q now. absurd (both_ways _ (ap (λ o. is_registered (phase_in o)) (map.get-empty nat_cmp q)) now);
+    },
+  )
+    where
+      nobody_owns : (q : ℕ) → is_some (value_of (opened {T = T} {W = W} buffer) q) ≡ owns_value (send_phase (opened {T = T} {W = W} buffer) q)
+      nobody_owns q = subst OwnedAt (sym (map.get-empty nat_cmp q)) refl
+
+  pub made_holds : (made : ChannelMachine T W) (buffer : Bounded T) → made ≡ opened buffer → buffer.items ≡ [] → Fits buffer → Holds made
+  made_holds made buffer is empty fits = subst Holds (sym is) (opened_holds buffer empty fits)
+
+  pub made_fits : (made : ChannelMachine T W) (buffer : Bounded T) → made ≡ opened buffer → Fits made.own.buffer → Fits buffer
+  made_fits made buffer is fits = subst (λ (m : ChannelMachine T W). Fits m.own.buffer) is fits
+
+  -- a send, or a receive, that was just made may be polled
+  pub send_pollable : (old new : ChannelMachine T W) (value : T) (name : ℕ) → MakesSend old value name new → can_send (send_phase new name) ≡ true
+  send_pollable old new value name did = ap (λ (s : Side (Option T) W). can_send (phase_of s name)) did.1.0.1
+      ∙ ap can_send (becomes-made old.waiting.sends name (Some value)).here
+
+  pub kind_made : (old new : ChannelMachine T W) (kind : ReceiveKind) (name : ℕ) → MakesReceive old kind name new → kind_of new name ≡ Some kind
+  kind_made old new kind name did = ap (λ (s : Side ReceiveKind W). asks_of s name) did.1.0.1
+      ∙ ap asks_in (get-insert_same old.waiting.receives.live name _)
+
+  pub phase_made : (old new : ChannelMachine T W) (kind : ReceiveKind) (name : ℕ) → MakesReceive old kind name new →
+      receive_phase new name ≡ Some Fresh
+  phase_made old new kind name did = ap (λ (s : Side ReceiveKind W). phase_of s name) did.1.0.1
+      ∙ (becomes-made old.waiting.receives name kind).here

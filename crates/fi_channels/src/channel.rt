@@ -1,0 +1,307 @@
+//! The channel of many values, with sends and receives that wait.
+ghost use Rattle.std.specs.Prelude.{◌≡◌, ℕ, Bool, true, false, Option, Some, None, IfOk, IfErr, OnErr, is_some, length};
+ghost use Rattle.fi_parts.specs.Buffer.{Fits, empty};
+ghost use Rattle.fi_channels.specs.Polled.{unused_after, Answered, displaced_by};
+ghost use Rattle.fi_channels.specs.Channel as channel;
+ghost use Rattle.fi_channels.specs.Channel.{opened, send_phase, receive_phase, kind_of, displaced_send, displaced_receive, displaced_by_send, displaced_by_next, MakesSend, MakesReceive, PollsSend, PollsReceive, PollsNext, CancelsSend, CancelsReceive, TriesSend, TriesReceive, Closes, Wakes, IsSound, OwesNoWake};
+ghost use Rattle.fi_channels.specs.declared.channel_fields.ReceiveKind.TheVariants.{Single, Stream};
+
+use crate::access::{ChannelReceiveAccess, ChannelSendAccess, Received, Sent};
+use crate::channel_errors::{TryReceiveError, TrySendError};
+use crate::channel_fields::{ChannelFields, ReceiveKind};
+use crate::channel_stream::LocalChannelStream;
+use crate::receive_future::LocalReceiveFuture;
+use crate::send_future::LocalSendFuture;
+use fi_parts::buffer::{ArrayBuf, RingBuf};
+use fi_parts::{CloseStatus, Fault, Leftover, NoRoom, Slot};
+use futures::task::Poll;
+use std::alloc::Global;
+use std::marker::Model;
+
+/// A channel of many senders and receivers over a bounded buffer: what was sent first is received first.
+///
+/// A send that finds the buffer full waits with its value; so with capacity 0 every send waits until a receive takes its value. The
+/// channel names the wakers to be woken and wakes nobody itself: whoever calls it takes them out by `next_wake`. Each call takes
+/// constant time (`close` for each future that waits) and, but for the makings and a send into a buffer that has to grow, no memory.
+/// Keeps `GenericChannel` of futures-intrusive's `channel`.
+#[derive(Drop)]
+pub struct ChannelState<T: Drop, B: RingBuf<Item = T>, W> {
+    fields: ChannelFields<T, B, W>,
+}
+
+/// The channel for one thread over an array of `N` values: sends, receives and streams are polled with the channel lent to them.
+///
+/// Keeps `LocalChannel` of futures-intrusive's `channel`.
+pub type LocalChannel<T, const N: usize, W> = ChannelState<T, ArrayBuf<T, N>, W>;
+
+/// The channel for one thread without a buffer: each value is handed from a send that waits to a receive.
+///
+/// Keeps `LocalUnbufferedChannel` of futures-intrusive's `channel`.
+pub type LocalUnbufferedChannel<T, W> = LocalChannel<T, 0, W>;
+
+impl<T: Drop, B: RingBuf<Item = T>, W> Model for ChannelState<T, B, W> {
+    ghost use Rattle.fi_channels.specs.Channel.{ChannelMachine, channel_code, IsSound, OwesNoWake};
+    ghost use Rattle.fi_channels.specs.ChannelFields.{machine_of};
+
+    ghost Value = { ChannelMachine T W };
+
+    ghost coded = { channel_code T.code W.code };
+
+    ghost view = { λ s. machine_of B.bounded s.fields };
+
+    ghost invariant = { λ s. IsSound (machine_of B.bounded s.fields) × OwesNoWake (machine_of B.bounded s.fields) };
+}
+
+impl<T: Drop, B: RingBuf<Item = T>, W: Drop> ChannelState<T, B, W> {
+    /// An open channel over the buffer that `RingBuf::new` makes, which has taken no memory yet. Keeps `GenericChannel::new`.
+    pub fn new(alloc: Global) -> Self
+        ensures { result ≡ opened (empty (B.capacity_for 0) 0) }
+    {
+        ChannelState {
+            fields: ChannelFields::new(alloc),
+        }
+    }
+
+    /// An open channel over a buffer for `capacity` values. Some buffers ignore the number and have a capacity of their own. Refused
+    /// only with `NoMemory`. Keeps `GenericChannel::with_capacity`.
+    pub fn with_capacity(alloc: Global, capacity: usize) -> Result<Self, Fault>
+        ensures opened { IfOk result (λ made. made ≡ opened (empty (B.capacity_for capacity) made.own.buffer.reserved)) }
+        ensures fault { IfErr result (λ fault. fault ≡ Fault.NoMemory) }
+    {
+        let fields = ChannelFields::with_capacity(alloc, capacity)?;
+        Ok(ChannelState { fields })
+    }
+
+    /// For proofs: every channel is sound and owes no wake.
+    pub fn show(&self)
+        ensures sound { IsSound self.now }
+        ensures no_wake { OwesNoWake self.now }
+    {
+        let _ = &self.fields;
+    }
+
+    /// Sends a value at once, if the channel is open and its buffer has room, and tells the oldest receive that waits.
+    ///
+    /// Else the value comes back and nothing has changed: `Closed` if the channel is closed, else `Full` if there is no room (with
+    /// capacity 0 always), else `NoMemory` if the buffer could not grow. Keeps `GenericChannel::try_send`.
+    pub fn try_send(&mut self, value: T) -> Result<(), TrySendError<T>>
+        ensures { TriesSend self.old value result self.new }
+    {
+        self.fields.try_send(value)
+    }
+
+    /// Receives the oldest value at once, if there is one; then the oldest send that waits hands its own on, and is named.
+    ///
+    /// Else nothing has changed: `Closed` if the channel is closed, else `Empty`. Keeps `GenericChannel::try_receive`.
+    pub fn try_receive(&mut self) -> Result<T, TryReceiveError>
+        ensures { TriesReceive self.old result self.new }
+    {
+        self.fields.try_receive()
+    }
+
+    /// Closes the channel and names all receives that wait and then all sends, the oldest first on each side.
+    ///
+    /// What is buffered can still be received. A send that waited gets its value back at its next poll, or from its cancel.
+    /// `AlreadyClosed` if it was closed before; then nothing has changed. Keeps `GenericChannel::close`.
+    pub fn close(&mut self) -> CloseStatus
+        ensures { Closes self.old result self.new }
+    {
+        self.fields.close()
+    }
+
+    /// A future that sends the value: it is ready once the value is stored, or was taken from it.
+    ///
+    /// It fails with `Closed` and the value on a closed channel, also one that closes while it waits, and with `Fault(NoMemory)` if the
+    /// buffer could not grow; then it may be polled again. Its making is refused only for want of memory; then the value comes back and
+    /// nothing has changed. Keeps `GenericChannel::send`.
+    pub fn send(&mut self, value: T) -> Result<LocalSendFuture, NoRoom<T>>
+        ensures made { IfOk result (λ future. MakesSend self.old value future.name self.new) }
+        ensures fresh { IfOk result (λ future. future.has_ended ≡ false) }
+        ensures pollable { IfOk result (λ future. channel.can_send (send_phase self.new future.name) ≡ true) }
+        ensures refused { OnErr result (self.new ≡ self.old) }
+        ensures handed_back { IfErr result (λ failed. failed.0 ≡ value) }
+    {
+        let slot = self.claim_send(value)?;
+        Ok(LocalSendFuture::at(slot))
+    }
+
+    /// A future that receives one value, or None once the channel is closed and empty. Refused only with `NoMemory`; then nothing has
+    /// changed. Keeps `GenericChannel::receive`.
+    pub fn receive(&mut self) -> Result<LocalReceiveFuture, Fault>
+        ensures made { IfOk result (λ future. MakesReceive self.old Single future.name self.new) }
+        ensures fresh { IfOk result (λ future. future.has_ended ≡ false) }
+        ensures pollable { IfOk result (λ future. channel.can_receive (kind_of self.new future.name) (receive_phase self.new future.name) ≡ true) }
+        ensures refused { OnErr result (self.new ≡ self.old) }
+        ensures fault { IfErr result (λ fault. fault ≡ Fault.NoMemory) }
+    {
+        let slot = self.claim_receive()?;
+        Ok(LocalReceiveFuture::at(slot))
+    }
+
+    /// A stream of the values: it receives one after another, and ends once the channel is closed and empty. Refused only with
+    /// `NoMemory`; then nothing has changed. Keeps `GenericChannel::stream`.
+    pub fn stream(&mut self) -> Result<LocalChannelStream, Fault>
+        ensures made { IfOk result (λ future. MakesReceive self.old Stream future.name self.new) }
+        ensures fresh { IfOk result (λ future. future.has_ended ≡ false) }
+        ensures pollable { IfOk result (λ future. channel.can_stream (kind_of self.new future.name) (receive_phase self.new future.name) ≡ true) }
+        ensures refused { OnErr result (self.new ≡ self.old) }
+        ensures fault { IfErr result (λ fault. fault ≡ Fault.NoMemory) }
+    {
+        let slot = self.claim_stream()?;
+        Ok(LocalChannelStream::at(slot))
+    }
+
+    /// Takes out the oldest waker that was named to be woken; None if none is left.
+    pub fn next_wake(&mut self) -> Option<W>
+        ensures { Wakes self.old result self.new }
+    {
+        self.fields.next_wake()
+    }
+
+    /// How many wakers are named to be woken.
+    pub fn wake_count(&self) -> usize
+        ensures { result ≡ length self.now.waiting.out }
+    {
+        self.fields.wake_count()
+    }
+
+    /// Makes a send of this value under a slot that was not live. Refused only for want of memory; then the value comes back and nothing
+    /// has changed.
+    pub fn claim_send(&mut self, value: T) -> Result<Slot, NoRoom<T>>
+        ensures made { IfOk result (λ slot. MakesSend self.old value slot.0 self.new) }
+        ensures refused { OnErr result (self.new ≡ self.old) }
+        ensures handed_back { IfErr result (λ failed. failed.0 ≡ value) }
+    {
+        self.fields.claim_send(value)
+    }
+
+    /// Makes a receive of one value under a slot that was not live. Refused only with `NoMemory`; then nothing has changed.
+    pub fn claim_receive(&mut self) -> Result<Slot, Fault>
+        ensures made { IfOk result (λ slot. MakesReceive self.old Single slot.0 self.new) }
+        ensures refused { OnErr result (self.new ≡ self.old) }
+        ensures fault { IfErr result (λ fault. fault ≡ Fault.NoMemory) }
+    {
+        self.fields.claim_receive(ReceiveKind::Single)
+    }
+
+    /// Makes a stream under a slot that was not live. Refused only with `NoMemory`; then nothing has changed.
+    pub fn claim_stream(&mut self) -> Result<Slot, Fault>
+        ensures made { IfOk result (λ slot. MakesReceive self.old Stream slot.0 self.new) }
+        ensures refused { OnErr result (self.new ≡ self.old) }
+        ensures fault { IfErr result (λ fault. fault ≡ Fault.NoMemory) }
+    {
+        self.fields.claim_receive(ReceiveKind::Stream)
+    }
+
+    /// A stream lives under this slot, so it may be polled.
+    pub fn can_stream(&self, slot: Slot) -> bool
+        ensures { result ≡ channel.can_stream (kind_of self.now slot.0) (receive_phase self.now slot.0) }
+    {
+        self.fields.can_stream(slot)
+    }
+
+    /// Polls the stream under this slot: ready with its next item, or with None once the channel is closed and empty, and ever after;
+    /// else it is registered with this waker. `remove_receive_waiter` cancels it.
+    pub fn next_or_register(&mut self, slot: Slot, waker: W) -> (Poll<Option<T>>, Leftover<W>)
+        requires { channel.can_stream (kind_of self.old slot.0) (receive_phase self.old slot.0) ≡ true }
+        ensures polled { PollsNext self.old slot.0 waker result.0 self.new }
+        ensures displaced { result.1.displaced ≡ displaced_by_next (receive_phase self.old slot.0) (displaced_receive self.old slot.0) }
+        ensures unused { result.1.unused ≡ unused_after result.0 waker }
+        // The stream still lives, until it is cancelled.
+        ensures live { channel.can_stream (kind_of self.new slot.0) (receive_phase self.new slot.0) ≡ true }
+    {
+        self.fields.next_or_register(slot, waker)
+    }
+}
+
+impl<T: Drop, B: RingBuf<Item = T>, W: Drop> ChannelSendAccess for ChannelState<T, B, W> {
+    ghost use Rattle.std.specs.Prelude.{is_some};
+    ghost use Rattle.fi_channels.specs.Channel as channel;
+
+    type Item = T;
+
+    type Waker = W;
+
+    ghost is_sendable = { λ state name. channel.can_send (channel.send_phase state name) };
+
+    ghost is_sending = { λ state name. is_some (channel.send_phase state name) };
+
+    ghost sends = { channel.PollsSend };
+
+    ghost withdraws = { channel.CancelsSend };
+
+    fn can_send(&self, slot: Slot) -> bool {
+        self.fields.can_send(slot)
+    }
+
+    fn has_send(&self, slot: Slot) -> bool {
+        self.fields.has_send(slot)
+    }
+
+    fn send_or_register(&mut self, slot: Slot, waker: W) -> Sent<T, W>
+        requires { channel.can_send (send_phase self.old slot.0) ≡ true }
+        ensures polled { PollsSend self.old slot.0 waker result.0 self.new }
+        ensures displaced { result.1.displaced ≡ displaced_by_send result.0 (displaced_send self.old slot.0) }
+        ensures unused { result.1.unused ≡ unused_after result.0 waker }
+        ensures live { is_some (send_phase self.new slot.0) ≡ true }
+    {
+        self.fields.send_or_register(slot, waker)
+    }
+
+    fn remove_send_waiter(&mut self, slot: Slot) -> (Option<T>, Option<W>)
+        requires { is_some (send_phase self.old slot.0) ≡ true }
+        ensures cancelled { CancelsSend self.old slot.0 result.0 self.new }
+        ensures displaced { result.1 ≡ displaced_send self.old slot.0 }
+    {
+        self.fields.remove_send_waiter(slot)
+    }
+}
+
+impl<T: Drop, B: RingBuf<Item = T>, W: Drop> ChannelReceiveAccess for ChannelState<T, B, W> {
+    ghost use Rattle.std.specs.Prelude.{is_some};
+    ghost use Rattle.fi_channels.specs.Polled.{Answered};
+    ghost use Rattle.fi_channels.specs.Channel as channel;
+
+    type Item = T;
+
+    type Waker = W;
+
+    ghost is_pollable = { λ state name. channel.can_receive (channel.kind_of state name) (channel.receive_phase state name) };
+
+    ghost is_receiving = { λ state name. is_some (channel.receive_phase state name) };
+
+    // A poll is never refused.
+    ghost receives = { λ old name waker answer new. Answered (channel.PollsReceive old name waker) (λ fault state. ⊥) answer new };
+
+    ghost cancels = { channel.CancelsReceive };
+
+    fn can_receive(&self, slot: Slot) -> bool {
+        self.fields.can_receive(slot)
+    }
+
+    fn has_receive(&self, slot: Slot) -> bool {
+        self.fields.has_receive(slot)
+    }
+
+    fn receive_or_register(&mut self, slot: Slot, waker: W) -> Received<T, W>
+        requires { channel.can_receive (kind_of self.old slot.0) (receive_phase self.old slot.0) ≡ true }
+        ensures polled { Answered (PollsReceive self.old slot.0 waker) (λ fault state. ⊥) result.0 self.new }
+        ensures displaced { result.1.displaced ≡ displaced_receive self.old slot.0 }
+        ensures unused { result.1.unused ≡ unused_after result.0 waker }
+        ensures live { is_some (receive_phase self.new slot.0) ≡ true }
+    {
+        let (answer, leftover) = self.fields.receive_or_register(slot, waker);
+        match answer {
+            Poll::Pending => (Poll::Pending, leftover),
+            Poll::Ready(item) => (Poll::Ready(Ok(item)), leftover),
+        }
+    }
+
+    fn remove_receive_waiter(&mut self, slot: Slot) -> Option<W>
+        requires { is_some (receive_phase self.old slot.0) ≡ true }
+        ensures cancelled { CancelsReceive self.old slot.0 self.new }
+        ensures displaced { result ≡ displaced_receive self.old slot.0 }
+    {
+        self.fields.remove_receive_waiter(slot)
+    }
+}

@@ -1,0 +1,110 @@
+//! Why a call on a channel was refused.
+ghost use Rattle.std.specs.Prelude.{◌≡◌, Bool};
+
+use fi_parts::Fault;
+
+/// Why a send ended without its value, or got no further.
+#[derive(Debug, PartialEq, Drop)]
+pub enum SendFault<T> {
+    /// The channel is closed; the value is handed back.
+    Closed(T),
+    /// The poll was refused and the send still owns its value: `NoMemory` if the buffer could not grow.
+    Fault(Fault),
+}
+
+/// Why a value was not sent at once; it is handed back.
+///
+/// Keeps `TrySendError` of futures-intrusive's `channel`.
+#[derive(Debug, PartialEq, Drop)]
+pub enum TrySendError<T> {
+    /// The buffer has no room.
+    Full(T),
+    /// The channel is closed.
+    Closed(T),
+    /// The buffer could not grow.
+    NoMemory(T),
+}
+
+impl<T: Drop> TrySendError<T> {
+    ghost use Rattle.fi_channels.specs.ChannelErrors.{value_in, is_full, is_closed_to, is_memory};
+
+    /// Returns the value that was not sent. Keeps `TrySendError::into_inner`.
+    pub fn into_inner(self) -> T
+        ensures { result ≡ value_in self }
+    {
+        match self {
+            TrySendError::Full(value) => value,
+            TrySendError::Closed(value) => value,
+            TrySendError::NoMemory(value) => value,
+        }
+    }
+
+    /// Returns whether the buffer had no room. Keeps `TrySendError::is_full`.
+    pub fn is_full(&self) -> bool
+        ensures { result ≡ is_full self.now }
+    {
+        match self {
+            TrySendError::Full(_) => true,
+            TrySendError::Closed(_) => false,
+            TrySendError::NoMemory(_) => false,
+        }
+    }
+
+    /// Returns whether the channel was closed. Keeps `TrySendError::is_closed`.
+    pub fn is_closed(&self) -> bool
+        ensures { result ≡ is_closed_to self.now }
+    {
+        match self {
+            TrySendError::Full(_) => false,
+            TrySendError::Closed(_) => true,
+            TrySendError::NoMemory(_) => false,
+        }
+    }
+
+    /// Returns whether the buffer could not grow.
+    pub fn is_memory(&self) -> bool
+        ensures { result ≡ is_memory self.now }
+    {
+        match self {
+            TrySendError::Full(_) => false,
+            TrySendError::Closed(_) => false,
+            TrySendError::NoMemory(_) => true,
+        }
+    }
+}
+
+/// Why nothing was received at once.
+///
+/// Keeps `TryReceiveError` of futures-intrusive's `channel`.
+#[derive(Clone, Copy, Debug, PartialEq, Eq)]
+pub enum TryReceiveError {
+    /// The channel has no value, and is open.
+    Empty,
+    /// The channel has no value, and is closed.
+    Closed,
+}
+
+impl TryReceiveError {
+    ghost use Rattle.fi_channels.specs.ChannelErrors.{is_empty};
+    ghost use Rattle.std.specs.Prelude.{not};
+
+    /// Returns whether the channel was open and had no value. Keeps `TryReceiveError::is_empty`.
+    pub fn is_empty(self) -> bool
+        ensures { result ≡ is_empty self }
+    {
+        match self {
+            TryReceiveError::Empty => true,
+            TryReceiveError::Closed => false,
+        }
+    }
+
+    /// Returns whether the channel was closed and had no value. Keeps `TryReceiveError::is_closed`.
+    pub fn is_closed(self) -> bool
+        ensures { result ≡ not (is_empty self) }
+    {
+        match self {
+            TryReceiveError::Empty => false,
+            TryReceiveError::Closed => true,
+        }
+    }
+}

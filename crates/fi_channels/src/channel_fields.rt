@@ -1,0 +1,351 @@
+//! The fields of a channel of many values, over any bounded buffer, and the calls on them.
+ghost use Rattle.std.specs.Prelude.{◌≡◌, Bool, true, false, Option, Some, None, length, IfOk, IfErr, OnErr, is_some};
+ghost use Rattle.fi_parts.specs.Buffer.{Fits, empty};
+ghost use Rattle.fi_parts.specs.Waiting.{phase_of, asks_of};
+ghost use Rattle.fi_parts.specs.declared.phase.Phase.TheVariants.{Fresh};
+ghost use Rattle.fi_channels.specs.Polled.{unused_after};
+ghost use Rattle.fi_channels.specs.Channel.{opened, can_send, can_take, can_receive, can_stream, MakesSend, MakesReceive, PollsSend, displaced_by_send, CancelsSend, PollsReceive, PollsNext, displaced_by_next, CancelsReceive, TriesSend, TriesReceive, Closes, Wakes, IsSound, displaced_send, displaced_receive, value_of};
+ghost use Rattle.fi_channels.specs.ChannelFields.{machine_of, phase_given, Takes};
+
+use crate::access::Sent;
+use crate::channel_errors::{SendFault, TryReceiveError, TrySendError};
+use crate::two_sides::TwoSides;
+use fi_parts::buffer::RingBuf;
+use fi_parts::{CloseStatus, Fault, Leftover, NoRoom, Notice, Phase, Slot};
+use futures::task::Poll;
+use std::alloc::Global;
+
+/// What a receive is for.
+#[derive(Clone, Copy, Debug, PartialEq, Eq)]
+pub enum ReceiveKind {
+    /// One item; then it has ended.
+    Single,
+    /// One item after another, until the channel is closed and empty.
+    Stream,
+}
+
+/// The fields of a channel. Between two calls on them the channel's law may be broken.
+#[derive(Drop)]
+pub struct ChannelFields<T, B, W> {
+    is_open: bool,
+    buffer: B,
+    waiters: TwoSides<Option<T>, ReceiveKind, W>,
+}
+
+// How a receive that was given an item stands: a single one has ended, and a stream is fresh again.
+fn phase_given<W>(kind: Option<ReceiveKind>) -> Phase<W>
+    ensures { result ≡ phase_given kind }
+{
+    match kind {
+        Some(ReceiveKind::Stream) => Phase::Fresh,
+        Some(ReceiveKind::Single) | None => Phase::Ended,
+    }
+}
+
+impl<T: Drop, B: RingBuf<Item = T>, W: Drop> ChannelFields<T, B, W> {
+    /// An open channel over an empty buffer, which has taken no memory.
+    pub fn new(alloc: Global) -> Self
+        ensures { machine_of B.bounded result ≡ opened (empty (B.capacity_for 0) 0) }
+    {
+        ChannelFields {
+            is_open: true,
+            buffer: B::new(alloc),
+            waiters: TwoSides::new(alloc),
+        }
+    }
+
+    /// An open channel over an empty buffer for so many values. Refused only with `NoMemory`.
+    pub fn with_capacity(alloc: Global, capacity: usize) -> Result<Self, Fault>
+        ensures opened { IfOk result (λ made. machine_of B.bounded made ≡ opened (empty (B.capacity_for capacity) (B.bounded made.buffer).reserved)) }
+        ensures fits { IfOk result (λ made. Fits (B.bounded made.buffer)) }
+        ensures fault { IfErr result (λ fault. fault ≡ Fault.NoMemory) }
+    {
+        let buffer = B::with_capacity(alloc, capacity)?;
+        Ok(ChannelFields {
+            is_open: true,
+            buffer,
+            waiters: TwoSides::new(alloc),
+        })
+    }
+
+    /// A send lives under this slot that has not ended.
+    pub fn can_send(&self, slot: Slot) -> bool
+        ensures { result ≡ can_send (phase_of self.now.waiters.sends slot.0) }
+    {
+        match self.waiters.send_phase(slot) {
+            Some(Phase::Fresh | Phase::Registered(_) | Phase::Complete) => true,
+            None | Some(Phase::Told | Phase::Ended) => false,
+        }
+    }
+
+    /// A send lives under this slot.
+    pub fn has_send(&self, slot: Slot) -> bool
+        ensures { result ≡ is_some (phase_of self.now.waiters.sends slot.0) }
+    {
+        self.waiters.send_phase(slot).is_some()
+    }
+
+    /// A receive lives under this slot that has not ended, and is no stream.
+    pub fn can_receive(&self, slot: Slot) -> bool
+        ensures { result ≡ can_receive (asks_of self.now.waiters.receives slot.0) (phase_of self.now.waiters.receives slot.0) }
+    {
+        match (
+            self.waiters.receive_asks(slot),
+            self.waiters.receive_phase(slot),
+        ) {
+            (Some(ReceiveKind::Single), Some(Phase::Fresh | Phase::Registered(_) | Phase::Told)) =>
+                true,
+            _ => false,
+        }
+    }
+
+    /// A stream lives under this slot.
+    pub fn can_stream(&self, slot: Slot) -> bool
+        ensures { result ≡ can_stream (asks_of self.now.waiters.receives slot.0) (phase_of self.now.waiters.receives slot.0) }
+    {
+        match (
+            self.waiters.receive_asks(slot),
+            self.waiters.receive_phase(slot),
+        ) {
+            (Some(ReceiveKind::Stream), Some(_)) => true,
+            _ => false,
+        }
+    }
+
+    /// A receive or a stream lives under this slot.
+    pub fn has_receive(&self, slot: Slot) -> bool
+        ensures { result ≡ is_some (phase_of self.now.waiters.receives slot.0) }
+    {
+        self.waiters.receive_phase(slot).is_some()
+    }
+
+    /// A fresh send of this value. Refused only for want of memory; then the value comes back and nothing has changed.
+    pub fn claim_send(&mut self, value: T) -> Result<Slot, NoRoom<T>>
+        ensures made { IfOk result (λ slot. MakesSend (machine_of B.bounded self.old) value slot.0 (machine_of B.bounded self.new)) }
+        ensures refused { OnErr result (machine_of B.bounded self.new ≡ machine_of B.bounded self.old) }
+        ensures handed_back { IfErr result (λ failed. failed.0 ≡ value) }
+    {
+        let back = match self.waiters.insert_send(Some(value)) {
+            Ok(slot) => return Ok(slot),
+            Err(NoRoom(back)) => back,
+        };
+        Err(NoRoom(back.unwrap()))
+    }
+
+    /// A fresh receive, or stream. Refused only with `NoMemory`; then nothing has changed.
+    pub fn claim_receive(&mut self, kind: ReceiveKind) -> Result<Slot, Fault>
+        ensures made { IfOk result (λ slot. MakesReceive (machine_of B.bounded self.old) kind slot.0 (machine_of B.bounded self.new)) }
+        ensures refused { OnErr result (machine_of B.bounded self.new ≡ machine_of B.bounded self.old) }
+        ensures fault { IfErr result (λ fault. fault ≡ Fault.NoMemory) }
+    {
+        match self.waiters.insert_receive(kind) {
+            Ok(slot) => Ok(slot),
+            Err(_) => Err(Fault::NoMemory),
+        }
+    }
+
+    // Takes the oldest value, and lets the oldest send that waits hand its value on; None if there is no value.
+    fn take_next(&mut self) -> Option<T>
+        requires { IsSound (machine_of B.bounded self.old) }
+        ensures taken { Takes (B.bounded self.old.buffer) self.old.waiters result (B.bounded self.new.buffer) self.new.waiters }
+        ensures flag { self.new.is_open ≡ self.old.is_open }
+    {
+        if self.buffer.is_empty() {
+            return self.waiters.complete_oldest_send(None).flatten();
+        }
+        let value = self.buffer.pop();
+        let next = match self.waiters.complete_oldest_send(None).flatten() {
+            Some(next) => next,
+            None => return Some(value),
+        };
+        // Never refused: the value that came out left its place.
+        let _ = self.buffer.push(next);
+        Some(value)
+    }
+
+    /// Takes the oldest value at once, if there is one.
+    pub fn try_receive(&mut self) -> Result<T, TryReceiveError>
+        requires { IsSound (machine_of B.bounded self.old) }
+        ensures { TriesReceive (machine_of B.bounded self.old) result (machine_of B.bounded self.new) }
+    {
+        if let Some(value) = self.take_next() {
+            return Ok(value);
+        }
+        if self.is_open {
+            return Err(TryReceiveError::Empty);
+        }
+        Err(TryReceiveError::Closed)
+    }
+
+    /// Polls a receive or a stream: it takes the oldest value, or is registered, or ends where none will come.
+    pub fn receive_or_register(&mut self, slot: Slot, waker: W) -> (Poll<Option<T>>, Leftover<W>)
+        requires sound { IsSound (machine_of B.bounded self.old) }
+        requires live { can_take (phase_of self.old.waiters.receives slot.0) ≡ true }
+        ensures polled { PollsReceive (machine_of B.bounded self.old) slot.0 waker result.0 (machine_of B.bounded self.new) }
+        ensures displaced { result.1.displaced ≡ displaced_receive (machine_of B.bounded self.old) slot.0 }
+        ensures unused { result.1.unused ≡ unused_after result.0 waker }
+    {
+        let named = self.waiters.take_out_receive(slot);
+        if let Some(Phase::Registered(_)) = self.waiters.receive_phase(slot) {
+            let before = self
+                .waiters
+                .set_receive_phase(slot, Phase::Registered(waker));
+            return (Poll::Pending, Leftover::of(before, None));
+        }
+        if let Some(value) = self.take_next() {
+            let phase = phase_given(self.waiters.receive_asks(slot).copied());
+            self.waiters.set_receive_phase(slot, phase);
+            return (Poll::Ready(Some(value)), Leftover::of(named, Some(waker)));
+        }
+        if self.is_open {
+            self.waiters.register_receive(slot, waker);
+            return (Poll::Pending, Leftover::of(named, None));
+        }
+        self.waiters.set_receive_phase(slot, Phase::Ended);
+        (Poll::Ready(None), Leftover::of(named, Some(waker)))
+    }
+
+    /// Polls a stream: like a receive, but one that has ended has no item ever after.
+    pub fn next_or_register(&mut self, slot: Slot, waker: W) -> (Poll<Option<T>>, Leftover<W>)
+        requires sound { IsSound (machine_of B.bounded self.old) }
+        requires live { is_some (phase_of self.old.waiters.receives slot.0) ≡ true }
+        ensures polled { PollsNext (machine_of B.bounded self.old) slot.0 waker result.0 (machine_of B.bounded self.new) }
+        ensures displaced { result.1.displaced ≡ displaced_by_next (phase_of self.old.waiters.receives slot.0) (displaced_receive (machine_of B.bounded self.old) slot.0) }
+        ensures unused { result.1.unused ≡ unused_after result.0 waker }
+    {
+        if let Some(Phase::Ended) = self.waiters.receive_phase(slot) {
+            return (Poll::Ready(None), Leftover::of(None, Some(waker)));
+        }
+        self.receive_or_register(slot, waker)
+    }
+
+    /// Removes a receive or a stream, and returns the waker that it had. A told one passes its notice on to the oldest.
+    pub fn remove_receive_waiter(&mut self, slot: Slot) -> Option<W>
+        requires sound { IsSound (machine_of B.bounded self.old) }
+        requires live { is_some (phase_of self.old.waiters.receives slot.0) ≡ true }
+        ensures cancelled { CancelsReceive (machine_of B.bounded self.old) slot.0 (machine_of B.bounded self.new) }
+        ensures displaced { result ≡ displaced_receive (machine_of B.bounded self.old) slot.0 }
+    {
+        if let Some(Phase::Told) = self.waiters.receive_phase(slot) {
+            let (_, waker) = self.waiters.remove_receive(slot);
+            self.waiters.tell_oldest_receive();
+            return waker;
+        }
+        let (_, waker) = self.waiters.remove_receive(slot);
+        waker
+    }
+
+    /// Sends a value at once, if the channel is open and its buffer has room; tells the oldest receive. Else the value comes back and
+    /// nothing has changed.
+    pub fn try_send(&mut self, value: T) -> Result<(), TrySendError<T>>
+        requires { IsSound (machine_of B.bounded self.old) }
+        ensures { TriesSend (machine_of B.bounded self.old) value result (machine_of B.bounded self.new) }
+    {
+        if !self.is_open {
+            return Err(TrySendError::Closed(value));
+        }
+        if !self.buffer.can_push() {
+            return Err(TrySendError::Full(value));
+        }
+        if let Err(NoRoom(value)) = self.buffer.push(value) {
+            return Err(TrySendError::NoMemory(value));
+        }
+        self.waiters.tell_oldest_receive();
+        Ok(())
+    }
+
+    /// Polls a send: its value is stored or waits with it, and the oldest receive is told; a closed channel hands it back. Refused where
+    /// memory to store it was: then nothing has changed, and the send still owns its value.
+    pub fn send_or_register(&mut self, slot: Slot, waker: W) -> Sent<T, W>
+        requires sound { IsSound (machine_of B.bounded self.old) }
+        requires live { can_send (phase_of self.old.waiters.sends slot.0) ≡ true }
+        ensures polled { PollsSend (machine_of B.bounded self.old) slot.0 waker result.0 (machine_of B.bounded self.new) }
+        ensures displaced { result.1.displaced ≡ displaced_by_send result.0 (displaced_send (machine_of B.bounded self.old) slot.0) }
+        ensures unused { result.1.unused ≡ unused_after result.0 waker }
+    {
+        if let Some(Phase::Fresh) = self.waiters.send_phase(slot) {
+            return self.send_fresh(slot, waker);
+        }
+        let named = self.waiters.take_out_send(slot);
+        if let Some(Phase::Registered(_)) = self.waiters.send_phase(slot) {
+            let before = self.waiters.set_send_phase(slot, Phase::Registered(waker));
+            return (Poll::Pending, Leftover::of(before, None));
+        }
+        self.waiters.set_send_phase(slot, Phase::Ended);
+        (Poll::Ready(Ok(())), Leftover::of(named, Some(waker)))
+    }
+
+    // Polls a fresh send.
+    fn send_fresh(&mut self, slot: Slot, waker: W) -> Sent<T, W>
+        requires sound { IsSound (machine_of B.bounded self.old) }
+        requires fresh { phase_of self.old.waiters.sends slot.0 ≡ Some Fresh }
+        ensures polled { PollsSend (machine_of B.bounded self.old) slot.0 waker result.0 (machine_of B.bounded self.new) }
+        ensures displaced { result.1.displaced ≡ displaced_by_send result.0 (displaced_send (machine_of B.bounded self.old) slot.0) }
+        ensures unused { result.1.unused ≡ unused_after result.0 waker }
+    {
+        if !self.is_open {
+            let named = self.waiters.take_out_send(slot);
+            self.waiters.set_send_phase(slot, Phase::Ended);
+            let value = self.waiters.exchange_send(slot, None).unwrap();
+            return (
+                Poll::Ready(Err(SendFault::Closed(value))),
+                Leftover::of(named, Some(waker)),
+            );
+        }
+        if !self.buffer.can_push() {
+            let named = self.waiters.take_out_send(slot);
+            self.waiters.register_send(slot, waker);
+            self.waiters.tell_oldest_receive();
+            return (Poll::Pending, Leftover::of(named, None));
+        }
+        let value = self.waiters.exchange_send(slot, None).unwrap();
+        if let Err(NoRoom(value)) = self.buffer.push(value) {
+            self.waiters.exchange_send(slot, Some(value));
+            return (
+                Poll::Ready(Err(SendFault::Fault(Fault::NoMemory))),
+                Leftover::of(None, Some(waker)),
+            );
+        }
+        let named = self.waiters.take_out_send(slot);
+        self.waiters.set_send_phase(slot, Phase::Ended);
+        self.waiters.tell_oldest_receive();
+        (Poll::Ready(Ok(())), Leftover::of(named, Some(waker)))
+    }
+
+    /// Removes a send. Returns the value that it still owned, and the waker that it had.
+    pub fn remove_send_waiter(&mut self, slot: Slot) -> (Option<T>, Option<W>)
+        requires { is_some (phase_of self.old.waiters.sends slot.0) ≡ true }
+        ensures cancelled { CancelsSend (machine_of B.bounded self.old) slot.0 result.0 (machine_of B.bounded self.new) }
+        ensures displaced { result.1 ≡ displaced_send (machine_of B.bounded self.old) slot.0 }
+    {
+        self.waiters.remove_send(slot)
+    }
+
+    /// Closes the channel, if it is open: names all receives that wait and then all sends.
+    pub fn close(&mut self) -> CloseStatus
+        requires { IsSound (machine_of B.bounded self.old) }
+        ensures { Closes (machine_of B.bounded self.old) result (machine_of B.bounded self.new) }
+    {
+        if !self.is_open {
+            return CloseStatus::AlreadyClosed;
+        }
+        self.is_open = false;
+        self.waiters.notice_all_receives(Notice::Renew);
+        self.waiters.notice_all_sends(Notice::Renew);
+        CloseStatus::NewlyClosed
+    }
+
+    /// The oldest waker to be woken.
+    pub fn next_wake(&mut self) -> Option<W>
+        ensures { Wakes (machine_of B.bounded self.old) result (machine_of B.bounded self.new) }
+    {
+        self.waiters.next_wake()
+    }
+
+    /// How many wakers are to be woken.
+    pub fn wake_count(&self) -> usize
+        ensures { result ≡ length self.now.waiters.out }
+    {
+        self.waiters.wake_count()
+    }
+}

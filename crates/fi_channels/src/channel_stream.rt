@@ -1,0 +1,53 @@
+//! A stream of a local channel's values.
+ghost use Rattle.std.specs.Prelude.{◌≡◌, Bool, true, is_some};
+ghost use Rattle.fi_channels.specs.Channel.{can_stream, kind_of, receive_phase, PollsNext, CancelsReceive, is_end};
+
+use crate::access::ChannelReceiveAccess;
+use crate::channel::ChannelState;
+use crate::local_future::LocalFutureOf;
+use fi_parts::buffer::RingBuf;
+use futures::task::Poll;
+
+/// To receive one value after another from a channel.
+pub struct ChannelStreaming;
+
+/// Receives the values of a local channel, one after another. It is spent by `cancel`, with its channel; it cannot just be let go.
+///
+/// Keeps `ChannelStream` of futures-intrusive's `channel`.
+pub type LocalChannelStream = LocalFutureOf<ChannelStreaming>;
+
+impl LocalFutureOf<ChannelStreaming> {
+    /// Ready with the next value, or with None once the channel is closed and empty, and ever after; else the stream is registered with
+    /// this waker. The caller lends the stream's own channel. Keeps `Stream::poll_next` of `ChannelStream`.
+    pub fn poll_next<T: Drop, B: RingBuf<Item = T>, W: Drop>(
+        &mut self,
+        channel: &mut ChannelState<T, B, W>,
+        waker: W,
+    ) -> Poll<Option<T>>
+        requires { can_stream (kind_of channel.old self.old.name) (receive_phase channel.old self.old.name) ≡ true }
+        ensures polled { PollsNext channel.old self.old.name waker result channel.new }
+        ensures name { self.new.name ≡ self.old.name }
+        ensures ended { self.new.has_ended ≡ is_end result }
+        ensures live { can_stream (kind_of channel.new self.old.name) (receive_phase channel.new self.old.name) ≡ true }
+    {
+        let (answer, _leftover) = channel.next_or_register(self.slot, waker);
+        self.is_ended = match &answer {
+            Poll::Ready(None) => true,
+            Poll::Ready(Some(_)) | Poll::Pending => false,
+        };
+        answer
+    }
+
+    /// Ends the stream: it leaves its channel. The caller lends the stream's own channel.
+    pub fn cancel<T: Drop, B: RingBuf<Item = T>, W: Drop>(self, channel: &mut ChannelState<T, B, W>)
+        requires { is_some (receive_phase channel.old self.name) ≡ true }
+        ensures { CancelsReceive channel.old self.name channel.new }
+    {
+        let LocalFutureOf {
+            slot,
+            is_ended: _,
+            kind: _,
+        } = self;
+        channel.remove_receive_waiter(slot);
+    }
+}

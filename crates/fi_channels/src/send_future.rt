@@ -1,0 +1,62 @@
+//! A send on a local channel.
+ghost use Rattle.std.specs.Prelude.{◌≡◌, Bool, true};
+ghost use Rattle.fi_channels.specs.Channel.{has_sent};
+
+use crate::access::ChannelSendAccess;
+use crate::channel_errors::SendFault;
+use crate::local_future::LocalFutureOf;
+use futures::task::Poll;
+
+/// To send on a channel.
+pub struct ChannelSend;
+
+/// Sends a value on a local channel. It is spent by `cancel`, with its channel; it cannot just be let go.
+///
+/// Keeps `ChannelSendFuture` of futures-intrusive's `channel`.
+pub type LocalSendFuture = LocalFutureOf<ChannelSend>;
+
+impl LocalFutureOf<ChannelSend> {
+    /// Ready once the value is stored or was taken; ready with the value where the channel is closed; else the send waits with its
+    /// value, registered with this waker.
+    ///
+    /// The caller lends the send's own channel, and polls no send that has ended. `Ready(Err(SendFault::Fault(NoMemory)))` says that
+    /// the buffer could not grow; then nothing has changed, and the send may be polled again.
+    pub fn poll<C: ChannelSendAccess>(
+        &mut self,
+        channel: &mut C,
+        waker: C::Waker,
+    ) -> Poll<Result<(), SendFault<C::Item>>>
+    where
+        C::Waker: Drop,
+        requires { C.is_sendable channel.old self.old.name ≡ true }
+        ensures polled { C.sends channel.old self.old.name waker result channel.new }
+        ensures name { self.new.name ≡ self.old.name }
+        ensures ended { self.new.has_ended ≡ has_sent result }
+        ensures live { C.is_sending channel.new self.old.name ≡ true }
+    {
+        let (answer, _leftover) = channel.send_or_register(self.slot, waker);
+        self.is_ended = match &answer {
+            Poll::Ready(Ok(())) | Poll::Ready(Err(SendFault::Closed(_))) => true,
+            Poll::Ready(Err(SendFault::Fault(_))) | Poll::Pending => false,
+        };
+        answer
+    }
+
+    /// Ends the send: it leaves its channel. Returns its value if that was neither accepted into the buffer, taken nor handed back.
+    ///
+    /// The caller lends the send's own channel. Keeps `ChannelSendFuture::cancel`.
+    pub fn cancel<C: ChannelSendAccess>(self, channel: &mut C) -> Option<C::Item>
+    where
+        C::Waker: Drop,
+        requires { C.is_sending channel.old self.name ≡ true }
+        ensures { C.withdraws channel.old self.name result channel.new }
+    {
+        let LocalFutureOf {
+            slot,
+            is_ended: _,
+            kind: _,
+        } = self;
+        let (value, _waker) = channel.remove_send_waiter(slot);
+        value
+    }
+}
