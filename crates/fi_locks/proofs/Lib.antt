@@ -1,1 +1,2 @@
 pub mod OldestTold
+pub mod MutexSteps

@@ -85,8 +85,8 @@ module _ {T W : Type 0} where
   abbrev pub Makes : MutexMachine T W → ℕ → MutexMachine T W → Type 0
   Makes old name new = StepsTo old old.own (Inserts name tt) new
 
-  -- A poll for which there is this. A value is granted: the mutex is held, and the future ends and leaves the queue. With none the
-  -- future waits, by this effect.
+  -- A poll for which there is this. A value is granted: the mutex is held, and the future ends and leaves the queue. With none
+  -- the future waits, by this effect.
   abbrev pub GrantsOr : WaiterEffect (Unit {0}) W → Option T → MutexMachine T W → ℕ → Poll T → MutexMachine T W → Type 0
   GrantsOr waits (Some value) old name answer new = (answer ≡ Ready value) × StepsTo old (held old.own) (EndsPlaced name) new
   GrantsOr waits None old name answer new = (answer ≡ Pending) × StepsTo old old.own waits new

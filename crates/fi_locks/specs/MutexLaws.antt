@@ -77,14 +77,14 @@ module _ {T : Type 0} where
   nothing_for_newcomer false queue value none is = absurd (none_is value none is)
 
   -- where there is something for a newcomer in a fair mutex, nobody is queued
-  some_for_newcomer : (is_fair : Bool) (queue : List ℕ) (value : Option T) (given : T) →
+  pub some_for_newcomer : (is_fair : Bool) (queue : List ℕ) (value : Option T) (given : T) →
       (if is_fair && not (is_empty queue) then None else value) ≡ Some given → is_fair ≡ true → queue ≡ []
   some_for_newcomer true [] value given is fair = refl
   some_for_newcomer true (x ∷ xs) value given is fair = absurd (cc)
   some_for_newcomer false queue value given is fair = absurd (false≢true fair)
 
   -- a fair mutex has nothing for one who is registered
-  some_for_registered : (is_fair : Bool) (value : Option T) (given : T) → (if is_fair then None else value) ≡ Some given →
+  pub some_for_registered : (is_fair : Bool) (value : Option T) (given : T) → (if is_fair then None else value) ≡ Some given →
       is_fair ≡ true → ⊥
   some_for_registered true value given is fair = absurd (cc)
   some_for_registered false value given is fair = false≢true fair
@@ -99,6 +99,9 @@ module _ {W : Type 0} where
   known = record { gone = refl; fresh = refl; registered = λ waker. refl; ended = refl }
 
 module _ {D W : Type 0} where
+  queue_if : (waiting now : Waiting D W) → waiting ≡ now → waiting.side.queue ≡ now.side.queue
+  queue_if waiting now is = ap (λ (w : Waiting D W). w.side.queue) is
+
   -- one future changed, and is told as it was
   told_as_before : (old new : Side D W) (name : ℕ) (phase : Option (Phase W)) → Becomes old new name phase →
       is_told phase ≡ is_told (phase_of old name) → (q : ℕ) → is_told (phase_of new q) ≡ is_told (phase_of old q)
@@ -116,7 +119,7 @@ module _ {D W : Type 0} where
   ]
 
 module _ {T W : Type 0} where
-  -- no call leaves a future that lacks something whoever it is: what no wake owed means is said of the told
+  -- What a future lacks is not said: whether a wake is owed rests on who is told.
   abbrev pub rules : Bool → WaiterRules (MutexData T) (Unit {0}) W
   rules is_fair =
       record {
@@ -127,6 +130,13 @@ module _ {T W : Type 0} where
         lacks =
             λ own asks. ⊤;
       }
+
+  -- what the parts of a machine say of it
+  free_if : (mutex : MutexMachine T W) (own : MutexData T) → mutex.own ≡ own → is_free mutex ≡ is_some own.value
+  free_if mutex own is = ap (λ (d : MutexData T). is_some d.value) is
+
+  fair_if : (mutex : MutexMachine T W) (own : MutexData T) → mutex.own ≡ own → mutex.own.is_fair ≡ own.is_fair
+  fair_if mutex own is = ap (λ (d : MutexData T). d.is_fair) is
 
   abbrev pub IsWell : MutexMachine T W → Type 0
   IsWell mutex = IsSound mutex × OwesNoWake mutex
@@ -207,7 +217,7 @@ module _ {T W : Type 0} where
         TakesEffect (NotifiesFront keeps (first_of mid.side.queue)) mid new.waiting → (keeps ≡ true → is_free new ≡ true) →
         (keeps ≡ true → (q : ℕ) → is_told (phase_of mid.side q) ≡ false) → OwesNoWakeAs keeps new
     owes_told true mid become did free none = λ q.
-        let queue : queue_of new ≡ mid.side.queue = ap (λ (w : Waiting (Unit {0}) W). w.side.queue) did.2 in
+        let queue : queue_of new ≡ mid.side.queue = queue_if _ _ did.2 in
         let told : is_told (phase_at new q) ≡ holds q (first_of mid.side.queue) =
         elim (cases_Bool (holds q (first_of mid.side.queue))) [
           | inl at ↦ ap is_told (become.these q at) ∙ sym at
@@ -217,7 +227,7 @@ module _ {T W : Type 0} where
     owes_told false mid become did free none = λ is next later at. each mid.side.queue refl next later at
       where
         rest : queue_of new ≡ did.0
-        rest = ap (λ (w : Waiting (Unit {0}) W). w.side.queue) did.2
+        rest = queue_if _ _ did.2
 
         each : (queue : List ℕ) → mid.side.queue ≡ queue → (next : ℕ) (later : List ℕ) → queue_of new ≡ next ∷ later →
             (q : ℕ) × (is_told (phase_at new q) ≡ true)
@@ -243,7 +253,7 @@ module _ {T W : Type 0} where
 
     -- one is told
     module _ (name : ℕ) (told : is_told (phase_at old name) ≡ true) (fair : old.own.is_fair ≡ true) where
-      told_is : (is_free old ≡ true) × (holds name (first_of (queue_of old)) ≡ true)
+      pub told_is : (is_free old ≡ true) × (holds name (first_of (queue_of old)) ≡ true)
       told_is = and_parts (is_free old) (holds name (first_of (queue_of old))) (sym (fair_told fair name) ∙ told)
 
       no_other : (q : ℕ) → q ≢ name → is_told (phase_at old q) ≡ false
@@ -301,7 +311,7 @@ module _ {T W : Type 0} where
           (keeps ≡ true → (q : ℕ) → q ≢ name → is_told (phase_at old q) ≡ false) → OwesNoWakeAs keeps new
       granted_owes value did none =
           let becomes = phases_after (rules keeps) (held old.own) (EndsPlaced name) old new was.0 tt did.1 in
-          owes_held old new keeps (ap (λ (d : MutexData T). is_some d.value) did.1.0)
+          owes_held old new keeps (free_if new _ did.1.0)
           (λ fair. none_told old.waiting.side new.waiting.side name (Some Ended) becomes refl (none fair))
 
       -- after a registration
@@ -311,7 +321,7 @@ module _ {T W : Type 0} where
       registered_owes phase did becomes off some =
           owes_pushed old new keeps name
           (told_as_before old.waiting.side new.waiting.side name (Some (Registered waker)) becomes (sym off))
-          (ap (λ (d : MutexData T). is_some d.value) did.1.0) (ap (λ (w : Waiting
+          (free_if new _ did.1.0) (ap (λ (w : Waiting
           (Unit {0}) W). w.side.queue) did.1.1.1) some was.1
 
       fresh_owes : (given : Option T) → for_newcomer old ≡ given → phase_at old name ≡ Some Fresh →
@@ -334,14 +344,14 @@ module _ {T W : Type 0} where
           let becomes = phases_after (rules keeps) old.own (KeepsWaiting name waker) old new was.0 tt did.1 in
           owes_same old new keeps
           (told_as_before old.waiting.side new.waiting.side name (Some (Registered waker)) becomes (sym (ap is_told is)))
-          (ap (λ (d : MutexData T). is_some d.value) did.1.0) (ap (λ (w : Waiting (Unit {0}) W). w.side.queue) did.1.1.1) was.1
+          (free_if new _ did.1.0) (queue_if _ _ did.1.1.1) was.1
 
       told_owes : (given : Option T) → old.own.value ≡ given → phase_at old name ≡ Some Told →
           (old.own.is_fair ≡ true → is_free old ≡ true) → GrantsOr (Registers name waker) given old name answer new →
           OwesNoWakeAs keeps new
       told_owes (Some value) there is free did = granted_owes value did (λ fair. no_other old was name (ap is_told is) fair)
       told_owes None there is free did =
-          owes_held old new keeps (ap (λ (d : MutexData T). is_some d.value) did.1.0 ∙ ap is_some there)
+          owes_held old new keeps (free_if new _ did.1.0 ∙ ap is_some there)
           (λ fair. absurd (both_ways keeps (is_unfair free there) fair))
 
       owes_as : (phase : Option (Phase W)) → phase_at old name ≡ phase → PollsAs phase old name waker answer new →
@@ -353,8 +363,8 @@ module _ {T W : Type 0} where
 
       same_fairness : (waits : WaiterEffect (Unit {0}) W) (given : Option T) → GrantsOr waits given old name answer new →
           new.own.is_fair ≡ old.own.is_fair
-      same_fairness waits (Some value) did = ap (λ (d : MutexData T). d.is_fair) did.1.0
-      same_fairness waits None did = ap (λ (d : MutexData T). d.is_fair) did.1.0
+      same_fairness waits (Some value) did = fair_if new _ did.1.0
+      same_fairness waits None did = fair_if new _ did.1.0
 
       fairness_as : (phase : Option (Phase W)) → PollsAs phase old name waker answer new → new.own.is_fair ≡ old.own.is_fair
       fairness_as (Some Fresh) did = same_fairness (Registers name waker) (for_newcomer old) did
@@ -372,7 +382,7 @@ module _ {T W : Type 0} where
     granted_locks : (waits : WaiterEffect (Unit {0}) W) (given : Option T) → GrantsOr waits given old name answer new →
         IsLockedIfReady answer new
     granted_locks waits (Some value) did =
-        subst (λ a. IsLockedIfReady a new) (sym did.0) (ap (λ (d : MutexData T). is_some d.value) did.1.0)
+        subst (λ a. IsLockedIfReady a new) (sym did.0) (free_if new _ did.1.0)
     granted_locks waits None did = subst (λ a. IsLockedIfReady a new) (sym did.0) tt
 
     locks_as : (phase : Option (Phase W)) → PollsAs phase old name waker answer new → IsLockedIfReady answer new
@@ -392,7 +402,7 @@ module _ {T W : Type 0} where
 
     given_locks : (given answer : Option T) → TriesFor given old answer new → IsLockedIfGiven answer new
     given_locks (Some value) answer did =
-        subst (λ a. IsLockedIfGiven a new) (sym did.0) (ap (λ (d : MutexData T). is_some d.value) did.1.0)
+        subst (λ a. IsLockedIfGiven a new) (sym did.0) (free_if new _ did.1.0)
     given_locks None answer did = subst (λ a. IsLockedIfGiven a new) (sym did.0) tt
 
     pub locks_if_given : (answer : Option T) → TriesLock old answer new → IsLockedIfGiven answer new
@@ -414,7 +424,7 @@ module _ {T W : Type 0} where
 
     module _ (was : IsWell old) where
       fairness : (own : MutexData T) → own.is_fair ≡ old.own.is_fair → new.own ≡ own → new.own.is_fair ≡ old.own.is_fair
-      fairness own same is = ap (λ (d : MutexData T). d.is_fair) is ∙ same
+      fairness own same is = fair_if new _ is ∙ same
 
       -- where nothing that matters to who is told has changed
       same_line : {on_wakers : WakerEffect W} → Line (rules old.own.is_fair) on_wakers old new → new.own ≡ old.own →
@@ -422,8 +432,8 @@ module _ {T W : Type 0} where
           MutexLine on_wakers old new
       same_line is own told queue = record {
         line = is;
-        is_fair = ap (λ (d : MutexData T). d.is_fair) own;
-        owes = owes_same old new old.own.is_fair told (ap (λ (d : MutexData T). is_some d.value) own) queue was.1;
+        is_fair = fair_if new _ own;
+        owes = owes_same old new old.own.is_fair told (free_if new _ own) queue was.1;
       }
 
       pub unchanged_well : new ≡ old → MutexLine NoEffect old new
@@ -436,25 +446,25 @@ module _ {T W : Type 0} where
           let becomes = phases_after (rules old.own.is_fair) old.own (Inserts name tt) old new was.0 tt did in
           same_line (inserts (rules old.own.is_fair) name tt old new did) did.0
           (told_as_before old.waiting.side new.waiting.side name (Some Fresh) becomes (sym (ap is_told did.1.0)))
-          (ap (λ (w : Waiting (Unit {0}) W). w.side.queue) did.1.1)
+          (queue_if _ _ did.1.1)
 
       pub woken : (waker : Option W) → Wakes old waker new → MutexLine (gives waker) old new
       woken waker did =
           same_line (pops (rules old.own.is_fair) waker old new did) did.0
           (λ q. ap is_told (phases_after (rules old.own.is_fair) old.own (PopsOldest waker) old new was.0 tt did q))
-          (ap (λ (w : Waiting (Unit {0}) W). w.side.queue) did.1.1)
+          (queue_if _ _ did.1.1)
 
       nothing_done : StepsTo old old.own NoChange new → MutexLine NoEffect old new
       nothing_done did =
           same_line (line (rules old.own.is_fair) old.own NoChange old new did tt (λ asks lack. tt)) did.0
           (λ q. ap is_told (phases_after (rules old.own.is_fair) old.own NoChange old new was.0 tt did q))
-          (ap (λ (w : Waiting (Unit {0}) W). w.side.queue) did.1)
+          (queue_if _ _ did.1)
 
       taken : (value : T) → for_newcomer old ≡ Some value → StepsTo old (held old.own) NoChange new → MutexLine NoEffect old new
       taken value for_it did = record {
         line = line (rules old.own.is_fair) (held old.own) NoChange old new did tt (λ asks lack. tt);
         is_fair = fairness (held old.own) refl did.0;
-        owes = owes_held old new old.own.is_fair (ap (λ (d : MutexData T). is_some d.value) did.0)
+        owes = owes_held old new old.own.is_fair (free_if new _ did.0)
             (λ fair q. ap is_told (phases_after (rules old.own.is_fair) (held old.own) NoChange old new was.0 tt did q)
             ∙ none_if_empty old was fair (some_for_newcomer old.own.is_fair (queue_of old) old.own.value value for_it fair) q);
       }
@@ -476,7 +486,7 @@ module _ {T W : Type 0} where
             is_fair = fairness (freed old.own value) refl did.0;
             owes = owes_told old new old.own.is_fair old.waiting
                 (phases_after (rules old.own.is_fair) (freed old.own value) effect old new was.0 (refl, refl) did) did.1
-                (λ fair. ap (λ (d : MutexData T). is_some d.value) did.0) (λ fair. none_if_held old was fair
+                (λ fair. free_if new _ did.0) (λ fair. none_if_held old was fair
                 (ap is_some was_held));
           }
 
@@ -495,7 +505,7 @@ module _ {T W : Type 0} where
         is_fair = fairness old.own refl did.0;
         owes = owes_removed old new old.own.is_fair name
             (phases_after (rules old.own.is_fair) old.own (Removes name) old new was.0 tt did) off
-            (ap (λ (d : MutexData T). is_some d.value) did.0) (ap (λ (w : Waiting (Unit {0}) W). w.side.queue) did.1.1) was.1;
+            (free_if new _ did.0) (queue_if _ _ did.1.1) was.1;
       }
 
       -- a told one is removed, and the oldest told in its place
@@ -507,7 +517,7 @@ module _ {T W : Type 0} where
           let queue = without name (queue_of old) in
           let effect : WaiterEffect (Unit {0}) W = AndThen (Removes name) (tells_oldest is_fair queue) in
           let mid = did.1.0 in
-          let left : mid.side.queue ≡ queue = ap (λ (w : Waiting (Unit {0}) W). w.side.queue) did.1.1.1 in
+          let left : mid.side.queue ≡ queue = queue_if _ _ did.1.1.1 in
           let becomes = effect_after (queued_rule is_fair) is_lock_phase known (Removes name) old.waiting mid tt was.0 did.1.1 in
           let sound = effect_sound (queued_rule is_fair) is_lock_phase known (Removes name) old.waiting mid tt was.0 did.1.1 in
           let tells : TakesEffect (NotifiesFront is_fair (first_of mid.side.queue)) mid new.waiting =
@@ -519,7 +529,7 @@ module _ {T W : Type 0} where
                 (effect_after (queued_rule is_fair) is_lock_phase known (NotifiesFront is_fair
                 (first_of mid.side.queue)) mid new.waiting
                 (refl, refl) sound tells) tells
-                (λ fair. ap (λ (d : MutexData T). is_some d.value) did.0 ∙ (told_is old was name told fair).0)
+                (λ fair. free_if new _ did.0 ∙ (told_is old was name told fair).0)
                 (λ fair. none_told old.waiting.side mid.side name None becomes refl (no_other old was name told fair));
           }
 

@@ -14,3 +14,6 @@ pub mod StateLaws
 pub mod Timer
 pub mod TimerHistory
 pub mod TimerLaws
+pub mod Mutex
+pub mod MutexHistory
+pub mod MutexLaws

@@ -3,6 +3,7 @@
 
 mod answer;
 mod event;
+mod mutex;
 mod oneshot;
 mod runs;
 mod state;
@@ -12,6 +13,7 @@ mod timer;
 
 pub use answer::Answer;
 pub use event::{EventCall, every_run_of_an_event};
+pub use mutex::{MutexCall, every_run_of_a_mutex};
 pub use oneshot::{OneshotCall, every_run_of_a_oneshot, every_run_of_a_oneshot_broadcast};
 pub use runs::{Primitive, every_run, run};
 pub use state::{StateCall, every_run_of_a_state_broadcast};

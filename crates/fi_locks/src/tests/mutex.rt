@@ -1,4 +1,4 @@
-//! The mutex: the worked rows, each call by slot and by local future, and makings in every kind of state.
+//! The mutex: each call by slot and by local future, and makings in every kind of state.
 use crate::{LocalMutex, MutexState};
 use fi_parts::Slot;
 use futures::task::Poll;
@@ -36,55 +36,6 @@ fn wakes(mutex: &mut MutexState<u64, u64>, alloc: Global) -> Result<Vec<u64>, Fa
         }
     }
     Ok(woken)
-}
-
-#[test]
-fn mutex_unfair(rt: HostRuntime) -> Result<(), Fail> {
-    let mut mutex = MutexState::new(rt.alloc(), 7, false);
-    assert_eq!(rt; mutex.try_take(), Some(7));
-    let a = mutex.claim_lock().ok().ok_or("room")?;
-    let b = mutex.claim_lock().ok().ok_or("room")?;
-    assert_eq!(rt; poll(&mut mutex, a, 1), Some(Poll::Pending));
-    assert_eq!(rt; poll(&mut mutex, b, 2), Some(Poll::Pending));
-    assert_eq!(rt;
-        unlock(&mut mutex, 8, rt.alloc())?.as_slice(),
-        [1].as_slice()
-    );
-    assert_eq!(rt; mutex.try_take(), Some(8));
-    assert_eq!(rt; poll(&mut mutex, a, 3), Some(Poll::Pending));
-    assert_eq!(rt;
-        unlock(&mut mutex, 9, rt.alloc())?.as_slice(),
-        [2].as_slice()
-    );
-    assert_eq!(rt;
-        cancel(&mut mutex, b, rt.alloc())?.as_slice(),
-        [3].as_slice()
-    );
-    assert_eq!(rt; poll(&mut mutex, a, 3), Some(Poll::Ready(9)));
-    Ok(())
-}
-
-#[test]
-fn mutex_fair(rt: HostRuntime) -> Result<(), Fail> {
-    let mut mutex = MutexState::new(rt.alloc(), 7, true);
-    assert_eq!(rt; mutex.try_take(), Some(7));
-    let a = mutex.claim_lock().ok().ok_or("room")?;
-    let b = mutex.claim_lock().ok().ok_or("room")?;
-    assert_eq!(rt; poll(&mut mutex, a, 1), Some(Poll::Pending));
-    assert_eq!(rt; poll(&mut mutex, b, 2), Some(Poll::Pending));
-    assert_eq!(rt;
-        unlock(&mut mutex, 8, rt.alloc())?.as_slice(),
-        [1].as_slice()
-    );
-    assert_eq!(rt; mutex.try_take(), None);
-    assert_eq!(rt; poll(&mut mutex, b, 2), Some(Poll::Pending));
-    assert_eq!(rt; poll(&mut mutex, a, 1), Some(Poll::Ready(8)));
-    assert!(rt; mutex.is_locked());
-    assert_eq!(rt;
-        unlock(&mut mutex, 9, rt.alloc())?.as_slice(),
-        [2].as_slice()
-    );
-    Ok(())
 }
 
 #[test]

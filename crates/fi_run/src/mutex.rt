@@ -1,0 +1,267 @@
+//! The mutex as a primitive.
+ghost use Rattle.std.specs.Prelude.{◌≡◌, Bool, IsOk, IfOk, IfErr};
+ghost use Rattle.fi_locks.specs.Mutex.{MutexMachine, IsSound, OwesNoWake};
+ghost use Rattle.fi_run.specs.Mutex.{Opens, Step};
+ghost use Rattle.fi_run.specs.MutexHistory.{GrantsAlternate, GrantsAreInTurn, IsFair, WakersAreKept};
+ghost use Rattle.fi_run.specs.Run.{AfterEveryRun};
+ghost use Rattle.fi_run.specs.declared.answer.Answer.{Answer};
+ghost use Rattle.fi_run.specs.declared.mutex.MutexCall.{MutexCall};
+
+use crate::answer::Answer;
+use crate::runs::{Primitive, every_run};
+use fi_locks::MutexState;
+use fi_parts::{Fault, Slot};
+use futures::task::Poll;
+use std::alloc::Global;
+
+/// A call on a mutex.
+#[derive(Clone, Copy, Debug, PartialEq, Eq, Drop)]
+pub enum MutexCall<T, W> {
+    /// Makes a future that locks the mutex. Answers `Made`.
+    Lock,
+    /// Polls a future. Answers `Pending`, or `Item`: the value, which the caller holds then.
+    Poll(Slot, W),
+    /// Cancels a future. Answers `Done`.
+    Cancel(Slot),
+    /// Locks the mutex if it is free for the caller. Answers `Item`, `Nothing`.
+    TryLock,
+    /// Puts the value back. Answers `Done`; of a mutex that isn't locked `Back`, with `NotHeld`.
+    Unlock(T),
+    /// Asks whether the mutex is locked. Answers `Flag`.
+    IsLocked,
+    /// Takes out the oldest waker. Answers `Woken`.
+    NextWake,
+}
+
+impl<T: Drop, W: Drop> Primitive for MutexState<T, W> {
+    ghost use Rattle.fi_locks.specs.Mutex.{IsSound, OwesNoWake};
+    ghost use Rattle.fi_run.specs.Mutex.{Opens, Step};
+    ghost use Rattle.fi_run.specs.MutexHistory.{HistoryHolds};
+    ghost use Rattle.fi_run.specs.MutexLaws.{mutex_starts, mutex_keeps, mutex_history_initial, mutex_history_preserved};
+
+    type Opening = (T, bool);
+
+    type Call = MutexCall<T, W>;
+
+    type Answer = Answer<T, W>;
+
+    ghost step = { Step };
+
+    ghost opens = { Opens };
+
+    ghost is_sound = { IsSound };
+
+    ghost owes_no_wake = { OwesNoWake };
+
+    ghost history_invariant = { HistoryHolds };
+
+    ghost starts = { mutex_starts };
+
+    ghost keeps = { mutex_keeps };
+
+    ghost history_initial = { mutex_history_initial };
+
+    ghost history_preserved = { mutex_history_preserved };
+
+    fn open(alloc: Global, opening: (T, bool)) -> Result<Self, Fault>
+        ensures opened { IfOk result (λ state. Opens opening state) }
+        ensures fault { IfErr result (λ fault. fault ≡ Fault.NoMemory) }
+        // It takes no memory.
+        ensures succeeds { IsOk result }
+    {
+        let (value, is_fair) = opening;
+        Ok(MutexState::new(alloc, value, is_fair))
+    }
+
+    #[inline(always)]
+    fn apply(&mut self, call: MutexCall<T, W>) -> Answer<T, W> {
+        match call {
+            MutexCall::Lock => match self.claim_lock() {
+                Ok(slot) => Answer::Made(slot),
+                Err(fault) => Answer::Refused(fault),
+            },
+            MutexCall::Poll(slot, waker) => {
+                if !self.can_poll(slot) {
+                    return Answer::Refused(Fault::NoSlot);
+                }
+                let (answer, _leftover) = self.try_wait(slot, waker);
+                match answer {
+                    Poll::Ready(value) => Answer::Item(value),
+                    Poll::Pending => Answer::Pending,
+                }
+            }
+            MutexCall::Cancel(slot) => {
+                if !self.is_live(slot) {
+                    return Answer::Refused(Fault::NoSlot);
+                }
+                self.remove_waiter(slot);
+                Answer::Done
+            }
+            MutexCall::TryLock => match self.try_take() {
+                Some(value) => Answer::Item(value),
+                None => Answer::Nothing,
+            },
+            MutexCall::Unlock(value) => match self.unlock(value) {
+                Ok(()) => Answer::Done,
+                Err(value) => Answer::Back(value, Fault::NotHeld),
+            },
+            MutexCall::IsLocked => Answer::Flag(self.is_locked()),
+            MutexCall::NextWake => Answer::Woken(self.next_wake()),
+        }
+    }
+
+    fn show(&self) {
+        MutexState::show(self);
+    }
+}
+
+/// Every mutex follows its promises, in every run from a sound state that owes no wake, so from an opening: each grant hands out
+/// the value that was put back by the last unlock, and between two grants there is an unlock; a fair mutex is granted in the order
+/// of first polls; a pending future's last waker is registered, stands in the outbox, or was handed out since; and no wake is owed.
+pub fn every_run_of_a_mutex<T: Drop, W: Drop>()
+    ensures opened { (value : T) (is_fair : Bool) (first : MutexMachine T W) → Opens (value, is_fair) first → IsSound first × OwesNoWake first }
+    ensures grants { AfterEveryRun {S = MutexMachine T W} IsSound OwesNoWake Step (λ first history now. GrantsAlternate first history) }
+    ensures in_turn { AfterEveryRun {S = MutexMachine T W} IsSound OwesNoWake Step (λ first history now. IsFair first → GrantsAreInTurn first history) }
+    ensures wakers { AfterEveryRun {S = MutexMachine T W} IsSound OwesNoWake Step (λ first history now. WakersAreKept first history now) }
+    ensures no_wake { AfterEveryRun {S = MutexMachine T W} IsSound OwesNoWake Step (λ first history now. IsSound now × OwesNoWake now) }
+{
+    every_run::<MutexState<T, W>>();
+}
+
+#[cfg(test)]
+mod tests {
+    use super::*;
+    use crate::runs::run;
+    use std::test::Fail;
+
+    const A: Slot = Slot(0);
+
+    const B: Slot = Slot(1);
+
+    // A mutex with the value 7 answers these calls so.
+    fn answers(
+        alloc: Global,
+        is_fair: bool,
+        calls: Vec<MutexCall<u64, u64>>,
+        wanted: &[Answer<u64, u64>],
+    ) -> Result<bool, Fail> {
+        let mut mutex: MutexState<u64, u64> = MutexState::open(alloc, (7, is_fair))?;
+        let mut out = Vec::new(alloc);
+        run(&mut mutex, calls, &mut out)?;
+        Primitive::show(&mutex);
+        Ok(out.as_slice() == wanted)
+    }
+
+    #[test]
+    fn mutex_unfair(rt: HostRuntime) -> Result<(), Fail> {
+        let calls = vec![in rt.alloc();
+            MutexCall::TryLock,
+            MutexCall::Lock,
+            MutexCall::Lock,
+            MutexCall::Poll(A, 1),
+            MutexCall::Poll(B, 2),
+            MutexCall::Unlock(8),
+            MutexCall::NextWake,
+            MutexCall::NextWake,
+            MutexCall::TryLock,
+            MutexCall::Poll(A, 3),
+            MutexCall::Unlock(9),
+            MutexCall::NextWake,
+            MutexCall::NextWake,
+            MutexCall::Cancel(B),
+            MutexCall::NextWake,
+            MutexCall::NextWake,
+            MutexCall::Poll(A, 3),
+        ]?;
+        let wanted = [
+            Answer::Item(7),
+            Answer::Made(A),
+            Answer::Made(B),
+            Answer::Pending,
+            Answer::Pending,
+            Answer::Done,
+            Answer::Woken(Some(1)),
+            Answer::Woken(None),
+            Answer::Item(8),
+            Answer::Pending,
+            Answer::Done,
+            Answer::Woken(Some(2)),
+            Answer::Woken(None),
+            Answer::Done,
+            Answer::Woken(Some(3)),
+            Answer::Woken(None),
+            Answer::Item(9),
+        ];
+        assert!(rt; answers(rt.alloc(), false, calls, wanted.as_slice())?);
+        Ok(())
+    }
+
+    #[test]
+    fn mutex_fair(rt: HostRuntime) -> Result<(), Fail> {
+        let calls = vec![in rt.alloc();
+            MutexCall::TryLock,
+            MutexCall::Lock,
+            MutexCall::Lock,
+            MutexCall::Poll(A, 1),
+            MutexCall::Poll(B, 2),
+            MutexCall::Unlock(8),
+            MutexCall::NextWake,
+            MutexCall::NextWake,
+            MutexCall::TryLock,
+            MutexCall::Poll(B, 2),
+            MutexCall::Poll(A, 1),
+            MutexCall::IsLocked,
+            MutexCall::Unlock(9),
+            MutexCall::NextWake,
+            MutexCall::NextWake,
+        ]?;
+        let wanted = [
+            Answer::Item(7),
+            Answer::Made(A),
+            Answer::Made(B),
+            Answer::Pending,
+            Answer::Pending,
+            Answer::Done,
+            Answer::Woken(Some(1)),
+            Answer::Woken(None),
+            Answer::Nothing,
+            Answer::Pending,
+            Answer::Item(8),
+            Answer::Flag(true),
+            Answer::Done,
+            Answer::Woken(Some(2)),
+            Answer::Woken(None),
+        ];
+        assert!(rt; answers(rt.alloc(), true, calls, wanted.as_slice())?);
+        Ok(())
+    }
+
+    #[test]
+    fn what_is_refused(rt: HostRuntime) -> Result<(), Fail> {
+        let calls = vec![in rt.alloc();
+            MutexCall::Unlock(8),
+            MutexCall::Poll(A, 1),
+            MutexCall::Cancel(A),
+            MutexCall::Lock,
+            MutexCall::Poll(A, 1),
+            MutexCall::Poll(A, 1),
+            MutexCall::Cancel(A),
+            MutexCall::Unlock(9),
+            MutexCall::IsLocked,
+        ]?;
+        let wanted = [
+            Answer::Back(8, Fault::NotHeld),
+            Answer::Refused(Fault::NoSlot),
+            Answer::Refused(Fault::NoSlot),
+            Answer::Made(A),
+            Answer::Item(7),
+            Answer::Refused(Fault::NoSlot),
+            Answer::Done,
+            Answer::Done,
+            Answer::Flag(false),
+        ];
+        assert!(rt; answers(rt.alloc(), true, calls, wanted.as_slice())?);
+        every_run_of_a_mutex::<u64, u64>();
+        Ok(())
+    }
+}
