@@ -14,6 +14,7 @@ use Rattle.fi_run.specs.declared.answer.Answer.{Answer}
 use Rattle.fi_run.specs.declared.answer.Answer.TheVariants.{Made, Pending, Item, Nothing, Done, Flag, Woken, Back, Refused}
 use Rattle.fi_run.specs.declared.mutex.MutexCall.{MutexCall}
 use Rattle.fi_run.specs.declared.mutex.MutexCall.TheVariants.{Lock, Poll, Cancel, TryLock, Unlock, IsLocked, NextWake}
+use Rattle.fi_run.specs.Outgoing.{TakesOldest, machine_outgoing, pops_oldest}
 use Rattle.fi_run.specs.WakerEffects.{on_wakers}
 use Rattle.fi_run.specs.Mutex.{Opens, Step}
 use Rattle.fi_run.specs.MutexHistory.{value_step, IsGrantOf, waiting_step, IsInTurn}
@@ -152,3 +153,9 @@ module _ {T W : Type 0} where
         wakers = line_keeps_wakers (rules old.own.is_fair) (λ entry. on_wakers (subject entry.0) entry.1) first.waiting history
             (call, answer) old new sound is.line was.wakers;
       }
+
+pub mutex_takes_oldest : {T W : Type 0} (old : MutexMachine T W) (answer : Answer T W) (new : MutexMachine T W)
+    → Step old NextWake answer new → TakesOldest machine_outgoing (λ waker. Woken waker) old answer new
+mutex_takes_oldest old (Woken waker) new did = pops_oldest (λ found. Woken found) old waker new did
+mutex_takes_oldest old (Refused fault) new did = absurd did.0
+mutex_takes_oldest old answer new did = absurd did

@@ -37,13 +37,18 @@ impl<T: Drop, W: Drop> Primitive for MutexState<T, W> {
     ghost use Rattle.fi_locks.specs.Mutex.{IsSound, OwesNoWake};
     ghost use Rattle.fi_run.specs.Mutex.{Opens, Step};
     ghost use Rattle.fi_run.specs.MutexHistory.{HistoryHolds};
-    ghost use Rattle.fi_run.specs.MutexLaws.{mutex_starts, mutex_keeps, mutex_history_initial, mutex_history_preserved};
+    ghost use Rattle.fi_run.specs.declared.answer.Answer.TheVariants.{Woken};
+    ghost use Rattle.fi_run.specs.declared.mutex.MutexCall.TheVariants.{NextWake};
+    ghost use Rattle.fi_run.specs.Outgoing.{machine_outgoing};
+    ghost use Rattle.fi_run.specs.MutexLaws.{mutex_starts, mutex_keeps, mutex_takes_oldest, mutex_history_initial, mutex_history_preserved};
 
     type Opening = (T, bool);
 
     type Call = MutexCall<T, W>;
 
     type Answer = Answer<T, W>;
+
+    type Waker = W;
 
     ghost step = { Step };
 
@@ -55,11 +60,19 @@ impl<T: Drop, W: Drop> Primitive for MutexState<T, W> {
 
     ghost history_invariant = { HistoryHolds };
 
+    ghost outgoing = { machine_outgoing };
+
+    ghost take_waker = { NextWake };
+
+    ghost hands_out = { λ waker. Woken waker };
+
     ghost starts = { mutex_starts };
 
     ghost keeps = { mutex_keeps };
 
     ghost history_initial = { mutex_history_initial };
+
+    ghost takes_oldest = { mutex_takes_oldest };
 
     ghost history_preserved = { mutex_history_preserved };
 
@@ -108,6 +121,10 @@ impl<T: Drop, W: Drop> Primitive for MutexState<T, W> {
             MutexCall::IsLocked => Answer::Flag(self.is_locked()),
             MutexCall::NextWake => Answer::Woken(self.next_wake()),
         }
+    }
+
+    fn next_wake_call() -> MutexCall<T, W> {
+        MutexCall::NextWake
     }
 
     fn show(&self) {
