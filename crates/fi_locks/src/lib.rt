@@ -10,6 +10,8 @@ mod mutex_guard;
 mod tests;
 mod timer;
 mod timer_future;
+#[cfg(test)]
+mod uses;
 
 pub use mutex::{LocalMutex, MutexState};
 pub use mutex_future::LocalMutexLockFuture;
