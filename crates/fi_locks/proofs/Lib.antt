@@ -1,0 +1,3 @@
+pub mod SemaphoreMarks
+pub mod SemaphoreSteps
+pub mod TellingRounds

@@ -10,3 +10,4 @@ pub mod SemaphoreSoundLaws
 pub mod SemaphoreFairLaws
 pub mod SemaphoreUnfairLaws
 pub mod SemaphoreLaws
+pub mod SemaphoreFields

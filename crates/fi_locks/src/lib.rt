@@ -3,10 +3,14 @@
 #![tactic(auto)]
 
 mod asked;
+mod semaphore;
+mod semaphore_future;
 #[cfg(test)]
 mod tests;
 mod timer;
 mod timer_future;
 
+pub use semaphore::{LocalSemaphore, SemaphoreState};
+pub use semaphore_future::{LocalSemaphoreAcquireFuture, LocalSemaphoreReleaser};
 pub use timer::{LocalTimerService, TimerState};
 pub use timer_future::LocalTimerFuture;
