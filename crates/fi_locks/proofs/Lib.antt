@@ -1,2 +1,5 @@
 pub mod OldestTold
 pub mod MutexSteps
+pub mod SemaphoreMarks
+pub mod SemaphoreSteps
+pub mod TellingRounds

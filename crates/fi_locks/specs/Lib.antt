@@ -13,3 +13,4 @@ pub mod SemaphoreLaws
 pub mod Mutex
 pub mod MutexLaws
 pub mod MutexFields
+pub mod SemaphoreFields

@@ -95,30 +95,30 @@ module _ {W : Type 0} where
   is_granted (Some Told) state need = nat_le need state.own.free
   is_granted phase state need = false
 
-  -- A poll of a future of this phase, which is granted this need or not.
-  abbrev pub PollsAs : Option (Phase W) → Bool → ℕ → SemaphoreMachine W → ℕ → W → Poll (Unit {0}) → SemaphoreMachine W → Type 0
+  -- A poll of a future of this phase, which is granted this need or not; it answers how many permits it was granted.
+  abbrev pub PollsAs : Option (Phase W) → Bool → ℕ → SemaphoreMachine W → ℕ → W → Poll ℕ → SemaphoreMachine W → Type 0
   -- a fresh one ends if it is granted, and else registers
-  PollsAs (Some Fresh) true need old name waker answer new = (answer ≡ Ready tt) × StepsTo old (granted old.own need) (Ends name) new
+  PollsAs (Some Fresh) true need old name waker answer new = (answer ≡ Ready need) × StepsTo old (granted old.own need) (Ends name) new
   PollsAs (Some Fresh) false need old name waker answer new = (answer ≡ Pending) × StepsTo old old.own (Registers name waker) new
   -- a registered one ends if it is granted, and else stays pending with its newest waker
-  PollsAs (Some (Registered before)) true need old name waker answer new = (answer ≡ Ready tt) ×
+  PollsAs (Some (Registered before)) true need old name waker answer new = (answer ≡ Ready need) ×
       StepsTo old (granted old.own need) (EndsPlaced name) new
   PollsAs (Some (Registered before)) false need old name waker answer new = (answer ≡ Pending) ×
       StepsTo old old.own (KeepsWaiting name waker) new
   -- a told one ends if it is granted, and in a fair semaphore a telling round follows; in an unfair one it may have to wait again, as
   -- the youngest
-  PollsAs (Some Told) true need old name waker answer new = (answer ≡ Ready tt) ×
+  PollsAs (Some Told) true need old name waker answer new = (answer ≡ Ready need) ×
       StepsTelling old.own.is_fair old (granted old.own need) (EndsPlaced name) new
   PollsAs (Some Told) false need old name waker answer new = (old.own.is_fair ≡ false) × (answer ≡ Pending) ×
       StepsTo old old.own (Registers name waker) new
   -- no other is polled
   PollsAs phase granting need old name waker answer new = ⊥
 
-  abbrev pub PollsNeeding : ℕ → SemaphoreMachine W → ℕ → W → Poll (Unit {0}) → SemaphoreMachine W → Type 0
+  abbrev pub PollsNeeding : ℕ → SemaphoreMachine W → ℕ → W → Poll ℕ → SemaphoreMachine W → Type 0
   PollsNeeding need old name waker answer new =
       PollsAs (phase_at old name) (is_granted (phase_at old name) old need) need old name waker answer new
 
-  abbrev pub Polls : SemaphoreMachine W → ℕ → W → Poll (Unit {0}) → SemaphoreMachine W → Type 0
+  abbrev pub Polls : SemaphoreMachine W → ℕ → W → Poll ℕ → SemaphoreMachine W → Type 0
   Polls old name waker answer new = PollsNeeding (need_of old.waiting.side name) old name waker answer new
 
   -- whether a telling round follows the cancel of a future of this phase: of a told one, and in a fair semaphore of a registered one

@@ -123,71 +123,79 @@ module _ {W : Type 0} where
           let ne = not_first side name next ys off was_first in
           ap is_told (b.others next ne) ∙ was.oldest next ys was_first ∙ ap (λ n. nat_le n old.own.free) (sym (needs next))
 
-  -- A telling round leaves no wake owed where the told were a front whose needs together are free.
-  pub fair_tells : (old new : SemaphoreMachine W) (told rest : List ℕ) → IsSound old → old.own.is_fair ≡ true →
-      IsToldFront old.waiting.side told rest → sum_by (need_of old.waiting.side) told ≤ old.own.free → Tells old new →
-      OwesNoWakeFair old.own.free new.waiting.side
-  fair_tells old new told rest sound fair front_was fits did = record {
-    told = front;
-    rest = later;
-    front = record { is_front = queue ∙ is_front; all = all };
-    fits = rw (sum_held (need_of new.waiting.side) need front (λ q at. needs_now old new did q)) did.1.fits;
-    oldest = λ next others is.
-        all next ∙ first front later next others is_front did.1.fits (λ n ns e. did.1.longest n ns (is_front ∙ ap (λ xs. front ++ xs) e))
-        (sym queue ∙ is)
-        ∙ ap (λ n. nat_le n old.own.free) (sym (needs_now old new did next));
-  }
-    where
-      need : ℕ → ℕ
-      need = need_of old.waiting.side
+  -- A telling round, where the told were a front whose needs together are free.
+  module _ (old new : SemaphoreMachine W) (told rest : List ℕ) (sound : IsSound old) (fair : old.own.is_fair ≡ true)
+      (front_was : IsToldFront old.waiting.side told rest) (fits : sum_by (need_of old.waiting.side) told ≤ old.own.free)
+      (did : Tells old new) where
+    abbrev need : ℕ → ℕ
+    need = need_of old.waiting.side
 
-      front : List ℕ
-      front = did.0
+    abbrev front : List ℕ
+    front = did.0
 
-      later : List ℕ
-      later = did.2.1.0
+    abbrev later : List ℕ
+    later = did.2.1.0
 
-      is_front : old.waiting.side.queue ≡ front ++ later
-      is_front = did.2.1.1
+    queue_kept : new.waiting.side.queue ≡ old.waiting.side.queue
+    queue_kept = ap (λ (w : Waiting ℕ W). w.side.queue) did.2.1.2 ∙ keeps old.own.is_fair fair
+      where
+        keeps : (b : Bool) → b ≡ true → (if b then old.waiting.side.queue else later) ≡ old.waiting.side.queue
+        keeps true is = refl
+        keeps false is = absurd (both_ways false refl is)
 
-      keeps : (b : Bool) → b ≡ true → (if b then old.waiting.side.queue else later) ≡ old.waiting.side.queue
-      keeps true is = refl
-      keeps false is = absurd (both_ways false refl is)
+    -- those told before stand in the front
+    within : (q : ℕ) → holds q front ≡ false → holds q told ≡ false
+    within q off = elim (fronts told rest front later (sym front_was.is_front ∙ did.2.1.1)) [
+      | inl more ↦ (in_neither q told more.0 (sym (ap (holds q) more.1) ∙ off)).0
+      | inr more ↦ absurd (too_much more.0 more.1
+          (did.1.longest more.0 (more.1 ++ rest) (did.2.1.1 ∙ ap (λ xs. front ++ xs) more.3))
+          (subst (λ xs. sum_by need xs ≤ old.own.free) more.2 fits))
+    ]
+      where
+        too_much : (n : ℕ) (more : List ℕ) → old.own.free < sum_by need front + need n →
+            sum_by need (front ++ n ∷ more) ≤ old.own.free → ⊥
+        too_much n more over small = omega (arith, over, small, sum_by-append need front (n ∷ more), sum_by-cons need n more)
 
-      queue : new.waiting.side.queue ≡ old.waiting.side.queue
-      queue = ap (λ (w : Waiting ℕ W). w.side.queue) did.2.1.2 ∙ keeps old.own.is_fair fair
+    -- the front is what is told then
+    pub front_is_told : IsToldFront new.waiting.side front later
+    front_is_told = record { is_front = queue_kept ∙ did.2.1.1; all = all }
+      where
+        all : (q : ℕ) → is_told (phase_of new.waiting.side q) ≡ holds q front
+        all q =
+            let now = told_now old new sound did in
+            elim (cases_Bool (holds q front)) [
+              | inl at ↦ ap is_told (now.these q at) ∙ sym at
+              | inr off ↦ ap is_told (now.others q off) ∙ front_was.all q ∙ within q off ∙ sym off
+            ]
 
-      too_much : (n : ℕ) (more : List ℕ) → old.own.free < sum_by need front + need n → sum_by need (front ++ n ∷ more) ≤ old.own.free → ⊥
-      too_much n more over small = omega (arith, over, small, sum_by-append need front (n ∷ more), sum_by-cons need n more)
+    pub front_needs : sum_by (need_of new.waiting.side) front ≡ sum_by need front
+    front_needs = sum_held (need_of new.waiting.side) need front (λ q at. needs_now old new did q)
 
-      -- those told before stand in the front
-      within : (q : ℕ) → holds q front ≡ false → holds q told ≡ false
-      within q off = elim (fronts told rest front later (sym front_was.is_front ∙ is_front)) [
-        | inl more ↦ (in_neither q told more.0 (sym (ap (holds q) more.1) ∙ off)).0
-        | inr more ↦ absurd (too_much more.0 more.1
-            (did.1.longest more.0 (more.1 ++ rest) (is_front ∙ ap (λ xs. front ++ xs) more.3))
-            (subst (λ xs. sum_by need xs ≤ old.own.free) more.2 fits))
-      ]
-
-      all : (q : ℕ) → is_told (phase_of new.waiting.side q) ≡ holds q front
-      all q =
-          let now = told_now old new sound did in
-          elim (cases_Bool (holds q front)) [
-            | inl at ↦ ap is_told (now.these q at) ∙ sym at
-            | inr off ↦ ap is_told (now.others q off) ∙ front_was.all q ∙ within q off ∙ sym off
-          ]
-
-      first : (front later : List ℕ) (next : ℕ) (others : List ℕ) → old.waiting.side.queue ≡ front ++ later →
-          sum_by need front ≤ old.own.free →
-          ((n : ℕ) (ns : List ℕ) → later ≡ n ∷ ns → old.own.free < sum_by need front + need n) →
-          old.waiting.side.queue ≡ next ∷ others → holds next front ≡ nat_le (need next) old.own.free
-      first [] later next others split fits longest is =
-          sym (lt-leb (need next) old.own.free (omega (arith, longest next others (sym split ∙ is))))
-      first (y ∷ ys) later next others split fits longest is =
-          let same : y ≡ next = same_first y next (ys ++ later) others (sym split ∙ is) in
-          let small : need y ≤ old.own.free = omega (arith, fits, sum_by-cons need y ys) in
-          or_left (eqb next y) _ (eq-eqb next y (sym same))
-          ∙ sym (le-leb (need next) old.own.free (subst (λ (n : ℕ). need n ≤ old.own.free) same small))
+    -- No wake is owed then.
+    pub fair_tells : OwesNoWakeFair old.own.free new.waiting.side
+    fair_tells = record {
+      told = front;
+      rest = later;
+      front = front_is_told;
+      fits = rw front_needs did.1.fits;
+      oldest = λ next others is.
+          front_is_told.all next
+          ∙ first front later next others did.2.1.1 did.1.fits (λ n ns e. did.1.longest n ns (did.2.1.1 ∙ ap (λ xs. front ++ xs) e))
+          (sym queue_kept ∙ is)
+          ∙ ap (λ n. nat_le n old.own.free) (sym (needs_now old new did next));
+    }
+      where
+        first : (front later : List ℕ) (next : ℕ) (others : List ℕ) → old.waiting.side.queue ≡ front ++ later →
+            sum_by need front ≤ old.own.free →
+            ((n : ℕ) (ns : List ℕ) → later ≡ n ∷ ns → old.own.free < sum_by need front + need n) →
+            old.waiting.side.queue ≡ next ∷ others → holds next front ≡ nat_le (need next) old.own.free
+        first [] later next others split fits longest is =
+            sym (lt-leb (need next) old.own.free (omega (arith, longest next others (sym split ∙ is))))
+        first (y ∷ ys) later next others split fits longest is =
+            let same : y ≡ next = same_first y next (ys ++ later) others (sym split ∙ is) in
+            let small : need y ≤ old.own.free = omega (arith, fits, sum_by-cons need y ys) in
+            or_left (eqb next y) _ (eq-eqb next y (sym same))
+            ∙ sym (le-leb (need next) old.own.free (subst (λ (n : ℕ). need n ≤ old.own.free) same small))
 
   -- The needs of the told are together free: a told future's need, and the others' with it.
   pub told_fits : (side : Side ℕ W) (name free : ℕ) (told rest : List ℕ) → IsToldFront side told rest → Apart told →

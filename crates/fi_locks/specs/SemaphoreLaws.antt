@@ -31,7 +31,7 @@ use Rattle.fi_locks.specs.Semaphore.{Tells, StepsTelling, Makes, PollsAs, PollsN
 use Rattle.fi_locks.specs.Semaphore.{GivesBack, Disarms, Wakes, is_acquire_phase, IsSound, OwesNoWakeFair, OwesNoWakeUnfair, OwesNoWakeIf, OwesNoWake}
 use Rattle.fi_locks.specs.SemaphoreSoundLaws.{known, rules, no_lack, at_own, Changes, same_need, other_need_inserted, other_need_removed}
 use Rattle.fi_locks.specs.SemaphoreSoundLaws.{told_waits, registered_waits, waiters_after, sound_phase, sound_permits, sound_inserted}
-use Rattle.fi_locks.specs.SemaphoreSoundLaws.{sound_removed, sound_tells, sound_opened}
+use Rattle.fi_locks.specs.SemaphoreSoundLaws.{counted_still, after, sound_ended, sound_removed, sound_tells, sound_opened}
 use Rattle.fi_locks.specs.SemaphoreFairLaws.{taken_fairly, fair_still, fair_empty, fair_changed, fair_registered, fair_tells, told_fits, less_told}
 use Rattle.fi_locks.specs.SemaphoreUnfairLaws.{one_need, none_waits, told_unqueued, unfair_still, still_registered, unfair_told_granted}
 use Rattle.fi_locks.specs.SemaphoreUnfairLaws.{unfair_registered, unfair_tells}
@@ -56,10 +56,6 @@ refused_unfairly permits queue n unfair lacks = elim (and_cases (nat_le n permit
   | inl over ↦ leb-false n permits.free over
   | inr taken ↦ absurd (both_ways _ unfair (not-false permits.is_fair (or_parts (not permits.is_fair) _ taken).0))
 ]
-
--- one need is granted, which is free
-counted_still : (free held need : ℕ) → free + held < 2 ^ 64 → need ≤ free → (free - need) + (held + need) < 2 ^ 64
-counted_still free held need counted fits = omega (arith, counted, fits)
 
 less_none : (free n : ℕ) → n ≡ 0 → free ≡ free - n
 less_none free n none = omega (arith, none)
@@ -118,18 +114,11 @@ module _ {W : Type 0} where
   to_new : (permits : Permits) (new : SemaphoreMachine W) → new.own ≡ permits → Holds (at_own permits new.waiting) → Holds new
   to_new permits new same held = subst (λ p. Holds (at_own p new.waiting)) (sym same) held
 
-  -- the phase of each name after an effect
-  after : (effect : WaiterEffect ℕ W) (old : SemaphoreMachine W) (new : Waiting ℕ W) → IsSound old →
-      AllowsEffect (queued_rule old.own.is_fair) is_acquire_phase old.waiting effect → TakesEffect effect old.waiting new →
-      After effect old.waiting new
-  after effect old new was allows taken =
-      effect_after (queued_rule old.own.is_fair) is_acquire_phase known effect old.waiting new allows was.waiters taken
-
-  queue_to : (new is : Waiting ℕ W) → new ≡ is → new.side.queue ≡ is.side.queue
+  pub queue_to : (new is : Waiting ℕ W) → new ≡ is → new.side.queue ≡ is.side.queue
   queue_to new is same = ap (λ (w : Waiting ℕ W). w.side.queue) same
 
   -- one whose phase has no place is not queued
-  unqueued : (old : SemaphoreMachine W) (name : ℕ) → IsSound old → is_queued old.own.is_fair (phase_at old name) ≡ false →
+  pub unqueued : (old : SemaphoreMachine W) (name : ℕ) → IsSound old → is_queued old.own.is_fair (phase_at old name) ≡ false →
       holds name old.waiting.side.queue ≡ false
   unqueued old name was off = was.waiters.ordered.queued name ∙ off
 
@@ -180,8 +169,8 @@ module _ {W : Type 0} where
   makes_pollable old name need new did =
       ap can_be_polled (added (rules old.own.is_fair) (record old.own { asked = asked_after old.own.asked need }) name need old new did)
 
-  module _ (old : SemaphoreMachine W) (name need : ℕ) (waker : W) (answer : Poll (Unit {0})) (new : SemaphoreMachine W) where
-    told_line : (tells : Bool) → (answer ≡ Ready tt) × StepsTelling tells old (granted old.own need) (EndsPlaced name) new →
+  module _ (old : SemaphoreMachine W) (name need : ℕ) (waker : W) (answer : Poll ℕ) (new : SemaphoreMachine W) where
+    told_line : (tells : Bool) → (answer ≡ Ready need) × StepsTelling tells old (granted old.own need) (EndsPlaced name) new →
         IsSound old → PollLine (rules old.own.is_fair) name (poll_effect name waker answer) old new
     told_line true did was =
         polls_and_then (rules old.own.is_fair) (granted old.own need) (EndsPlaced name) (NotifiesFront old.own.is_fair did.1.2.0) name
@@ -207,7 +196,7 @@ module _ {W : Type 0} where
         (untold_if_leaving old.own.is_fair (phase_at old name) did.0) tt (λ asks lack. tt)
     line_as phase granting is was did = absurd did
 
-  pub polled : (old : SemaphoreMachine W) (name : ℕ) (waker : W) (answer : Poll (Unit {0})) (new : SemaphoreMachine W) → IsSound old →
+  pub polled : (old : SemaphoreMachine W) (name : ℕ) (waker : W) (answer : Poll ℕ) (new : SemaphoreMachine W) → IsSound old →
       Polls old name waker answer new → PollLine (rules old.own.is_fair) name (poll_effect name waker answer) old new
   polled old name waker answer new was did =
       line_as old name (need_of old.waiting.side name) waker answer new (phase_at old name)
@@ -529,14 +518,6 @@ module _ {W : Type 0} where
 
     -- a told one
 
-    told_sound : (mid : Waiting ℕ W) → TakesEffect (EndsPlaced name) old.waiting mid → need ≤ old.own.free →
-        IsSound (at_own (granted old.own need) mid)
-    told_sound mid taken fits =
-        sound_phase old (granted old.own need) mid name (Some Ended) was.0 refl refl
-        (waiters_after (EndsPlaced name) old mid was.0 tt taken) (counted_still old.own.free old.own.held need was.0.counted fits)
-        (after (EndsPlaced name) old mid was.0 tt taken) (same_need (EndsPlaced name) old.waiting mid taken (λ q. refl))
-        (λ at. absurd (both_ways false refl at))
-
     told_granted : (is_fair : Bool) → old.own.is_fair ≡ is_fair → phase_at old name ≡ Some Told → need ≤ old.own.free →
         StepsTelling is_fair old (granted old.own need) (EndsPlaced name) new → Holds new
     told_granted true fair stood fits did =
@@ -546,7 +527,7 @@ module _ {W : Type 0} where
         let owed = owes_fair old fair was.1 in
         let all = told_fits old.waiting.side name old.own.free owed.told owed.rest owed.front
         (front_once old.waiting.side owed.told owed.rest owed.front was.0.waiters.ordered.once) owed.fits (ap is_told stood) in
-        holds_told (at_own (granted old.own need) mid) new (told_sound mid did.1 fits) did.2
+        holds_told (at_own (granted old.own need) mid) new (sound_ended old mid name was.0 did.1 fits) did.2
         (λ is. (
           without name owed.told,
           without name owed.rest,
@@ -557,7 +538,7 @@ module _ {W : Type 0} where
     told_granted false unfair stood fits did =
         let permits = granted old.own need in
         let b = after (EndsPlaced name) old new.waiting was.0 tt did.1 in
-        to_new permits new did.0 (holds_by old permits new.waiting was.1 (told_sound new.waiting did.1 fits) refl refl
+        to_new permits new did.0 (holds_by old permits new.waiting was.1 (sound_ended old new.waiting name was.0 did.1 fits) refl refl
         (λ fair owed. absurd (both_ways _ unfair fair))
         (λ only is one owed.
         let same : need ≡ only = one_need old only name was.0 one (was.0.needs name (ap (is_queued true) stood)) in
@@ -580,7 +561,7 @@ module _ {W : Type 0} where
         (λ only is one owed. unfair_registered old.waiting.side new.waiting.side old.own.free only name waker owed b
         (subst (λ n. old.own.free < n) (one_need old only name was.0 one some) over)))
 
-    poll_as : (phase : Option (Phase W)) (granting : Bool) (answer : Poll (Unit {0})) → phase_at old name ≡ phase →
+    poll_as : (phase : Option (Phase W)) (granting : Bool) (answer : Poll ℕ) → phase_at old name ≡ phase →
         is_granted phase old need ≡ granting → PollsAs phase granting need old name waker answer new → Holds new
     poll_as (Some Fresh) true answer stood takes did = fresh_granted stood takes did.1
     poll_as (Some Fresh) false answer stood lacks did = fresh_registered stood lacks did.1
@@ -593,7 +574,7 @@ module _ {W : Type 0} where
     poll_as (Some Told) false answer stood lacks did = told_registered stood lacks did.0 did.2
     poll_as phase granting answer stood is did = absurd did
 
-  pub poll_holds : (old : SemaphoreMachine W) (name : ℕ) (waker : W) (answer : Poll (Unit {0})) (new : SemaphoreMachine W) → Holds old →
+  pub poll_holds : (old : SemaphoreMachine W) (name : ℕ) (waker : W) (answer : Poll ℕ) (new : SemaphoreMachine W) → Holds old →
       Polls old name waker answer new → Holds new
   poll_holds old name waker answer new was did =
       poll_as old name waker new was (phase_at old name) (is_granted (phase_at old name) old (need_of old.waiting.side name)) answer refl

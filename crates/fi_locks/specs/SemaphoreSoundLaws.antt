@@ -8,12 +8,12 @@ use Rattle.std.specs.FinMap as map
 use Rattle.fi_parts.specs.declared.phase.Phase.{Phase}
 use Rattle.fi_parts.specs.declared.phase.Phase.TheVariants.{Fresh, Registered, Told, Complete, Ended}
 use Rattle.fi_parts.specs.Effects.{WaiterEffect, TakesEffect}
-use Rattle.fi_parts.specs.Effects.WaiterEffect.{NoChange, Inserts, Removes, NotifiesFront}
+use Rattle.fi_parts.specs.Effects.WaiterEffect.{NoChange, Inserts, EndsPlaced, Removes, NotifiesFront}
 use Rattle.fi_parts.specs.Machine.{phase_at, AllowsBasics, AllowsEffect, WaiterRules, StepsTo, HasSoundWaitersBy}
 use Rattle.fi_parts.specs.Order.{holds}
 use Rattle.fi_parts.specs.Places.{is_told, queued_rule}
 use Rattle.fi_parts.specs.Waiting.{Side, Waiting, phase_in, phase_of, asks_in, asks_of, is_queued, is_registered}
-use Rattle.fi_parts.proofs.Effects.{effect_sound}
+use Rattle.fi_parts.proofs.Effects.{After, effect_sound, effect_after}
 use Rattle.fi_parts.proofs.Machines.{asks_step, asks_after, phases_after, initial_holds}
 use Rattle.fi_parts.proofs.Notified.{AllBecome}
 use Rattle.fi_parts.proofs.PairsWithin.{if_true, if_false}
@@ -21,7 +21,7 @@ use Rattle.fi_parts.proofs.Slots.{holds-append}
 use Rattle.fi_parts.proofs.Waiting.{Becomes}
 use Rattle.fi_locks.specs.declared.asked.Asked.{Asked}
 use Rattle.fi_locks.specs.declared.asked.Asked.TheVariants.{NoNeed, OneNeed, MixedNeeds}
-use Rattle.fi_locks.specs.Semaphore.{Permits, SemaphoreMachine, asked_after, IsAmong, opened, need_of, is_acquire_phase, IsSound, Tells}
+use Rattle.fi_locks.specs.Semaphore.{Permits, SemaphoreMachine, asked_after, IsAmong, granted, opened, need_of, is_acquire_phase, IsSound, Tells}
 
 among_zero : (asked : Asked) → IsAmong asked 0
 among_zero NoNeed = refl
@@ -51,6 +51,10 @@ among_still MixedNeeds (suc m) n was = tt
 -- a semaphore's futures lack nothing that their machine's own data alone tell
 abbrev pub no_lack : Permits → Option ℕ → Type 0
 no_lack permits asks = ⊤
+
+-- one need is granted, which is free
+pub counted_still : (free held need : ℕ) → free + held < 2 ^ 64 → need ≤ free → (free - need) + (held + need) < 2 ^ 64
+counted_still free held need counted fits = omega (arith, counted, fits)
 
 module _ {W : Type 0} where
   pub known : AllowsBasics (is_acquire_phase {W = W})
@@ -136,6 +140,13 @@ module _ {W : Type 0} where
   waiters_after effect old new was allows taken =
       effect_sound (queued_rule old.own.is_fair) is_acquire_phase known effect old.waiting new allows was.waiters taken
 
+  -- the phase of each name after an effect
+  pub after : (effect : WaiterEffect ℕ W) (old : SemaphoreMachine W) (new : Waiting ℕ W) → IsSound old →
+      AllowsEffect (queued_rule old.own.is_fair) is_acquire_phase old.waiting effect → TakesEffect effect old.waiting new →
+      After effect old.waiting new
+  after effect old new was allows taken =
+      effect_after (queued_rule old.own.is_fair) is_acquire_phase known effect old.waiting new allows was.waiters taken
+
   -- One name changed.
   pub sound_one : (old : SemaphoreMachine W) (permits : Permits) (new : Waiting ℕ W) (name : ℕ) (phase : Option (Phase W)) →
       IsSound old → permits.is_fair ≡ old.own.is_fair → HasSoundWaitersBy (is_queued old.own.is_fair) is_acquire_phase (at_own old.own new) →
@@ -193,6 +204,17 @@ module _ {W : Type 0} where
       (waiters_after (Removes name) old new was tt taken) was.counted
       (record { becomes = b; needs = λ q ne. other_need_removed name old.waiting new taken q ne }) was.among
       (rw (need_removed name old.waiting new taken) (among_zero old.own.asked)) (λ at. absurd (both_ways false refl at))
+
+  -- one is granted what it needs, and leaves the queue if it has a place there
+  pub sound_ended : (old : SemaphoreMachine W) (new : Waiting ℕ W) (name : ℕ) → IsSound old →
+      TakesEffect (EndsPlaced name) old.waiting new → need_of old.waiting.side name ≤ old.own.free →
+      IsSound (at_own (granted old.own (need_of old.waiting.side name)) new)
+  sound_ended old new name was taken fits =
+      sound_phase old (granted old.own (need_of old.waiting.side name)) new name (Some Ended) was refl refl
+      (waiters_after (EndsPlaced name) old new was tt taken)
+      (counted_still old.own.free old.own.held (need_of old.waiting.side name) was.counted fits)
+      (after (EndsPlaced name) old new was tt taken) (same_need (EndsPlaced name) old.waiting new taken (λ q. refl))
+      (λ at. absurd (both_ways false refl at))
 
   -- a telling round
 

@@ -6,6 +6,8 @@ mod asked;
 mod mutex;
 mod mutex_future;
 mod mutex_guard;
+mod semaphore;
+mod semaphore_future;
 #[cfg(test)]
 mod tests;
 mod timer;
@@ -16,5 +18,7 @@ mod uses;
 pub use mutex::{LocalMutex, MutexState};
 pub use mutex_future::LocalMutexLockFuture;
 pub use mutex_guard::LocalMutexGuard;
+pub use semaphore::{LocalSemaphore, SemaphoreState};
+pub use semaphore_future::{LocalSemaphoreAcquireFuture, LocalSemaphoreReleaser};
 pub use timer::{LocalTimerService, TimerState};
 pub use timer_future::LocalTimerFuture;

@@ -1,0 +1,308 @@
+-- The calls on a semaphore keep the marks of its queue.
+use Rattle.std.proofs.Common.{◌≡◌, ◌≢◌, ℕ, ◌+◌, ◌-◌, ◌≤◌, ◌⊎◌, Bool, true, false, eqb, nat_le, List, [], ◌∷◌, ◌++◌, Option, Some, None, MatchOption, sum_by}
+use Rattle.std.proofs.Common.{refl, sym, ap, subst, ◌∙◌, inl, inr, arith}
+use Rattle.std.specs.Option.{option_or}
+use Rattle.std.specs.Ordering.{nat_cmp}
+use Rattle.std.specs.FinMap as map
+use Rattle.std.proofs.lemmas.Bool.{both_ways, or_left, or_right, ne_eqb}
+use Rattle.fi_parts.specs.declared.errors.Slot.{Slot}
+use Rattle.fi_parts.specs.declared.phase.Phase.{Phase}
+use Rattle.fi_parts.specs.declared.phase.Phase.TheVariants.{Fresh, Registered, Told, Ended}
+use Rattle.fi_parts.specs.Effects.{TakesEffect}
+use Rattle.fi_parts.specs.Effects.WaiterEffect.{Inserts, Registers, KeepsWaiting, Ends, EndsPlaced, Removes}
+use Rattle.fi_parts.specs.Machine.{phase_at}
+use Rattle.fi_parts.specs.Order.{holds, Apart, without}
+use Rattle.fi_parts.specs.Places.{is_told}
+use Rattle.fi_parts.specs.Waiting.{Side, Waiting, phase_in, phase_of, is_queued, is_registered}
+use Rattle.fi_parts.proofs.Effects.{untold}
+use Rattle.fi_parts.proofs.Queues.{holds-without_same}
+use Rattle.fi_parts.proofs.Slots.{eqb_same, holds-append, without_absent, without_first, Apart-front, Apart-back, Apart-disjoint}
+use Rattle.fi_parts.proofs.Waiting.{Becomes}
+use Rattle.fi_locks.specs.FrontLaws.{sum_held, sum_without_one, not_empty}
+use Rattle.fi_locks.specs.Semaphore.{Permits, SemaphoreMachine, opened, need_of, can_take, IsSound}
+use Rattle.fi_locks.specs.SemaphoreFields.{IsFirst, Marks, MarksIf, MarksWithout, MarksWithoutIf}
+use Rattle.fi_locks.specs.SemaphoreFairLaws.{taken_fairly, less_told}
+use Rattle.fi_locks.specs.SemaphoreLaws.{queue_to, unqueued, taken_are_free}
+use Rattle.fi_locks.specs.SemaphoreSoundLaws.{after, same_need, other_need_inserted, other_need_removed}
+use Rattle.fi_locks.specs.ToldFutures.{IsToldFront}
+use Rattle.fi_locks.specs.ToldFuturesLaws.{front_still, front_without, front_registered, same_told}
+
+-- who was first stays so where one goes to the end, and that one is first of an empty list
+first_with : (first : Option Slot) (slot : Slot) (rest : List ℕ) → IsFirst first rest → IsFirst (option_or first (Some slot)) (rest ++ slot.0 ∷ [])
+first_with None slot rest is = ([], ap (λ xs. xs ++ slot.0 ∷ []) is)
+first_with (Some first) slot rest is = (is.0 ++ slot.0 ∷ [], ap (λ xs. xs ++ slot.0 ∷ []) is.1)
+
+-- the list without a name that is not the first
+first_still : (first : Option Slot) (name : ℕ) (rest : List ℕ) → IsFirst first rest → MatchOption first (Unit {0}) (λ slot. slot.0 ≢ name) →
+    IsFirst first (without name rest)
+first_still None name rest is ne = ap (without name) is
+first_still (Some first) name rest is ne =
+    (without name is.0, ap (without name) is.1 ∙ rw (ne_eqb name first.0 (λ e. ne (sym e))) refl)
+
+module _ {W : Type 0} where
+  -- What fair semaphores need shown: in an unfair one nothing is promised.
+  pub if_fair : (is_fair : Bool) (free free_now promised : ℕ) (untold untold_now : Option Slot) (old new : Side ℕ W) →
+      MarksIf is_fair free promised untold old →
+      (is_fair ≡ true → Marks free promised untold old → Marks free_now promised untold_now new) →
+      MarksIf is_fair free_now promised untold_now new
+  if_fair true free free_now promised untold untold_now old new was fair = fair refl was
+  if_fair false free free_now promised untold untold_now old new was fair = was
+
+  pub marks_fair : (is_fair : Bool) (free promised : ℕ) (untold : Option Slot) (side : Side ℕ W) → is_fair ≡ true →
+      MarksIf is_fair free promised untold side → Marks free promised untold side
+  marks_fair is_fair free promised untold side fair was = subst (λ b. MarksIf b free promised untold side) fair was
+
+  pub marks_unfair : (is_fair : Bool) (free promised : ℕ) (untold : Option Slot) (side : Side ℕ W) → is_fair ≡ false →
+      MarksIf is_fair free promised untold side → promised ≡ 0
+  marks_unfair is_fair free promised untold side unfair was = subst (λ b. MarksIf b free promised untold side) unfair was
+
+  told_queued : (side : Side ℕ W) (told rest : List ℕ) → IsToldFront side told rest → (q : ℕ) → holds q told ≡ true →
+      holds q side.queue ≡ true
+  told_queued side told rest front q at = ap (holds q) front.is_front ∙ holds-append q told rest ∙ or_left _ _ at
+
+  -- Queue and told futures are as before, those queued need what they needed, and what is promised is free.
+  pub marks_still : (free free_now promised : ℕ) (untold : Option Slot) (old new : Side ℕ W) → Marks free promised untold old →
+      new.queue ≡ old.queue → ((q : ℕ) → is_told (phase_of new q) ≡ is_told (phase_of old q)) →
+      ((q : ℕ) → holds q old.queue ≡ true → need_of new q ≡ need_of old q) → promised ≤ free_now → Marks free_now promised untold new
+  marks_still free free_now promised untold old new was queue told needs fits = record {
+    told = was.told;
+    rest = was.rest;
+    front = front_still old new was.told was.rest was.front queue told;
+    sums = sum_held (need_of new) (need_of old) was.told (λ q at. needs q (told_queued old was.told was.rest was.front q at)) ∙ was.sums;
+    fits = fits;
+    first = was.first;
+  }
+
+  -- nobody changed, and no less is free
+  pub marks_more : (is_fair : Bool) (free free_now promised : ℕ) (untold : Option Slot) (old new : Side ℕ W) → new ≡ old →
+      free ≤ free_now → MarksIf is_fair free promised untold old → MarksIf is_fair free_now promised untold new
+  marks_more is_fair free free_now promised untold old new same more was =
+      if_fair is_fair free free_now promised untold untold old new was
+      (λ fair marks. marks_still free free_now promised untold old new marks (ap (λ (s : Side ℕ W). s.queue) same)
+      (λ q. ap (λ s. is_told (phase_of s q)) same) (λ q at. ap (λ s. need_of s q) same) (omega (arith, marks.fits, more)))
+
+  -- where permits are granted to one that does not wait, what is promised is free still
+  promised_still : (permits : Permits) (side : Side ℕ W) (n promised : ℕ) (untold : Option Slot) → permits.is_fair ≡ true →
+      can_take permits side.queue n ≡ true → Marks permits.free promised untold side → promised ≤ permits.free - n
+  promised_still permits side n promised untold fair takes was = elim (taken_fairly permits side.queue n fair takes) [
+    | inl empty ↦ omega (arith, sym was.sums ∙ ap (sum_by (need_of side)) (none was.told was.rest (sym was.front.is_front ∙ empty)))
+    | inr zero_need ↦ omega (arith, zero_need, was.fits)
+  ]
+    where
+      none : (xs ys : List ℕ) → xs ++ ys ≡ [] → xs ≡ []
+      none [] ys e = refl
+      none (x ∷ xs) ys e = absurd (not_empty x (xs ++ ys) (sym e))
+
+  pub marks_taken : (permits : Permits) (n promised : ℕ) (untold : Option Slot) (side : Side ℕ W) →
+      can_take permits side.queue n ≡ true → MarksIf permits.is_fair permits.free promised untold side →
+      MarksIf permits.is_fair (permits.free - n) promised untold side
+  marks_taken permits n promised untold side takes was =
+      if_fair permits.is_fair permits.free (permits.free - n) promised untold untold side side was
+      (λ fair marks. marks_still permits.free (permits.free - n) promised untold side side marks refl (λ q. refl) (λ q at. refl)
+      (promised_still permits side n promised untold fair takes marks))
+
+  module _ (old : SemaphoreMachine W) (name promised : ℕ) (untold_slot : Option Slot) (new : Waiting ℕ W) (sound : IsSound old)
+      (was : MarksIf old.own.is_fair old.own.free promised untold_slot old.waiting.side) where
+    pub marks_made : (need : ℕ) → TakesEffect (Inserts name need) old.waiting new →
+        MarksIf old.own.is_fair old.own.free promised untold_slot new.side
+    marks_made need taken =
+        let b = after (Inserts name need) old new sound tt taken in
+        let off = unqueued old name sound (ap (is_queued old.own.is_fair) taken.0) in
+        if_fair old.own.is_fair old.own.free old.own.free promised untold_slot untold_slot old.waiting.side new.side was
+        (λ fair marks. marks_still old.own.free old.own.free promised untold_slot old.waiting.side new.side marks (queue_to new _ taken.1)
+        (same_told old.waiting.side new.side name (Some Fresh) b refl (ap is_told taken.0))
+        (λ q at. other_need_inserted name need old.waiting new taken q
+        (λ e. both_ways _ off (subst (λ (n : ℕ). holds n old.waiting.side.queue ≡ true) e at))) marks.fits)
+
+    -- a fresh one registers
+    pub marks_registered : (slot : Slot) (waker : W) → slot.0 ≡ name → phase_at old name ≡ Some Fresh →
+        TakesEffect (Registers name waker) old.waiting new →
+        MarksIf old.own.is_fair old.own.free promised (option_or untold_slot (Some slot)) new.side
+    marks_registered slot waker same stood taken =
+        let side = old.waiting.side in
+        let b = after (Registers name waker) old new sound (untold old.own.is_fair (phase_at old name) (ap is_told stood)) taken in
+        let off = unqueued old name sound (ap (is_queued old.own.is_fair) stood) in
+        let needs = same_need (Registers name waker) old.waiting new taken (λ q. refl) in
+        if_fair old.own.is_fair old.own.free old.own.free promised untold_slot (option_or untold_slot (Some slot)) side new.side was
+        (λ fair marks. record {
+          told = marks.told;
+          rest = marks.rest ++ name ∷ [];
+          front = front_registered side new.side name waker marks.told marks.rest marks.front b off (queue_to new _ taken.1);
+          sums = sum_held (need_of new.side) (need_of side) marks.told (λ q at. needs q) ∙ marks.sums;
+          fits = marks.fits;
+          first = subst (λ n. IsFirst (option_or untold_slot (Some slot)) (marks.rest ++ n ∷ [])) same
+              (first_with untold_slot slot marks.rest marks.first);
+        })
+
+    -- a fresh one is granted what it needs
+    pub marks_ended : phase_at old name ≡ Some Fresh →
+        can_take old.own old.waiting.side.queue (need_of old.waiting.side name) ≡ true → TakesEffect (Ends name) old.waiting new →
+        MarksIf old.own.is_fair (old.own.free - need_of old.waiting.side name) promised untold_slot new.side
+    marks_ended stood takes taken =
+        let side = old.waiting.side in
+        let need = need_of side name in
+        let b = after (Ends name) old new sound (untold old.own.is_fair (phase_at old name) (ap is_told stood)) taken in
+        let needs = same_need (Ends name) old.waiting new taken (λ q. refl) in
+        if_fair old.own.is_fair old.own.free (old.own.free - need) promised untold_slot untold_slot side new.side was
+        (λ fair marks. marks_still old.own.free (old.own.free - need) promised untold_slot side new.side marks (queue_to new _ taken.1)
+        (same_told side new.side name (Some Ended) b refl (ap is_told stood)) (λ q at. needs q)
+        (promised_still old.own side need promised untold_slot fair takes marks))
+
+    -- a registered one keeps waiting
+    pub marks_stay : (before waker : W) → phase_at old name ≡ Some (Registered before) →
+        TakesEffect (KeepsWaiting name waker) old.waiting new → MarksIf old.own.is_fair old.own.free promised untold_slot new.side
+    marks_stay before waker stood taken =
+        let b = after (KeepsWaiting name waker) old new sound tt taken in
+        let needs = same_need (KeepsWaiting name waker) old.waiting new taken (λ q. refl) in
+        if_fair old.own.is_fair old.own.free old.own.free promised untold_slot untold_slot old.waiting.side new.side was
+        (λ fair marks. marks_still old.own.free old.own.free promised untold_slot old.waiting.side new.side marks (queue_to new _ taken.1)
+        (same_told old.waiting.side new.side name (Some (Registered waker)) b refl (ap is_told stood)) (λ q at. needs q) marks.fits)
+
+  -- A name left the queue that the marks leave out.
+  marks_left : (old new : Side ℕ W) (name : ℕ) (phase : Option (Phase W)) (free promised : ℕ) (untold : Option Slot) →
+      MarksWithout name free promised untold old → Becomes old new name phase → is_told phase ≡ false →
+      new.queue ≡ without name old.queue → ((q : ℕ) → q ≢ name → need_of new q ≡ need_of old q) → Marks free promised untold new
+  marks_left old new name phase free promised untold was b not_told queue needs = record {
+    told = without name was.told;
+    rest = without name was.rest;
+    front = front_without old new name phase was.told was.rest was.front b not_told queue;
+    sums = less_told old new name was.told needs ∙ was.sums;
+    fits = was.fits;
+    first = was.first;
+  }
+
+  module _ (free free_now promised : ℕ) (untold : Option Slot) (side : Side ℕ W) (name : ℕ) (once : Apart side.queue)
+      (was : Marks free promised untold side) where
+    once_here : Apart (was.told ++ was.rest)
+    once_here = subst Apart was.front.is_front once
+
+    -- of a told one: what it needs is promised no longer
+    pub told_need : is_told (phase_of side name) ≡ true → sum_by (need_of side) (without name was.told) + need_of side name ≡ promised
+    told_need is =
+        sum_without_one (need_of side) name was.told (Apart-front was.told was.rest once_here) (sym (was.front.all name) ∙ is) ∙ was.sums
+
+    pub marks_without_told : is_told (phase_of side name) ≡ true → promised - need_of side name ≤ free_now →
+        MarksWithout name free_now (promised - need_of side name) untold side
+    marks_without_told is fits = record {
+      told = was.told;
+      rest = was.rest;
+      front = was.front;
+      sums = omega (arith, told_need is);
+      fits = fits;
+      first = subst (IsFirst untold) (sym (without_absent name was.rest
+          (Apart-disjoint was.told was.rest once_here name (sym (was.front.all name) ∙ is)))) was.first;
+    }
+
+    -- of one that is not told: the told are as they were
+    pub without_same : is_told (phase_of side name) ≡ false → sum_by (need_of side) (without name was.told) ≡ promised
+    without_same off = ap (sum_by (need_of side)) (without_absent name was.told (sym (was.front.all name) ∙ off)) ∙ was.sums
+
+    pub marks_without_other : is_told (phase_of side name) ≡ false → MatchOption untold (Unit {0}) (λ slot. slot.0 ≢ name) →
+        MarksWithout name free promised untold side
+    marks_without_other off ne = record {
+      told = was.told;
+      rest = was.rest;
+      front = was.front;
+      sums = without_same off;
+      fits = was.fits;
+      first = first_still untold name was.rest was.first ne;
+    }
+
+    -- of the oldest that is not told: the next younger one is that now
+    pub marks_without_first : (slot : Slot) (next : Option Slot) → untold ≡ Some slot → slot.0 ≡ name →
+        is_told (phase_of side name) ≡ false →
+        ((front rest : List ℕ) → side.queue ≡ front ++ slot.0 ∷ rest → IsFirst next rest) →
+        MarksWithout name free promised next side
+    marks_without_first slot next is same off younger =
+        let here = subst (λ o. IsFirst o was.rest) is was.first in
+        let split : was.rest ≡ name ∷ here.0 = here.1 ∙ ap (λ n. n ∷ here.0) same in
+        let apart : Apart (name ∷ here.0) = subst Apart split (Apart-back was.told was.rest once_here) in
+        record {
+          told = was.told;
+          rest = was.rest;
+          front = was.front;
+          sums = without_same off;
+          fits = was.fits;
+          first = subst (IsFirst next) (sym (ap (without name) split ∙ without_first name here.0 apart))
+              (younger was.told here.0 (was.front.is_front ∙ ap (λ xs. was.told ++ xs) here.1));
+        }
+
+    pub first_is_queued : (slot : Slot) → untold ≡ Some slot → holds slot.0 side.queue ≡ true
+    first_is_queued slot is =
+        let here = subst (λ o. IsFirst o was.rest) is was.first in
+        ap (holds slot.0) was.front.is_front ∙ holds-append slot.0 was.told was.rest
+        ∙ or_right (holds slot.0 was.told) _ (ap (holds slot.0) here.1 ∙ or_left (eqb slot.0 slot.0) _ (eqb_same slot.0))
+
+  module _ (old : SemaphoreMachine W) (name promised : ℕ) (untold_slot : Option Slot) (new : Waiting ℕ W) (sound : IsSound old) where
+    -- a told one of a fair semaphore is granted what it needs
+    pub marks_told_ended : old.own.is_fair ≡ true → phase_at old name ≡ Some Told →
+        MarksIf old.own.is_fair old.own.free promised untold_slot old.waiting.side → TakesEffect (EndsPlaced name) old.waiting new →
+        MarksIf old.own.is_fair (old.own.free - need_of old.waiting.side name) (promised - need_of old.waiting.side name) untold_slot new.side
+    marks_told_ended fair stood was taken =
+        let side = old.waiting.side in
+        let marks = marks_fair old.own.is_fair old.own.free promised untold_slot side fair was in
+        let b = after (EndsPlaced name) old new sound tt taken in
+        let needs = same_need (EndsPlaced name) old.waiting new taken (λ q. refl) in
+        let left : Marks (old.own.free - need_of side name) (promised - need_of side name) untold_slot new.side =
+        marks_left side new.side name (Some Ended) _ _ untold_slot
+        (marks_without_told old.own.free (old.own.free - need_of side name) promised untold_slot side name sound.waiters.ordered.once marks
+        (ap is_told stood) (omega (arith, marks.fits))) b refl (queue_to new _ taken.1) (λ q ne. needs q) in
+        subst (λ k. MarksIf k (old.own.free - need_of side name) (promised - need_of side name) untold_slot new.side) (sym fair) left
+
+    pub marks_removed : MarksWithoutIf old.own.is_fair name old.own.free promised untold_slot old.waiting.side →
+        TakesEffect (Removes name) old.waiting new → MarksIf old.own.is_fair old.own.free promised untold_slot new.side
+    marks_removed was taken = each old.own.is_fair was
+      where
+        each : (b : Bool) → MarksWithoutIf b name old.own.free promised untold_slot old.waiting.side →
+            MarksIf b old.own.free promised untold_slot new.side
+        each true marks =
+            marks_left old.waiting.side new.side name None old.own.free promised untold_slot marks
+            (after (Removes name) old new sound tt taken) refl (queue_to new _ taken.1)
+            (λ q ne. other_need_removed name old.waiting new taken q ne)
+        each false none = none
+
+    -- a told one of a fair semaphore finds its need free
+    pub told_need_free : old.own.is_fair ≡ true → is_told (phase_at old name) ≡ true →
+        MarksIf old.own.is_fair old.own.free promised untold_slot old.waiting.side → need_of old.waiting.side name ≤ promised
+    told_need_free fair is was =
+        let marks = marks_fair old.own.is_fair old.own.free promised untold_slot old.waiting.side fair was in
+        omega (arith, told_need old.own.free old.own.free promised untold_slot old.waiting.side name sound.waiters.ordered.once marks is)
+
+  -- The marks without a name that is about to leave the queue of a fair semaphore.
+  module _ (old : SemaphoreMachine W) (name promised : ℕ) (untold_slot : Option Slot) (sound : IsSound old)
+      (fair : old.own.is_fair ≡ true) (was : MarksIf old.own.is_fair old.own.free promised untold_slot old.waiting.side) where
+    marks : Marks old.own.free promised untold_slot old.waiting.side
+    marks = marks_fair old.own.is_fair old.own.free promised untold_slot old.waiting.side fair was
+
+    pub unmark_told : is_told (phase_at old name) ≡ true →
+        MarksWithoutIf old.own.is_fair name old.own.free (promised - need_of old.waiting.side name) untold_slot old.waiting.side
+    unmark_told is =
+        let fits : promised - need_of old.waiting.side name ≤ old.own.free = omega (arith, marks.fits) in
+        subst (λ b. MarksWithoutIf b name old.own.free (promised - need_of old.waiting.side name) untold_slot old.waiting.side) (sym fair)
+        (marks_without_told old.own.free old.own.free promised untold_slot old.waiting.side name sound.waiters.ordered.once marks is fits)
+
+    pub unmark_other : is_told (phase_at old name) ≡ false → MatchOption untold_slot (Unit {0}) (λ slot. slot.0 ≢ name) →
+        MarksWithoutIf old.own.is_fair name old.own.free promised untold_slot old.waiting.side
+    unmark_other off ne =
+        subst (λ b. MarksWithoutIf b name old.own.free promised untold_slot old.waiting.side) (sym fair)
+        (marks_without_other old.own.free old.own.free promised untold_slot old.waiting.side name sound.waiters.ordered.once marks off ne)
+
+    pub unmark_first : (slot : Slot) (next : Option Slot) → untold_slot ≡ Some slot → slot.0 ≡ name →
+        is_told (phase_at old name) ≡ false →
+        ((front rest : List ℕ) → old.waiting.side.queue ≡ front ++ slot.0 ∷ rest → IsFirst next rest) →
+        MarksWithoutIf old.own.is_fair name old.own.free promised next old.waiting.side
+    unmark_first slot next is same off younger =
+        subst (λ b. MarksWithoutIf b name old.own.free promised next old.waiting.side) (sym fair)
+        (marks_without_first old.own.free old.own.free promised untold_slot old.waiting.side name sound.waiters.ordered.once marks slot next
+        is same off younger)
+
+pub marks_opened : (W : Type 0) (is_fair : Bool) (permits : ℕ) → MarksIf is_fair permits 0 None (opened {W = W} is_fair permits).waiting.side
+marks_opened W true permits = record {
+  told = [];
+  rest = [];
+  front = record { is_front = refl; all = λ q. ap (λ o. is_told (phase_in o)) (map.get-empty nat_cmp q) };
+  sums = refl;
+  fits = omega arith;
+  first = refl;
+}
+marks_opened W false permits = refl

@@ -1,0 +1,93 @@
+-- How the calls on a semaphore's fields make up the lines of its table.
+use Rattle.std.proofs.Common.{◌≡◌, ℕ, ◌≤◌, ◌<◌, Bool, true, false, nat_le, nat_lt, Option, Some, None, is_some, refl, sym, ap, subst, ◌∙◌, arith}
+use Rattle.std.proofs.lemmas.Bool.{both_ways, le-leb, lt-leb, false_from_ne_true}
+use Rattle.std.specs.FinMap as map
+use Rattle.std.specs.Option.{IsSome}
+use Rattle.futures.specs.declared.task.Poll.TheVariants.{Ready, Pending}
+use Rattle.fi_parts.specs.declared.errors.Slot.{Slot}
+use Rattle.fi_parts.specs.declared.phase.Future.{Future}
+use Rattle.fi_parts.specs.declared.phase.Phase.{Phase}
+use Rattle.fi_parts.specs.declared.phase.Phase.TheVariants.{Fresh, Registered, Told, Complete, Ended}
+use Rattle.fi_parts.specs.Effects.{WaiterEffect}
+use Rattle.fi_parts.specs.Effects.WaiterEffect.{Registers, EndsPlaced}
+use Rattle.fi_parts.specs.Machine.{phase_at, StepsTo}
+use Rattle.fi_parts.specs.Order.{holds}
+use Rattle.fi_parts.specs.Places.{is_told}
+use Rattle.fi_parts.specs.Waiting.{Side, phase_in, phase_of, is_queued, is_registered, IsLive}
+use Rattle.fi_locks.specs.Semaphore.{Permits, SemaphoreMachine, granted, need_of, can_be_polled, is_granted, StepsTelling, PollsAs, Polls, IsSound}
+use Rattle.fi_locks.specs.SemaphoreFields.{Marks, MarksIf}
+use Rattle.fi_locks.specs.SemaphoreLaws.{unqueued}
+use Rattle.fi_locks.proofs.SemaphoreMarks.{marks_fair, marks_unfair, told_need_free}
+
+module _ {W : Type 0} where
+  -- a telling round follows
+  pub telling_if : (tells : Bool) (old : SemaphoreMachine W) (permits : Permits) (effect : WaiterEffect ℕ W) (new : SemaphoreMachine W) →
+      tells ≡ true → StepsTelling true old permits effect new → StepsTelling tells old permits effect new
+  telling_if tells old permits effect new is did = subst (λ b. StepsTelling b old permits effect new) (sym is) did
+
+  -- none follows
+  pub quiet_if : (tells : Bool) (old : SemaphoreMachine W) (permits : Permits) (effect : WaiterEffect ℕ W) (new : SemaphoreMachine W) →
+      tells ≡ false → StepsTo old permits effect new → StepsTelling tells old permits effect new
+  quiet_if tells old permits effect new is did = subst (λ b. StepsTelling b old permits effect new) (sym is) did
+
+  -- who has a phase lives
+  pub live_from : (side : Side ℕ W) (name : ℕ) → is_some (phase_of side name) ≡ true → IsLive side name
+  live_from side name is = each (map.get side.live name) is
+    where
+      each : (o : Option (Future ℕ W)) → is_some (phase_in o) ≡ true → IsSome o
+      each None r = r
+      each (Some f) r = refl
+
+  pub told_is : (p : Option (Phase W)) → is_told p ≡ true → p ≡ Some Told
+  told_is None h = absurd (both_ways false refl h)
+  told_is (Some Fresh) h = absurd (both_ways false refl h)
+  told_is (Some (Registered w)) h = absurd (both_ways false refl h)
+  told_is (Some Told) h = refl
+  told_is (Some Complete) h = absurd (both_ways false refl h)
+  told_is (Some Ended) h = absurd (both_ways false refl h)
+
+  pub fresh_is : (p : Option (Phase W)) → can_be_polled p ≡ true → is_registered p ≡ false → is_told p ≡ false → p ≡ Some Fresh
+  fresh_is None h r t = absurd (both_ways false refl h)
+  fresh_is (Some Fresh) h r t = refl
+  fresh_is (Some (Registered w)) h r t = absurd (both_ways true r refl)
+  fresh_is (Some Told) h r t = absurd (both_ways true t refl)
+  fresh_is (Some Complete) h r t = absurd (both_ways false refl h)
+  fresh_is (Some Ended) h r t = absurd (both_ways false refl h)
+
+  -- nothing is marked in an unfair semaphore
+  pub marks_any : (is_fair : Bool) (free free_now promised : ℕ) (untold untold_now : Option Slot) (old new : Side ℕ W) → is_fair ≡ false →
+      MarksIf is_fair free promised untold old → MarksIf is_fair free_now promised untold_now new
+  marks_any is_fair free free_now promised untold untold_now old new unfair was =
+      subst (λ b. MarksIf b free_now promised untold_now new) (sym unfair) (marks_unfair is_fair free promised untold old unfair was)
+
+  module _ (old : SemaphoreMachine W) (name promised : ℕ) (untold : Option Slot) (sound : IsSound old)
+      (was : MarksIf old.own.is_fair old.own.free promised untold old.waiting.side) (stood : phase_at old name ≡ Some Told) where
+    -- a told future whose need isn't free is one of an unfair semaphore
+    pub told_unfair : old.own.free < need_of old.waiting.side name → old.own.is_fair ≡ false
+    told_unfair over = false_from_ne_true _ (λ fair.
+        let marks = marks_fair old.own.is_fair old.own.free promised untold old.waiting.side fair was in
+        let small : need_of old.waiting.side name ≤ promised =
+        told_need_free old name promised untold old.waiting sound fair (ap is_told stood) was in
+        too_much marks.fits small)
+      where
+        too_much : promised ≤ old.own.free → need_of old.waiting.side name ≤ promised → ⊥
+        too_much fits small = omega (arith, fits, small, over)
+
+    pub told_apart : old.own.is_fair ≡ false → holds name old.waiting.side.queue ≡ false
+    told_apart unfair = unqueued old name sound (ap (is_queued old.own.is_fair) stood ∙ unfair)
+
+  module _ (old : SemaphoreMachine W) (name : ℕ) (waker : W) (new : SemaphoreMachine W) (stood : phase_at old name ≡ Some Told) where
+    pub told_pends : old.own.free < need_of old.waiting.side name → old.own.is_fair ≡ false →
+        StepsTo old old.own (Registers name waker) new → Polls old name waker Pending new
+    told_pends over unfair steps =
+        let need = need_of old.waiting.side name in
+        subst (λ p. PollsAs p (is_granted p old need) need old name waker Pending new) (sym stood)
+        (subst (λ b. PollsAs (Some Told) b need old name waker Pending new) (sym (lt-leb need old.own.free over)) (unfair, refl, steps))
+
+    pub told_ends : need_of old.waiting.side name ≤ old.own.free →
+        StepsTelling old.own.is_fair old (granted old.own (need_of old.waiting.side name)) (EndsPlaced name) new →
+        Polls old name waker (Ready (need_of old.waiting.side name)) new
+    told_ends fits steps =
+        let need = need_of old.waiting.side name in
+        subst (λ p. PollsAs p (is_granted p old need) need old name waker (Ready need) new) (sym stood)
+        (subst (λ b. PollsAs (Some Told) b need old name waker (Ready need) new) (sym (le-leb need old.own.free fits)) (refl, steps))

@@ -1,0 +1,9 @@
+use Rattle.fi_locks.specs.SemaphoreFields.{machine_of}
+use Rattle.fi_locks.specs.SemaphoreLaws.{poll_holds}
+use Rattle.fi_locks.proofs.semaphore.SemaphoreState.acquire_or_register.Goals as goal
+
+pub invariant_of-self : goal.invariant_of-self
+invariant_of-self g c = (
+  poll_holds (machine_of c.self.inside.fields) c.args.slot.0 c.args.waker c.acquire_or_register.result.0 (machine_of c.acquire_or_register.new.self) c.self.invariant.0 c.acquire_or_register.ensures.polled,
+  c.acquire_or_register.ensures.marked,
+)

@@ -1,0 +1,9 @@
+use Rattle.fi_locks.specs.SemaphoreFields.{machine_of}
+use Rattle.fi_locks.specs.SemaphoreLaws.{try_holds}
+use Rattle.fi_locks.proofs.semaphore.SemaphoreState.try_acquire_sync.Goals as goal
+
+pub invariant_of-self : goal.invariant_of-self
+invariant_of-self g c = (
+  try_holds (machine_of c.self.inside.fields) (machine_of c.try_acquire.new.self) c.args.permits c.try_acquire.result c.self.invariant.0 c.try_acquire.ensures.tried,
+  c.try_acquire.ensures.marked,
+)

@@ -1,0 +1,63 @@
+-- The fields of a semaphore, and where its telling rounds go on.
+use Rattle.std.specs.Prelude.{◌≡◌, ◌≢◌, ◌+◌, ◌≤◌, ◌<◌, ⊤, ℕ, Bool, true, false, Option, List, [], ◌∷◌, ◌++◌, sum_by, MatchOption}
+use Rattle.fi_parts.specs.declared.errors.Slot.{Slot}
+use Rattle.fi_parts.specs.Order.{without}
+use Rattle.fi_parts.specs.Waiting.{Side, Waiting, front_told}
+use Rattle.fi_locks.specs.declared.semaphore.Fields.{Fields}
+use Rattle.fi_locks.specs.Semaphore.{SemaphoreMachine, need_of}
+use Rattle.fi_locks.specs.ToldFutures.{IsToldFront}
+
+-- the machine that the fields stand for
+abbrev pub machine_of : {W : Type 0} → Fields W → SemaphoreMachine W
+machine_of fields = record {
+  own = record { is_fair = fields.is_fair; free = fields.free; held = fields.held; asked = fields.asked };
+  waiting = fields.waits;
+}
+
+-- this is the first of the list, or the list is empty
+abbrev pub IsFirst : Option Slot → List ℕ → Type 0
+IsFirst first names = MatchOption first (names ≡ []) (λ slot. (later : List ℕ) × (names ≡ slot.0 ∷ later))
+
+module _ {W : Type 0} where
+  -- Those told are a front of the queue and need together what is promised, which is free; this is the oldest that is not told.
+  pub record Marks (free promised : ℕ) (untold : Option Slot) (side : Side ℕ W) : Type 0 where
+    pub told : List ℕ
+    pub rest : List ℕ
+    pub front : IsToldFront side told rest
+    pub sums : sum_by (need_of side) told ≡ promised
+    pub fits : promised ≤ free
+    pub first : IsFirst untold rest
+
+  -- in an unfair semaphore, whose told futures are not queued, nothing is marked
+  abbrev pub MarksIf : Bool → ℕ → ℕ → Option Slot → Side ℕ W → Type 0
+  MarksIf true free promised untold side = Marks free promised untold side
+  MarksIf false free promised untold side = promised ≡ 0
+
+  abbrev pub IsMarked : Fields W → Type 0
+  IsMarked fields = MarksIf fields.is_fair fields.free fields.promised fields.untold fields.waits.side
+
+  -- the same of all but this name, which is about to leave the queue
+  pub record MarksWithout (name free promised : ℕ) (untold : Option Slot) (side : Side ℕ W) : Type 0 where
+    pub told : List ℕ
+    pub rest : List ℕ
+    pub front : IsToldFront side told rest
+    pub sums : sum_by (need_of side) (without name told) ≡ promised
+    pub fits : promised ≤ free
+    pub first : IsFirst untold (without name rest)
+
+  abbrev pub MarksWithoutIf : Bool → ℕ → ℕ → ℕ → Option Slot → Side ℕ W → Type 0
+  MarksWithoutIf true name free promised untold side = MarksWithout name free promised untold side
+  MarksWithoutIf false name free promised untold side = promised ≡ 0
+
+  -- How far a telling round has come: this front was told, its needs were taken from what is free, and this one is next.
+  pub record Walk (keeps : Bool) (free : ℕ) (start now : Waiting ℕ W) (available : ℕ) (next : Option Slot) : Type 0 where
+    pub front : List ℕ
+    pub rest : List ℕ
+    pub split : start.side.queue ≡ front ++ rest
+    pub told : now ≡ front_told keeps start front rest
+    pub left : sum_by (need_of start.side) front + available ≡ free
+    pub at : IsFirst next rest
+
+  -- nobody is next, or one who needs more than what is left
+  abbrev pub IsStopped : Side ℕ W → ℕ → Option Slot → Type 0
+  IsStopped side available next = MatchOption next ⊤ (λ slot. available < need_of side slot.0)

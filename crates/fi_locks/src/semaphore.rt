@@ -1,0 +1,563 @@
+//! A semaphore.
+ghost use Rattle.std.specs.Prelude.{◌≡◌, ◌≤◌, ◌<◌, ◌+◌, ◌-◌, ◌^◌, ℕ, Bool, true, false, Option, Some, None, IfOk, IfErr, OnErr, MatchOption, is_some, length, ⊤};
+ghost use Rattle.fi_parts.specs.Effects.{TakesEffect};
+ghost use Rattle.fi_parts.specs.Effects.WaiterEffect.{EndsPlaced};
+ghost use Rattle.fi_parts.specs.Machine.{phase_at, displaced_at};
+ghost use Rattle.fi_parts.specs.Places.{is_told};
+ghost use Rattle.fi_parts.specs.Polled.{unused_after};
+ghost use Rattle.fi_parts.specs.Waiting.{phase_of, displaced, is_registered, is_queued, IsOrderedBy};
+ghost use Rattle.fi_parts.specs.declared.phase.Phase.TheVariants as phases;
+ghost use Rattle.fi_locks.specs.Semaphore.{opened, can_be_polled, need_of, can_take, granted, cancel_tells, Makes, Polls, Cancels, TriesAcquire, Releases, GivesBack, Disarms, Wakes, Tells, IsSound, OwesNoWake};
+ghost use Rattle.fi_locks.specs.SemaphoreFields.{IsMarked};
+
+use crate::asked::Asked;
+use crate::semaphore_future::{LocalSemaphoreAcquireFuture, LocalSemaphoreReleaser};
+use fi_parts::{Fault, Leftover, Phase, Slot, Waits};
+use futures::task::Poll;
+use std::alloc::Global;
+use std::marker::Model;
+
+/// The fields of a semaphore. Between two calls on them the semaphore's law may be broken.
+///
+/// A telling round of a fair semaphore goes on where the one before ended, so those told already are not walked over again.
+#[derive(Drop)]
+struct Fields<W> {
+    is_fair: bool,
+    free: usize,
+    held: usize,
+    asked: Asked,
+    // Of a fair semaphore: how many permits the told futures need together.
+    promised: usize,
+    // Of a fair semaphore: the oldest future that waits and isn't told.
+    untold: Option<Slot>,
+    waits: Waits<usize, W>,
+}
+
+/// A semaphore: futures acquire permits, several at once, and give them back.
+///
+/// A fair semaphore grants its permits in the order in which futures came: it tells the longest front of its queue whose needs
+/// together are free. An unfair one lets a caller that finds permits free pass those that wait.
+///
+/// It names the wakers to be woken and wakes nobody itself: whoever calls it takes them out by `next_wake`. Each call takes
+/// constant time, and constant time more for each future that it tells; only the makings of futures take memory. Keeps
+/// `Semaphore` of futures-intrusive's `sync`.
+#[derive(Drop)]
+pub struct SemaphoreState<W> {
+    fields: Fields<W>,
+}
+
+/// The semaphore for one thread: futures are polled, and permits given back, with the semaphore lent to them.
+pub type LocalSemaphore<W> = SemaphoreState<W>;
+
+impl<W> Model for SemaphoreState<W> {
+    ghost use Rattle.fi_locks.specs.Semaphore.{SemaphoreMachine, IsSound, OwesNoWake};
+    ghost use Rattle.fi_locks.specs.SemaphoreCode.{semaphore_code};
+    ghost use Rattle.fi_locks.specs.SemaphoreFields.{machine_of, IsMarked};
+
+    ghost Value = { SemaphoreMachine W };
+
+    ghost coded = { semaphore_code W.code };
+
+    ghost view = { λ s. machine_of s.fields };
+
+    ghost invariant = { λ s. (IsSound (machine_of s.fields) × OwesNoWake (machine_of s.fields)) × IsMarked s.fields };
+}
+
+impl<W: Drop> SemaphoreState<W> {
+    /// A semaphore with this many free permits, fair or unfair. It takes no memory yet. Keeps `Semaphore::new`.
+    pub fn new(alloc: Global, is_fair: bool, permits: usize) -> Self
+        ensures { result ≡ opened is_fair permits }
+    {
+        SemaphoreState {
+            fields: Fields {
+                is_fair,
+                free: permits,
+                held: 0,
+                asked: Asked::NoNeed,
+                promised: 0,
+                untold: None,
+                waits: Waits::new(alloc),
+            },
+        }
+    }
+
+    /// For proofs: every semaphore is sound and owes no wake.
+    pub fn show(&self)
+        ensures sound { IsSound self.now }
+        ensures no_wake { OwesNoWake self.now }
+    {
+        let _ = &self.fields;
+    }
+
+    /// A future that acquires this many permits. Refused only with `NoMemory`; then nothing has changed.
+    ///
+    /// Keeps `Semaphore::acquire`.
+    pub fn acquire(&mut self, permits: usize) -> Result<LocalSemaphoreAcquireFuture, Fault>
+        ensures made { IfOk result (λ future. Makes self.old permits future.name self.new) }
+        ensures fresh { IfOk result (λ future. future.has_ended ≡ false) }
+        ensures pollable { IfOk result (λ future. can_be_polled (phase_at self.new future.name) ≡ true) }
+        ensures refused { OnErr result (self.new ≡ self.old) }
+        ensures fault { IfErr result (λ fault. fault ≡ Fault.NoMemory) }
+    {
+        let slot = self.claim_acquire(permits)?;
+        Ok(LocalSemaphoreAcquireFuture::at(slot))
+    }
+
+    /// Acquires this many permits if they are free and, in a fair semaphore, nobody waits; none at all are always granted.
+    ///
+    /// Keeps `Semaphore::try_acquire`.
+    pub fn try_acquire(&mut self, permits: usize) -> Option<LocalSemaphoreReleaser>
+        ensures tried { TriesAcquire self.old permits (is_some result) self.new }
+        ensures granted { MatchOption result ⊤ (λ releaser. releaser ≡ permits) }
+    {
+        if self.try_acquire_sync(permits) {
+            Some(LocalSemaphoreReleaser::of(permits))
+        } else {
+            None
+        }
+    }
+
+    /// Adds free permits, and tells those who can be granted what they need then.
+    ///
+    /// Refused with `Overflow` if the permits, free and held, would be more than `usize::MAX`; then nothing has changed.
+    /// Keeps `Semaphore::release`, which does not check.
+    pub fn release(&mut self, permits: usize) -> Result<(), Fault>
+        ensures released { IfOk result (λ _. Releases self.old permits self.new) }
+        ensures refused { OnErr result (self.new ≡ self.old) }
+        ensures fault { IfErr result (λ fault. (fault ≡ Fault.Overflow) × (2 ^ 64 ≤ self.old.own.free + self.old.own.held + permits)) }
+    {
+        self.fields.release(permits)
+    }
+
+    /// How many permits are free. Keeps `Semaphore::permits`.
+    pub fn permits(&self) -> usize
+        ensures { result ≡ self.now.own.free }
+    {
+        self.fields.free
+    }
+
+    /// How many permits are held by those who acquired them.
+    pub fn held(&self) -> usize
+        ensures { result ≡ self.now.own.held }
+    {
+        self.fields.held
+    }
+
+    /// Takes out the oldest waker that was named to be woken; None where none is left.
+    pub fn next_wake(&mut self) -> Option<W>
+        ensures { Wakes self.old result self.new }
+    {
+        self.fields.next_wake()
+    }
+
+    /// How many wakers are named to be woken.
+    pub fn wake_count(&self) -> usize
+        ensures { result ≡ length self.now.waiting.out }
+    {
+        self.fields.waits.wake_count()
+    }
+
+    /// Makes a future that needs this many permits, under a slot that was not live. Refused only with `NoMemory`; then nothing
+    /// has changed.
+    pub fn claim_acquire(&mut self, permits: usize) -> Result<Slot, Fault>
+        ensures made { IfOk result (λ slot. Makes self.old permits slot.0 self.new) }
+        ensures refused { OnErr result (self.new ≡ self.old) }
+        ensures fault { IfErr result (λ fault. fault ≡ Fault.NoMemory) }
+    {
+        self.fields.claim_acquire(permits)
+    }
+
+    /// A future lives under this slot.
+    pub fn is_live(&self, slot: Slot) -> bool
+        ensures { result ≡ is_some (phase_at self.now slot.0) }
+    {
+        self.fields.waits.phase(slot).is_some()
+    }
+
+    /// A future lives under this slot that has not ended.
+    pub fn can_poll(&self, slot: Slot) -> bool
+        ensures { result ≡ can_be_polled (phase_at self.now slot.0) }
+    {
+        match self.fields.waits.phase(slot) {
+            Some(Phase::Fresh | Phase::Registered(_) | Phase::Told) => true,
+            None | Some(Phase::Complete | Phase::Ended) => false,
+        }
+    }
+
+    /// Polls the future under this slot: ready with the permits that it needs if they are granted, else registered with this
+    /// waker.
+    ///
+    /// The caller has seen that the future lives and has not ended. The wakers of no more use come back.
+    pub fn acquire_or_register(&mut self, slot: Slot, waker: W) -> (Poll<usize>, Leftover<W>)
+        requires { can_be_polled (phase_at self.old slot.0) ≡ true }
+        ensures polled { Polls self.old slot.0 waker result.0 self.new }
+        ensures displaced { result.1.displaced ≡ displaced_at self.old slot.0 }
+        ensures unused { result.1.unused ≡ unused_after result.0 waker }
+    {
+        self.fields.acquire_or_register(slot, waker)
+    }
+
+    /// Cancels the future under this slot, which is live, and gives back the waker that it had. A notice that it had not used
+    /// is passed on to those who wait.
+    pub fn remove_waiter(&mut self, slot: Slot) -> Option<W>
+        requires { is_some (phase_at self.old slot.0) ≡ true }
+        ensures cancelled { Cancels self.old slot.0 self.new }
+        ensures displaced { result ≡ displaced_at self.old slot.0 }
+    {
+        self.fields.remove_waiter(slot)
+    }
+
+    /// Acquires this many permits as `try_acquire` does, and says whether it did. They are then held until `give_back` or
+    /// `disarm` is called with them.
+    pub fn try_acquire_sync(&mut self, permits: usize) -> bool
+        ensures { TriesAcquire self.old permits result self.new }
+    {
+        self.fields.try_acquire(permits)
+    }
+
+    /// Makes this many held permits free again, and tells those who can be granted what they need then.
+    ///
+    /// The caller has seen that they are held (`held`).
+    pub fn give_back(&mut self, permits: usize)
+        requires { permits ≤ self.old.own.held }
+        ensures { GivesBack self.old permits self.new }
+    {
+        self.fields.give_back(permits);
+    }
+
+    /// Forgets this many held permits, which will not be given back.
+    ///
+    /// The caller has seen that they are held (`held`).
+    pub fn disarm(&mut self, permits: usize)
+        requires { permits ≤ self.old.own.held }
+        ensures { Disarms self.old permits self.new }
+    {
+        self.fields.disarm(permits);
+    }
+}
+
+impl<W: Drop> Fields<W> {
+    ghost use Rattle.fi_locks.specs.SemaphoreFields.{machine_of, MarksWithoutIf, Walk, IsStopped};
+
+    fn next_wake(&mut self) -> Option<W>
+        requires marked { IsMarked self.old }
+        ensures popped { Wakes (machine_of self.old) result (machine_of self.new) }
+        ensures marked { IsMarked self.new }
+    {
+        self.waits.next_wake()
+    }
+
+    fn claim_acquire(&mut self, permits: usize) -> Result<Slot, Fault>
+        requires sound { IsSound (machine_of self.old) }
+        requires marked { IsMarked self.old }
+        ensures made { IfOk result (λ slot. Makes (machine_of self.old) permits slot.0 (machine_of self.new)) }
+        ensures refused { OnErr result (machine_of self.new ≡ machine_of self.old) }
+        ensures fault { IfErr result (λ fault. fault ≡ Fault.NoMemory) }
+        ensures marked { IsMarked self.new }
+    {
+        match self.waits.make(permits) {
+            Ok(slot) => {
+                self.asked = self.asked.after(permits);
+                Ok(slot)
+            }
+            Err(_) => Err(Fault::NoMemory),
+        }
+    }
+
+    // How many permits the future under this slot needs.
+    fn need(&self, slot: Slot) -> usize
+        ensures { result ≡ need_of self.now.waits.side slot.0 }
+    {
+        match self.waits.asks(slot) {
+            Some(need) => *need,
+            None => 0,
+        }
+    }
+
+    fn is_told(&self, slot: Slot) -> bool
+        ensures { result ≡ is_told (phase_of self.now.waits.side slot.0) }
+    {
+        match self.waits.phase(slot) {
+            Some(Phase::Told) => true,
+            None | Some(Phase::Fresh | Phase::Registered(_) | Phase::Complete | Phase::Ended) => {
+                false
+            }
+        }
+    }
+
+    // Whether one who does not wait is granted this many permits.
+    fn can_take(&self, permits: usize) -> bool
+        ensures { result ≡ can_take (machine_of self.now).own self.now.waits.side.queue permits }
+    {
+        if permits > self.free {
+            return false;
+        }
+        if !self.is_fair || permits == 0 {
+            return true;
+        }
+        self.waits.oldest().is_none()
+    }
+
+    // Free permits are held now.
+    fn hand_out(&mut self, permits: usize)
+        requires free { permits ≤ self.old.free }
+        requires counted { self.old.free + self.old.held < 2 ^ 64 }
+        ensures { self.new ≡ record self.old { free = self.old.free - permits; held = self.old.held + permits } }
+    {
+        self.free -= permits;
+        self.held += permits;
+    }
+
+    // Ends a live future, which leaves the queue if it has a place there. Gives the waker that it had.
+    fn end(&mut self, slot: Slot) -> Option<W>
+        requires live { is_some (phase_of self.old.waits.side slot.0) ≡ true }
+        ensures ended { TakesEffect (EndsPlaced slot.0) self.old.waits self.new.waits }
+        ensures rest { self.new ≡ record self.old { waits = self.new.waits } }
+        ensures waker { result ≡ displaced self.old.waits.side self.old.waits.out slot.0 }
+    {
+        let named = self.waits.take_out(slot);
+        self.waits.leave(slot);
+        self.waits.stand(slot, Phase::Ended).or(named)
+    }
+
+    fn poll_fresh(&mut self, slot: Slot, waker: W) -> (Poll<usize>, Leftover<W>)
+        requires sound { IsSound (machine_of self.old) }
+        requires marked { IsMarked self.old }
+        requires fresh { phase_of self.old.waits.side slot.0 ≡ Some phases.Fresh }
+        ensures polled { Polls (machine_of self.old) slot.0 waker result.0 (machine_of self.new) }
+        ensures displaced { result.1.displaced ≡ displaced self.old.waits.side self.old.waits.out slot.0 }
+        ensures unused { result.1.unused ≡ unused_after result.0 waker }
+        ensures marked { IsMarked self.new }
+    {
+        let need = self.need(slot);
+        if !self.can_take(need) {
+            let named = self.waits.take_out(slot);
+            self.waits.register(slot, waker);
+            self.untold = self.untold.or(Some(slot));
+            return (Poll::Pending, Leftover::of(named, None));
+        }
+        self.hand_out(need);
+        let named = self.waits.take_out(slot);
+        self.waits.stand(slot, Phase::Ended);
+        (Poll::Ready(need), Leftover::of(named, Some(waker)))
+    }
+
+    fn poll_registered(&mut self, slot: Slot, waker: W) -> (Poll<usize>, Leftover<W>)
+        requires sound { IsSound (machine_of self.old) }
+        requires marked { IsMarked self.old }
+        requires registered { is_registered (phase_of self.old.waits.side slot.0) ≡ true }
+        ensures polled { Polls (machine_of self.old) slot.0 waker result.0 (machine_of self.new) }
+        ensures displaced { result.1.displaced ≡ displaced self.old.waits.side self.old.waits.out slot.0 }
+        ensures unused { result.1.unused ≡ unused_after result.0 waker }
+        ensures marked { IsMarked self.new }
+    {
+        let need = self.need(slot);
+        if self.is_fair || need > self.free {
+            self.waits.take_out(slot);
+            let before = self.waits.stand(slot, Phase::Registered(waker));
+            return (Poll::Pending, Leftover::of(before, None));
+        }
+        self.hand_out(need);
+        let before = self.end(slot);
+        (Poll::Ready(need), Leftover::of(before, Some(waker)))
+    }
+
+    fn poll_told(&mut self, slot: Slot, waker: W) -> (Poll<usize>, Leftover<W>)
+        requires sound { IsSound (machine_of self.old) }
+        requires marked { IsMarked self.old }
+        requires told { phase_of self.old.waits.side slot.0 ≡ Some phases.Told }
+        ensures polled { Polls (machine_of self.old) slot.0 waker result.0 (machine_of self.new) }
+        ensures displaced { result.1.displaced ≡ displaced self.old.waits.side self.old.waits.out slot.0 }
+        ensures unused { result.1.unused ≡ unused_after result.0 waker }
+        ensures marked { IsMarked self.new }
+    {
+        let need = self.need(slot);
+        if need > self.free {
+            let named = self.waits.take_out(slot);
+            self.waits.register(slot, waker);
+            return (Poll::Pending, Leftover::of(named, None));
+        }
+        self.hand_out(need);
+        let named = self.end(slot);
+        if !self.is_fair {
+            return (Poll::Ready(need), Leftover::of(named, Some(waker)));
+        }
+        self.promised -= need;
+        self.tell();
+        (Poll::Ready(need), Leftover::of(named, Some(waker)))
+    }
+
+    fn acquire_or_register(&mut self, slot: Slot, waker: W) -> (Poll<usize>, Leftover<W>)
+        requires sound { IsSound (machine_of self.old) }
+        requires marked { IsMarked self.old }
+        requires live { can_be_polled (phase_of self.old.waits.side slot.0) ≡ true }
+        ensures polled { Polls (machine_of self.old) slot.0 waker result.0 (machine_of self.new) }
+        ensures displaced { result.1.displaced ≡ displaced self.old.waits.side self.old.waits.out slot.0 }
+        ensures unused { result.1.unused ≡ unused_after result.0 waker }
+        ensures marked { IsMarked self.new }
+    {
+        if self.waits.is_registered(slot) {
+            return self.poll_registered(slot, waker);
+        }
+        if self.is_told(slot) {
+            return self.poll_told(slot, waker);
+        }
+        self.poll_fresh(slot, waker)
+    }
+
+    // A telling round follows the cancel of this future.
+    fn tells_on_cancel(&self, slot: Slot) -> bool
+        ensures { result ≡ cancel_tells self.now.is_fair (phase_of self.now.waits.side slot.0) }
+    {
+        match self.waits.phase(slot) {
+            Some(Phase::Told) => true,
+            Some(Phase::Registered(_)) => self.is_fair,
+            None | Some(Phase::Fresh | Phase::Complete | Phase::Ended) => false,
+        }
+    }
+
+    // Marks the queue as it is without this future.
+    fn unmark(&mut self, slot: Slot)
+        requires sound { IsSound (machine_of self.old) }
+        requires marked { IsMarked self.old }
+        ensures marked { MarksWithoutIf self.old.is_fair slot.0 self.old.free self.new.promised self.new.untold self.old.waits.side }
+        ensures rest { self.new ≡ record self.old { promised = self.new.promised; untold = self.new.untold } }
+    {
+        if !self.is_fair {
+            return;
+        }
+        if self.is_told(slot) {
+            self.promised -= self.need(slot);
+            return;
+        }
+        let Some(first) = self.untold else {
+            return;
+        };
+        if first.0 == slot.0 {
+            self.untold = self.waits.younger(slot);
+        }
+    }
+
+    fn remove_waiter(&mut self, slot: Slot) -> Option<W>
+        requires sound { IsSound (machine_of self.old) }
+        requires marked { IsMarked self.old }
+        requires live { is_some (phase_of self.old.waits.side slot.0) ≡ true }
+        ensures cancelled { Cancels (machine_of self.old) slot.0 (machine_of self.new) }
+        ensures displaced { result ≡ displaced self.old.waits.side self.old.waits.out slot.0 }
+        ensures marked { IsMarked self.new }
+    {
+        let tells = self.tells_on_cancel(slot);
+        self.unmark(slot);
+        let (_, waker) = self.waits.forget(slot);
+        if tells {
+            self.tell();
+        }
+        waker
+    }
+
+    fn try_acquire(&mut self, permits: usize) -> bool
+        requires sound { IsSound (machine_of self.old) }
+        requires marked { IsMarked self.old }
+        ensures tried { TriesAcquire (machine_of self.old) permits result (machine_of self.new) }
+        ensures marked { IsMarked self.new }
+    {
+        if !self.can_take(permits) {
+            return false;
+        }
+        self.hand_out(permits);
+        true
+    }
+
+    fn release(&mut self, permits: usize) -> Result<(), Fault>
+        requires sound { IsSound (machine_of self.old) }
+        requires marked { IsMarked self.old }
+        ensures released { IfOk result (λ _. Releases (machine_of self.old) permits (machine_of self.new)) }
+        ensures refused { OnErr result (machine_of self.new ≡ machine_of self.old) }
+        ensures fault { IfErr result (λ fault. (fault ≡ Fault.Overflow) × (2 ^ 64 ≤ self.old.free + self.old.held + permits)) }
+        ensures marked { IsMarked self.new }
+    {
+        if permits > usize::MAX - (self.free + self.held) {
+            return Err(Fault::Overflow);
+        }
+        self.free += permits;
+        if permits > 0 {
+            self.tell();
+        }
+        Ok(())
+    }
+
+    fn give_back(&mut self, permits: usize)
+        requires sound { IsSound (machine_of self.old) }
+        requires marked { IsMarked self.old }
+        requires held { permits ≤ self.old.held }
+        ensures given_back { GivesBack (machine_of self.old) permits (machine_of self.new) }
+        ensures marked { IsMarked self.new }
+    {
+        self.held -= permits;
+        self.free += permits;
+        if permits > 0 {
+            self.tell();
+        }
+    }
+
+    fn disarm(&mut self, permits: usize)
+        requires marked { IsMarked self.old }
+        requires held { permits ≤ self.old.held }
+        ensures disarmed { Disarms (machine_of self.old) permits (machine_of self.new) }
+        ensures marked { IsMarked self.new }
+    {
+        self.held -= permits;
+    }
+
+    // The future with which a telling round begins: the oldest that is not told.
+    fn first_untold(&self) -> Option<Slot>
+        requires sound { IsSound (machine_of self.now) }
+        requires marked { IsMarked self.now }
+        ensures { Walk self.now.is_fair self.now.free self.now.waits self.now.waits (self.now.free - self.now.promised) result }
+    {
+        if self.is_fair {
+            return self.untold;
+        }
+        self.waits.oldest()
+    }
+
+    // Tells futures from this one on, each taking its need from what is available, until the first that needs more. Gives
+    // that one, and what is left.
+    fn tell_from(&mut self, first: Option<Slot>, permits: usize) -> (Option<Slot>, usize)
+        requires sound { IsSound (machine_of self.old) }
+        requires walked { Walk self.old.is_fair self.old.free self.old.waits self.old.waits permits first }
+        ensures walked { Walk self.old.is_fair self.old.free self.old.waits self.new.waits result.1 result.0 }
+        ensures stopped { IsStopped self.old.waits.side result.1 result.0 }
+        ensures rest { self.new ≡ record self.old { waits = self.new.waits } }
+    {
+        let is_fair = self.is_fair;
+        let mut available = permits;
+        let mut next = first;
+        while let Some(slot) = next {
+            let need = self.need(slot);
+            if available < need {
+                return (next, available);
+            }
+            available -= need;
+            next = self.waits.younger(slot);
+            self.waits.tell(slot, is_fair);
+        }
+        (None, available)
+    }
+
+    // A telling round: the longest front of the queue whose needs together are free is told.
+    fn tell(&mut self)
+        requires sound { IsSound (machine_of self.old) }
+        requires marked { IsMarked self.old }
+        ensures told { Tells (machine_of self.old) (machine_of self.new) }
+        ensures marked { IsMarked self.new }
+    {
+        let first = self.first_untold();
+        let available = self.free - self.promised;
+        let (untold, left) = self.tell_from(first, available);
+        if self.is_fair {
+            self.untold = untold;
+            self.promised = self.free - left;
+        }
+    }
+}

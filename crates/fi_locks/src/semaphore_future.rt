@@ -1,0 +1,143 @@
+//! A future of a semaphore, polled with the semaphore lent to it, and the permits that it acquires.
+ghost use Rattle.std.specs.Prelude.{◌≡◌, ◌≤◌, true, false, is_some};
+ghost use Rattle.fi_parts.specs.Machine.{phase_at};
+ghost use Rattle.fi_parts.specs.Polled.{is_ready};
+ghost use Rattle.fi_locks.specs.Semaphore.{can_be_polled, Polls, Cancels, GivesBack, Disarms};
+
+use crate::semaphore::LocalSemaphore;
+use fi_parts::Slot;
+use futures::task::Poll;
+use std::marker::Model;
+use std::mem;
+
+/// Acquires permits of a local semaphore. It is spent by `cancel`, with its semaphore; it cannot just be let go.
+///
+/// Keeps `SemaphoreAcquireFuture` of futures-intrusive's `sync`.
+pub struct LocalSemaphoreAcquireFuture {
+    slot: Slot,
+    is_ended: bool,
+}
+
+impl Model for LocalSemaphoreAcquireFuture {
+    ghost use Rattle.fi_parts.specs.Polled.{LocalFuture};
+
+    ghost Value = { LocalFuture };
+
+    ghost view = { λ f. record { name = f.slot.0; has_ended = f.is_ended } };
+}
+
+/// Permits of a local semaphore that are held. They are spent by `give_back`, with their semaphore; they cannot just be let go.
+///
+/// Keeps `SemaphoreReleaser` of futures-intrusive's `sync`.
+pub struct LocalSemaphoreReleaser {
+    permits: usize,
+}
+
+impl Model for LocalSemaphoreReleaser {
+    ghost use Rattle.std.specs.Prelude.{ℕ};
+
+    ghost Value = { ℕ };
+
+    ghost view = { λ r. r.permits };
+}
+
+impl LocalSemaphoreAcquireFuture {
+    // The future that was just made under this slot.
+    pub(crate) fn at(slot: Slot) -> Self
+        ensures name { result.name ≡ slot.0 }
+        ensures fresh { result.has_ended ≡ false }
+    {
+        LocalSemaphoreAcquireFuture {
+            slot,
+            is_ended: false,
+        }
+    }
+
+    /// The name of this future in its semaphore.
+    pub fn slot(&self) -> Slot
+        ensures { result.0 ≡ self.now.name }
+    {
+        self.slot
+    }
+
+    /// The future was polled to its end. Keeps `FusedFuture::is_terminated`.
+    pub fn is_terminated(&self) -> bool
+        ensures { result ≡ self.now.has_ended }
+    {
+        self.is_ended
+    }
+
+    /// Ready with the permits once they are granted; else the future is registered with this waker.
+    ///
+    /// The caller lends the future's own semaphore, and polls no future that has ended (`LocalSemaphore::can_poll`).
+    pub fn poll<W: Drop>(
+        &mut self,
+        semaphore: &mut LocalSemaphore<W>,
+        waker: W,
+    ) -> Poll<LocalSemaphoreReleaser>
+        requires { can_be_polled (phase_at semaphore.old self.old.name) ≡ true }
+        ensures polled { Polls semaphore.old self.old.name waker result semaphore.new }
+        ensures name { self.new.name ≡ self.old.name }
+        ensures ended { self.new.has_ended ≡ is_ready result }
+        ensures live { is_some (phase_at semaphore.new self.old.name) ≡ true }
+    {
+        semaphore.show();
+        let (answer, _leftover) = semaphore.acquire_or_register(self.slot, waker);
+        self.is_ended = answer.is_ready();
+        let Poll::Ready(permits) = answer else {
+            return Poll::Pending;
+        };
+        Poll::Ready(LocalSemaphoreReleaser::of(permits))
+    }
+
+    /// Gives up: the future leaves its semaphore, and a notice that it had not used is passed on to those who wait. The caller
+    /// lends the future's own semaphore.
+    pub fn cancel<W: Drop>(self, semaphore: &mut LocalSemaphore<W>)
+        requires { is_some (phase_at semaphore.old self.name) ≡ true }
+        ensures { Cancels semaphore.old self.name semaphore.new }
+    {
+        let LocalSemaphoreAcquireFuture { slot, is_ended: _ } = self;
+        semaphore.remove_waiter(slot);
+    }
+}
+
+impl LocalSemaphoreReleaser {
+    // Permits that were just granted.
+    pub(crate) fn of(permits: usize) -> Self
+        ensures { result ≡ permits }
+    {
+        LocalSemaphoreReleaser { permits }
+    }
+
+    /// How many permits these are.
+    pub fn permits(&self) -> usize
+        ensures { result ≡ self.now }
+    {
+        self.permits
+    }
+
+    /// Gives the permits back, and tells those who can be granted what they need then.
+    ///
+    /// The caller lends the permits' own semaphore, which holds them. Keeps the drop of `SemaphoreReleaser`.
+    pub fn give_back<W: Drop>(self, semaphore: &mut LocalSemaphore<W>)
+        requires { self ≤ semaphore.old.own.held }
+        ensures { GivesBack semaphore.old self semaphore.new }
+    {
+        let LocalSemaphoreReleaser { permits } = self;
+        semaphore.give_back(permits);
+    }
+
+    /// Leaves no permits here, and says how many there were: they are no longer held, and will not be given back.
+    ///
+    /// The caller lends the permits' own semaphore, which holds them. Keeps `SemaphoreReleaser::disarm`.
+    pub fn disarm<W: Drop>(&mut self, semaphore: &mut LocalSemaphore<W>) -> usize
+        requires { self.old ≤ semaphore.old.own.held }
+        ensures disarmed { Disarms semaphore.old self.old semaphore.new }
+        ensures count { result ≡ self.old }
+        ensures none_left { self.new ≡ 0 }
+    {
+        let permits = mem::replace(&mut self.permits, 0);
+        semaphore.disarm(permits);
+        permits
+    }
+}
