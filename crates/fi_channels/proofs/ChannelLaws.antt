@@ -1,5 +1,6 @@
 -- Each call on a channel is a line of its table, and keeps a channel sound that owes no wake.
-use Rattle.std.proofs.Common.{◌≡◌, ◌≤◌, ◌+◌, ℕ, suc, not, nat_lt, eqb, cond, drop, ◌⊎◌, Bool, true, false, List, [], ◌∷◌, ◌++◌, Option, Some, None, is_some, Result, Ok, Err}
+use Rattle.std.proofs.Common.{◌≡◌, ◌≤◌, ◌+◌, ℕ, suc, not, nat_lt, eqb, cond, drop, ◌⊎◌, Bool, true, false, List, [], ◌∷◌}
+use Rattle.std.proofs.Common.{◌++◌, Option, Some, None, is_some, Result, Ok, Err}
 use Rattle.std.proofs.Common.{length, length-append, refl, sym, ap, subst, ◌∙◌, inl, inr, arith}
 use Rattle.std.proofs.lemmas.Bool.{both_ways, cases_eq}
 use Rattle.std.specs.Option.{option_flatten}
@@ -21,13 +22,15 @@ use Rattle.fi_parts.specs.WakerHistory.{WakerEffect, gives}
 use Rattle.fi_parts.specs.WakerHistory.WakerEffect.{Pends, Leaves, NoEffect}
 use Rattle.fi_parts.specs.Waiting.{asks_in}
 use Rattle.fi_parts.proofs.FiniteMaps.{get-insert_same}
-use Rattle.fi_parts.specs.Waiting.{Side, Waiting, phase_of, phase_in, asks_of, is_registered, made, registered, stays, ended, forgotten, exchange, emptied, noticed, IsOrdered}
+use Rattle.fi_parts.specs.Waiting.{Side, Waiting, phase_of, phase_in, asks_of, is_registered, made, registered, stays, ended}
+use Rattle.fi_parts.specs.Waiting.{forgotten, exchange, emptied, noticed, IsOrdered}
 use Rattle.fi_parts.proofs.Effects.{some_phase, registered_as}
 use Rattle.fi_parts.proofs.Oldest.{phase-with_asks}
 use Rattle.fi_parts.proofs.PairsWithin.{none_some, some_same}
 use Rattle.fi_parts.proofs.Sound.{none_registered, sound-forgotten}
 use Rattle.fi_parts.proofs.Waiting.{asks-with_phase}
-use Rattle.fi_parts.proofs.Waiting.{Becomes, noticed_phase, becomes-made, becomes-with_phase, becomes-forgotten, phase-emptied, lives_as, live_if_registered, first_registered}
+use Rattle.fi_parts.proofs.Waiting.{Becomes, noticed_phase, becomes-made, becomes-with_phase, becomes-forgotten}
+use Rattle.fi_parts.proofs.Waiting.{phase-emptied, lives_as, live_if_registered, first_registered}
 use Rattle.fi_channels.specs.declared.channel_errors.SendFault.{SendFault}
 use Rattle.fi_channels.specs.declared.channel_errors.SendFault.TheVariants as send_fault
 use Rattle.fi_channels.specs.declared.channel_errors.TryReceiveError.{TryReceiveError}
@@ -35,11 +38,14 @@ use Rattle.fi_channels.specs.declared.channel_errors.TrySendError.{TrySendError}
 use Rattle.fi_channels.specs.declared.channel_errors.TrySendError.TheVariants as not_sent
 use Rattle.fi_channels.specs.declared.channel_fields.ReceiveKind.{ReceiveKind}
 use Rattle.fi_channels.specs.declared.channel_fields.ReceiveKind.TheVariants.{Single, Stream}
-use Rattle.fi_channels.specs.Channel.{ChannelMachine, Buffered, AreTold, rules, is_send_phase, is_receive_phase, owns_value, has_room, Stores}
+use Rattle.fi_channels.specs.Channel.{ChannelMachine, Buffered, AreTold, rules, is_send_phase, is_receive_phase, owns_value}
+use Rattle.fi_channels.specs.Channel.{has_room, Stores}
 use Rattle.fi_channels.specs.Channel.{next_value, next_of, value_count, send_phase, receive_phase, value_of, kind_of, opened}
-use Rattle.fi_channels.specs.Channel.{finishes, is_given, tells_oldest, completes_oldest, MakesSend, MakesReceive, FreshSends, SendsAs, PollsSend}
+use Rattle.fi_channels.specs.Channel.{finishes, is_given, tells_oldest, completes_oldest, MakesSend, MakesReceive, FreshSends}
+use Rattle.fi_channels.specs.Channel.{SendsAs, PollsSend}
 use Rattle.fi_channels.specs.Channel.{can_send, can_stream}
-use Rattle.fi_channels.specs.Channel.{CancelsSend, TakesNext, ReceivesAs, PollsReceive, StreamsAs, PollsNext, CancelsReceiveAs, CancelsReceive}
+use Rattle.fi_channels.specs.Channel.{CancelsSend, TakesNext, ReceivesAs, PollsReceive, StreamsAs, PollsNext}
+use Rattle.fi_channels.specs.Channel.{CancelsReceiveAs, CancelsReceive}
 use Rattle.fi_channels.specs.Channel.{TriesSend, TriesNext, TriesReceive, ClosesAt, Closes, Wakes, IsSound, OwesNoWake}
 use Rattle.fi_channels.specs.declared.two_sides.Waiter.{Waiter}
 use Rattle.fi_channels.specs.declared.two_sides.Waiter.TheVariants.{Send, Receive}
@@ -50,7 +56,8 @@ use Rattle.fi_channels.specs.TwoSidedMachine.{TwoSidedLine, TwoSidedStep}
 use Rattle.fi_channels.specs.Waiter.{same_waiter, sends_in, receives_in}
 use Rattle.std.specs.Ordering.{nat_cmp}
 use Rattle.std.specs.FinMap as map
-use Rattle.fi_channels.proofs.OwnedValues.{Owned, OwnedAt, owned-made, owned-with_phase, owned-finished, owned-forgotten, owned-emptied, owned-completed}
+use Rattle.fi_channels.proofs.OwnedValues.{Owned, OwnedAt, owned-made, owned-with_phase, owned-finished, owned-forgotten}
+use Rattle.fi_channels.proofs.OwnedValues.{owned-emptied, owned-completed}
 use Rattle.fi_channels.proofs.ToldReceives.{Enough, none_told, enough_fewer, enough_but, enough_beside, oldest_enough, passed_on}
 use Rattle.fi_channels.proofs.TwoSidedMachines.{two_sided_initial, two_sided_line, two_sided_line_sound}
 
@@ -94,20 +101,23 @@ unregistered_fresh (Some Complete) = refl
 unregistered_fresh (Some Ended) = refl
 
 module _ {W : Type 0} where
-  given_allowed : (waiting : Waiting ReceiveKind W) (kind : Option ReceiveKind) (name : ℕ) → AllowsEffect registered_rule is_receive_phase waiting
+  given_allowed : (waiting : Waiting ReceiveKind W) (kind : Option ReceiveKind) (name : ℕ) →
+      AllowsEffect registered_rule is_receive_phase waiting
       (is_given kind name)
   given_allowed waiting None name = tt
   given_allowed waiting (Some Single) name = tt
   given_allowed waiting (Some Stream) name = tt
 
-  given_leaves : (kind : Option ReceiveKind) (name : ℕ) → waker_effect {D = ReceiveKind} {W = W} (is_given kind name) ≡ Leaves name
+  given_leaves : (kind : Option ReceiveKind) (name : ℕ) →
+      waker_effect {D = ReceiveKind} {W = W} (is_given kind name) ≡ Leaves name
   given_leaves None name = refl
   given_leaves (Some Single) name = refl
   given_leaves (Some Stream) name = refl
 
   -- what was given an item
   given_becomes : (kind : Option ReceiveKind) (old new : Side ReceiveKind W) (name : ℕ) (out after : List (Waiter × W)) →
-      TakesOn Receive same_waiter (is_given kind name) old out new after → (phase : Phase W) × (is_registered (Some phase) ≡ false)
+      TakesOn Receive same_waiter (is_given kind name) old out new after →
+      (phase : Phase W) × (is_registered (Some phase) ≡ false)
       × Becomes old new name (Some phase) × (asks_of new name ≡ asks_of old name)
   given_becomes None old new name out after did =
       let p = some_phase (phase_of old name) did.0 in (
@@ -148,15 +158,18 @@ module _ {W : Type 0} where
 
 module _ {D W : Type 0} where
   -- one name changed, and is not registered
-  not_joined : (old new : Side D W) (name : ℕ) (phase : Option (Phase W)) → Becomes old new name phase → is_registered phase ≡ false →
+  not_joined : (old new : Side D W) (name : ℕ) (phase : Option (Phase W)) → Becomes old new name phase →
+      is_registered phase ≡ false →
       (q : ℕ) → is_registered (phase_of new q) ≡ true → is_registered (phase_of old q) ≡ true
   not_joined old new name phase becomes off q now = elim (cases_eq q name) [
-    | inl same ↦ absurd (both_ways _ off (ap is_registered (sym becomes.here) ∙ ap (λ k. is_registered (phase_of new k)) (sym same) ∙ now))
+    | inl same ↦ absurd (both_ways _ off (ap is_registered (sym becomes.here)
+        ∙ ap (λ k. is_registered (phase_of new k)) (sym same) ∙ now))
     | inr ne ↦ ap is_registered (sym (becomes.others q ne)) ∙ now
   ]
 
   -- one that was registered already changed
-  joined_before : (old new : Side D W) (name : ℕ) (phase : Option (Phase W)) → Becomes old new name phase → is_registered (phase_of old name) ≡ true →
+  joined_before : (old new : Side D W) (name : ℕ) (phase : Option (Phase W)) → Becomes old new name phase →
+      is_registered (phase_of old name) ≡ true →
       (q : ℕ) → is_registered (phase_of new q) ≡ true → is_registered (phase_of old q) ≡ true
   joined_before old new name phase becomes was q now = elim (cases_eq q name) [
     | inl same ↦ ap (λ k. is_registered (phase_of old k)) same ∙ was
@@ -165,7 +178,8 @@ module _ {D W : Type 0} where
 
 module _ {T : Type 0} where
   -- What is left where the next value was taken.
-  left_over : (own : Buffered T) (items : List T) (queue : List ℕ) (asks : Option T) (next : T × Bounded T) → own.buffer.items ≡ items →
+  left_over : (own : Buffered T) (items : List T) (queue : List ℕ) (asks : Option T) (next : T × Bounded T) →
+      own.buffer.items ≡ items →
       Fits own.buffer → Fronts queue asks → next_value own.buffer items asks ≡ Some next → Fits next.1
       × (length items + length queue ≡ suc (length next.1.items + length (drop 1 queue)))
       × ((queue ≡ []) ⊎ (has_room (record own { buffer = next.1 }) ≡ has_room own))
@@ -178,7 +192,8 @@ module _ {T : Type 0} where
       × (((n ∷ others) ≡ []) ⊎ (has_room (record own { buffer = n2.1 }) ≡ has_room own))) same
       (fits, omega (arith, none), inr refl)
   left_over own (value ∷ left) [] asks next is fits fronts took =
-      let same : (value, popped own.buffer left) ≡ next = some_same _ _ (sym (ap (next_value own.buffer (value ∷ left)) fronts) ∙ took) in
+      let same : (value, popped own.buffer left)
+      ≡ next = some_same _ _ (sym (ap (next_value own.buffer (value ∷ left)) fronts) ∙ took) in
       let many : length own.buffer.items ≡ suc (length left) = ap length is in
       let less = fits.0 in
       subst (λ (n2 : T × Bounded T). Fits n2.1 × (suc (length left) + 0 ≡ suc (length n2.1.items + 0))
@@ -191,7 +206,8 @@ module _ {T : Type 0} where
       let pushes : length (left ++ fronts.0 ∷ []) ≡ length left + 1 = length-append left (fronts.0 ∷ []) in
       let still : length (left ++ fronts.0 ∷ []) ≡ length own.buffer.items = omega (arith, many, pushes) in
       let less = fits.0 in
-      subst (λ (n2 : T × Bounded T). Fits n2.1 × (suc (length left) + suc (length others) ≡ suc (length n2.1.items + length others))
+      subst (λ (n2 : T × Bounded T). Fits n2.1 × (suc (length left) + suc (length others)
+      ≡ suc (length n2.1.items + length others))
       × (((n ∷ others) ≡ []) ⊎ (has_room (record own { buffer = n2.1 }) ≡ has_room own))) same
       ((omega (arith, still, less), fits.1), omega (arith, pushes), inr (ap (λ m. nat_lt m own.buffer.capacity) still))
 
@@ -203,7 +219,8 @@ module _ {T : Type 0} where
       absurd (none_some _ (sym none ∙ ap (next_value buffer []) fronts.1))
   nothing_left buffer (value ∷ left) queue asks fronts none = absurd (none_some _ (sym none))
 
-completing_quiet : (T W : Type 0) (queue : List ℕ) → ◌≡◌ {A = WakerEffect W} (waker_effect (completes_first {D = Option T} None queue)) NoEffect
+completing_quiet : (T W : Type 0) (queue : List ℕ) →
+    ◌≡◌ {A = WakerEffect W} (waker_effect (completes_first {D = Option T} None queue)) NoEffect
 completing_quiet T W [] = refl
 completing_quiet T W (name ∷ others) = refl
 
@@ -220,12 +237,14 @@ module _ {T W : Type 0} where
   completes (name ∷ others) side new out after is did =
       did.3 ∙ ap (λ (names : List ℕ). noticed Complete (exchange side name None) name names) (ap (drop 1) (sym did.1 ∙ is))
 
-  rest_of : (queue : List ℕ) (side : Side (Option T) W) → side.queue ≡ queue → (complete_first None side queue).queue ≡ drop 1 queue
+  rest_of : (queue : List ℕ) (side : Side (Option T) W) → side.queue ≡ queue →
+      (complete_first None side queue).queue ≡ drop 1 queue
   rest_of [] side is = is
   rest_of (name ∷ others) side is = refl
 
   -- who is registered once the oldest completed was so before
-  completed_before : (queue : List ℕ) (side : Side (Option T) W) (out : List (ℕ × W)) → IsOrdered side out → side.queue ≡ queue → (q : ℕ) →
+  completed_before : (queue : List ℕ) (side : Side (Option T) W) (out : List (ℕ × W)) → IsOrdered side out →
+      side.queue ≡ queue → (q : ℕ) →
       is_registered (phase_of (complete_first None side queue) q) ≡ true → is_registered (phase_of side q) ≡ true
   completed_before [] side out ordered is q now = now
   completed_before (name ∷ others) side out ordered is q now =
@@ -274,12 +293,17 @@ module _ {T W : Type 0} where
     Goes on_send on_receive = TwoSidedLine rules on_send on_receive old new × Holds new
 
     goes : (own : Buffered T) (effect : TwoSidedEffect (Option T) ReceiveKind W) → TwoSidedStep old own effect new →
-        AllowsTwoSided is_send_phase is_receive_phase old.waiting effect → Holds old → Now → Goes (on_sends effect) (on_receives effect)
+        AllowsTwoSided is_send_phase is_receive_phase old.waiting effect → Holds old → Now →
+        Goes (on_sends effect) (on_receives effect)
     goes own effect steps allows was keeps =
         let line = two_sided_line rules own effect old new steps allows in (
           line,
           (
-            record { waiters = two_sided_line_sound rules old new line was.0.waiters; owned = keeps.owned; buffer = keeps.buffer },
+            record {
+              waiters = two_sided_line_sound rules old new line was.0.waiters;
+              owned = keeps.owned;
+              buffer = keeps.buffer;
+            },
             record { receives = keeps.told; sends = keeps.waits },
           ),
         )
@@ -306,12 +330,14 @@ module _ {T W : Type 0} where
     sends_alone sending was owned fewer joined = record {
       owned = owned;
       buffer = was.buffer;
-      told = enough_fewer old.waiting.receives (length old.own.buffer.items + length sending.queue) (value_count old) (omega (arith, fewer)) was.told;
+      told = enough_fewer old.waiting.receives (length old.own.buffer.items + length sending.queue) (value_count old) (omega
+          (arith, fewer)) was.told;
       waits = λ q now. was.waits q (joined q now);
     }
 
     -- One receive changed alone, and did not join those who wait.
-    receives_alone : (receiving : Side ReceiveKind W) (name : ℕ) (phase : Option (Phase W)) → Was → Becomes old.waiting.receives receiving name phase →
+    receives_alone : (receiving : Side ReceiveKind W) (name : ℕ) (phase : Option (Phase W)) → Was →
+        Becomes old.waiting.receives receiving name phase →
         is_told (receive_phase old name) ≡ false →
         ((q : ℕ) → is_registered (phase_of receiving q) ≡ true → is_registered (receive_phase old q) ≡ true) →
         Keeps old.own old.waiting.sends receiving
@@ -385,7 +411,8 @@ module _ {T W : Type 0} where
       owned = owned;
       buffer = fits;
       told = enough_fewer (pop_oldest Told old.waiting.receives) _ (suc (value_count old)) (omega (arith, more))
-          (oldest_enough old.waiting.receives (receives_in old.waiting.out) (value_count old) was.0.waiters.receives was.1.receives);
+          (oldest_enough old.waiting.receives (receives_in old.waiting.out)
+          (value_count old) was.0.waiters.receives was.1.receives);
       waits = waits;
     }
 
@@ -394,13 +421,15 @@ module _ {T W : Type 0} where
     stored_more own value queue stores =
         let many : length own.buffer.items ≡ length (old.own.buffer.items ++ value ∷ []) =
         ap (λ (o : Buffered T). length o.buffer.items) stores.4 in
-        let one : length (old.own.buffer.items ++ value ∷ []) ≡ length old.own.buffer.items + 1 = length-append old.own.buffer.items (value ∷ []) in
+        let one : length (old.own.buffer.items ++ value ∷ [])
+        ≡ length old.own.buffer.items + 1 = length-append old.own.buffer.items (value ∷ []) in
         omega (arith, many, one)
 
     stored_fits : (own : Buffered T) (value : T) → Stores old.own value own → Fits own.buffer
     stored_fits own value stores = subst (λ (o : Buffered T). Fits o.buffer) (sym stores.4) stores.2
 
-    pub tries_send : (value : T) (answer : Result (Unit {0}) (TrySendError T)) → TriesSend old value answer new → Holds old → Goes NoEffect NoEffect
+    pub tries_send : (value : T) (answer : Result (Unit {0}) (TrySendError T)) → TriesSend old value answer new → Holds old →
+        Goes NoEffect NoEffect
     tries_send value (Err (not_sent.Closed back)) did was = unchanged did.2 was
     tries_send value (Err (not_sent.Full back)) did was = unchanged did.3 was
     tries_send value (Err (not_sent.NoMemory back)) did was = unchanged did.2 was
@@ -409,7 +438,8 @@ module _ {T W : Type 0} where
         let step = did.4 in
         goes own tells_oldest step refl was
         (keeps_at own old.waiting.sends (pop_oldest Told old.waiting.receives) step.0 step.1.1 step.1.0.0
-        (told_one_more own old.waiting.sends was was.0.owned (stored_fits own value did.3) (stored_more own value old.waiting.sends.queue did.3)
+        (told_one_more own old.waiting.sends was was.0.owned (stored_fits own value did.3)
+        (stored_more own value old.waiting.sends.queue did.3)
         (λ q now. absurd (both_ways _ (was.1.sends q now).1 did.1))))
 
     -- The oldest send completed, and the next value is gone.
@@ -417,7 +447,8 @@ module _ {T W : Type 0} where
     completed_side = complete_oldest None old.waiting.sends
 
     taken_keeps : (next : T × Bounded T) (receiving : Side ReceiveKind W) → next_of old ≡ Some next → Holds old →
-        ((n : ℕ) → value_count old ≡ suc n → Enough receiving n) → Keeps (record old.own { buffer = next.1 }) completed_side receiving
+        ((n : ℕ) → value_count old ≡ suc n → Enough receiving n) →
+        Keeps (record old.own { buffer = next.1 }) completed_side receiving
     taken_keeps next receiving took was enough =
         let side = old.waiting.sends in
         let ordered = was.0.waiters.sends.ordered in
@@ -434,7 +465,8 @@ module _ {T W : Type 0} where
               let full = was.1.sends q before in (
                 full.0,
                 elim left.2 [
-                  | inl empty ↦ absurd (none_registered is_send_phase side (sends_in old.waiting.out) was.0.waiters.sends empty q before)
+                  | inl empty ↦ absurd (none_registered is_send_phase side
+                      (sends_in old.waiting.out) was.0.waiters.sends empty q before)
                   | inr same ↦ same ∙ full.1
                 ],
               );
@@ -468,7 +500,8 @@ module _ {T W : Type 0} where
         (receives_alone (forgotten side name) name None (keeps_of was) becomes (ap is_told is ∙ off)
         (not_joined side (forgotten side name) name None becomes refl)))
 
-    cancels_as : (phase : Option (Phase W)) (name : ℕ) → receive_phase old name ≡ phase → CancelsReceiveAs phase old name new → Holds old →
+    cancels_as : (phase : Option (Phase W)) (name : ℕ) → receive_phase old name ≡ phase →
+        CancelsReceiveAs phase old name new → Holds old →
         Goes NoEffect (Leaves name)
     cancels_as (Some Told) name is step was =
         let side = old.waiting.receives in
@@ -478,7 +511,8 @@ module _ {T W : Type 0} where
           owned = was.0.owned;
           buffer = was.0.buffer;
           told = passed_on side (without_pair name (receives_in old.waiting.out)) name (value_count old)
-              (sound-forgotten is_receive_phase side (receives_in old.waiting.out) name refl was.0.waiters.receives) was.1.receives;
+              (sound-forgotten is_receive_phase side (receives_in old.waiting.out) name refl was.0.waiters.receives)
+              was.1.receives;
           waits = was.1.sends;
         }))
     cancels_as None name is step was = line_cancels None name is refl step was
@@ -502,7 +536,8 @@ module _ {T W : Type 0} where
     -- nothing is there, so nobody need be told
     nobody_owed : (receiving : Side ReceiveKind W) → next_of old ≡ None → Holds old → Enough receiving (value_count old)
     nobody_owed receiving none was =
-        let zero = nothing_left old.own.buffer old.own.buffer.items old.waiting.sends.queue (option_flatten (asks_of_oldest old.waiting.sends))
+        let zero = nothing_left old.own.buffer old.own.buffer.items old.waiting.sends.queue (option_flatten
+        (asks_of_oldest old.waiting.sends))
         (fronts_of old was old.waiting.sends.queue refl) none in
         enough_fewer receiving (value_count old) 0 (omega (arith, zero)) (λ q now. none_told receiving)
 
@@ -528,14 +563,17 @@ module _ {T W : Type 0} where
         let given = given_becomes kind old.waiting.receives mid.receives name old.waiting.out mid.out step.1.1.0 in
         let received : new.waiting.receives ≡ mid.receives = step.1.2.1 in
         let sent : new.waiting.sends ≡ completed_side old new =
-        completes queue mid.sends new.waiting.sends mid.out new.waiting.out (ap (λ (s : Side (Option T) W). s.queue) step.1.1.1) step.1.2.0
+        completes queue mid.sends new.waiting.sends mid.out new.waiting.out (ap (λ (s : Side
+        (Option T) W). s.queue) step.1.1.1) step.1.2.0
         ∙ ap (λ (s : Side (Option T) W). complete_first None s queue) step.1.1.1 in
         subst Receives (sym did.0) (
           subst (λ (e : WakerEffect W). Goes old new NoEffect e) (given_leaves kind name)
-              (goes old new (record old.own { buffer = next.1 }) (Then (OnReceives (is_given kind name)) (completes_oldest old)) step
+              (goes old new (record old.own { buffer = next.1 }) (Then (OnReceives (is_given kind name))
+              (completes_oldest old)) step
               (given_allowed _ kind name, λ m did2. completing_allowed _ queue, completing_quiet T W queue, refl) was
               (keeps_at old new (record old.own { buffer = next.1 }) (completed_side old new) mid.receives step.0 sent received
-              (taken_keeps old new next mid.receives is was (λ n count. enough_but old.waiting.receives mid.receives name n (Some given.0) given.2 given.1
+              (taken_keeps old new next mid.receives is was (λ n count. enough_but old.waiting.receives mid.receives name n
+              (Some given.0) given.2 given.1
               (λ q now. subst (AreTold old.waiting.receives) count (was.1.receives q now)))))),
           lives_received mid.receives given.0 received given.2.here given.3,
         )
@@ -558,7 +596,8 @@ module _ {T W : Type 0} where
         let becomes = becomes-with_phase side name Ended side.queue (lives_as side name p.0 p.1) in
         subst Receives (sym did.0) (
           goes old new old.own (OnReceives (Ends name)) step tt was
-              (keeps_at old new old.own old.waiting.sends (ended side name) step.0 step.1.1 step.1.0.1 (quiet_keeps (ended side name) is was)),
+              (keeps_at old new old.own old.waiting.sends (ended side name) step.0 step.1.1 step.1.0.1 (quiet_keeps
+              (ended side name) is was)),
           lives_received (ended side name) Ended step.1.0.1 becomes.here (asks-with_phase side.live name Ended name),
         )
 
@@ -607,7 +646,8 @@ module _ {T W : Type 0} where
     pub polls_next : (answer : Poll (Option T)) → PollsNext old name waker answer new → Holds old → StreamsOn
     polls_next answer did was = streams_as (receive_phase old name) answer refl did was
 
-    can_still : (kind : Option ReceiveKind) (before after : Option (Phase W)) → can_stream kind before ≡ true → is_some after ≡ true →
+    can_still : (kind : Option ReceiveKind) (before after : Option (Phase W)) → can_stream kind before ≡ true →
+        is_some after ≡ true →
         can_stream kind after ≡ true
     can_still None before after can lives = absurd (both_ways false refl can)
     can_still (Some Single) before after can lives = absurd (both_ways false refl can)
@@ -621,7 +661,8 @@ module _ {T W : Type 0} where
     abbrev finished_side : Side (Option T) W
     finished_side = exchange (ended old.waiting.sends name) name None
 
-    finished_becomes : (before : Phase W) → send_phase old name ≡ Some before → Becomes old.waiting.sends finished_side name (Some Ended)
+    finished_becomes : (before : Phase W) → send_phase old name ≡ Some before →
+        Becomes old.waiting.sends finished_side name (Some Ended)
     finished_becomes before is =
         let side = old.waiting.sends in
         let becomes = becomes-with_phase side name Ended side.queue (lives_as side name before is) in
@@ -635,8 +676,10 @@ module _ {T W : Type 0} where
         phase_of sending name ≡ Some phase → is_some (send_phase new name) ≡ true
     lives_sent sending phase is here = ap (λ (s : Side (Option T) W). is_some (phase_of s name)) is ∙ ap is_some here
 
-    fresh_sends : (is_open room : Bool) (asks : Option T) (answer : Poll (Result (Unit {0}) (SendFault T))) → send_phase old name ≡ Some Fresh →
-        old.own.is_open ≡ is_open → has_room old.own ≡ room → FreshSends is_open room asks old name waker answer new → Holds old → Sends answer
+    fresh_sends : (is_open room : Bool) (asks : Option T) (answer : Poll (Result (Unit {0}) (SendFault T))) →
+        send_phase old name ≡ Some Fresh →
+        old.own.is_open ≡ is_open → has_room old.own ≡ room → FreshSends is_open room asks old name waker answer new →
+        Holds old → Sends answer
     fresh_sends is_open room None answer fresh flag has did was = absurd did
     fresh_sends false room (Some value) answer fresh flag has did was =
         let step = did.1 in
@@ -647,7 +690,8 @@ module _ {T W : Type 0} where
         subst Sends (sym did.0) (
           goes old new old.own (OnSends (finishes name)) step (tt, λ m d. tt, refl) was
               (keeps_at old new old.own finished_side old.waiting.receives step.0 sent step.1.1
-              (sends_alone old new finished_side (keeps_of old new was) (owned-finished old.waiting.sends name Fresh fresh was.0.owned) (omega arith)
+              (sends_alone old new finished_side (keeps_of old new was)
+              (owned-finished old.waiting.sends name Fresh fresh was.0.owned) (omega arith)
               (not_joined old.waiting.sends finished_side name (Some Ended) becomes refl))),
           lives_sent finished_side Ended sent becomes.here,
         )
@@ -664,7 +708,8 @@ module _ {T W : Type 0} where
               (step.1.2.0.0 ∙ ap (pop_oldest Told) step.1.1.1)
               (told_one_more old new own finished_side was (owned-finished old.waiting.sends name Fresh fresh was.0.owned)
               (stored_fits old new own value did.2) (stored_more old new own value old.waiting.sends.queue did.2)
-              (λ q now. absurd (both_ways _ (was.1.sends q (not_joined old.waiting.sends finished_side name (Some Ended) becomes refl q now)).1 has)))),
+              (λ q now. absurd (both_ways _ (was.1.sends q (not_joined old.waiting.sends finished_side name
+              (Some Ended) becomes refl q now)).1 has)))),
           lives_sent finished_side Ended sent becomes.here,
         )
     fresh_sends true false (Some value) answer fresh flag has did was =
@@ -679,7 +724,8 @@ module _ {T W : Type 0} where
               (keeps_at old new old.own joined (pop_oldest Told old.waiting.receives) step.0 sent
               (step.1.2.0.0 ∙ ap (pop_oldest Told) step.1.1.1)
               (told_one_more old new old.own joined was
-              (owned-with_phase side name Fresh (Registered waker) joined.queue fresh refl was.0.owned) was.0.buffer (omega (arith, longer))
+              (owned-with_phase side name Fresh (Registered waker) joined.queue fresh refl was.0.owned) was.0.buffer (omega
+              (arith, longer))
               (λ q now. elim (cases_eq q name) [
                 | inl same ↦ (flag, has)
                 | inr ne ↦ was.1.sends q (ap is_registered (sym (becomes.others q ne)) ∙ now)
@@ -689,7 +735,8 @@ module _ {T W : Type 0} where
 
     sends_as : (phase : Option (Phase W)) (answer : Poll (Result (Unit {0}) (SendFault T))) → send_phase old name ≡ phase →
         SendsAs phase old name waker answer new → Holds old → Sends answer
-    sends_as (Some Fresh) answer is did was = fresh_sends old.own.is_open (has_room old.own) (value_of old name) answer is refl refl did was
+    sends_as (Some Fresh) answer is did was = fresh_sends old.own.is_open (has_room old.own)
+        (value_of old name) answer is refl refl did was
     sends_as (Some (Registered before)) answer is did was =
         let step = did.1 in
         let side = old.waiting.sends in
@@ -716,10 +763,12 @@ module _ {T W : Type 0} where
         )
     sends_as phase answer is did was = absurd did
 
-    pub polls_send : (answer : Poll (Result (Unit {0}) (SendFault T))) → PollsSend old name waker answer new → Holds old → Sends answer
+    pub polls_send : (answer : Poll (Result (Unit {0}) (SendFault T))) → PollsSend old name waker answer new → Holds old →
+        Sends answer
     polls_send (Ready (Err (send_fault.Fault fault))) did was =
         (unchanged old new did.3 was, ap (λ (m : ChannelMachine T W). is_some (send_phase m name)) did.3 ∙ ap is_some did.1)
-    polls_send (Ready (Err (send_fault.Closed value))) did was = sends_as (send_phase old name) (Ready (Err (send_fault.Closed value))) refl did was
+    polls_send (Ready (Err (send_fault.Closed value))) did was =
+        sends_as (send_phase old name) (Ready (Err (send_fault.Closed value))) refl did was
     polls_send (Ready (Ok done)) did was = sends_as (send_phase old name) (Ready (Ok done)) refl did was
     polls_send Pending did was = sends_as (send_phase old name) Pending refl did was
 
@@ -734,21 +783,25 @@ module _ {T W : Type 0} where
     },
   )
     where
-      nobody_owns : (q : ℕ) → is_some (value_of (opened {T = T} {W = W} buffer) q) ≡ owns_value (send_phase (opened {T = T} {W = W} buffer) q)
+      nobody_owns : (q : ℕ) → is_some (value_of (opened {T = T} {W = W} buffer) q)
+          ≡ owns_value (send_phase (opened {T = T} {W = W} buffer) q)
       nobody_owns q = subst OwnedAt (sym (map.get-empty nat_cmp q)) refl
 
-  pub made_holds : (made : ChannelMachine T W) (buffer : Bounded T) → made ≡ opened buffer → buffer.items ≡ [] → Fits buffer → Holds made
+  pub made_holds : (made : ChannelMachine T W) (buffer : Bounded T) → made ≡ opened buffer → buffer.items ≡ [] →
+      Fits buffer → Holds made
   made_holds made buffer is empty fits = subst Holds (sym is) (opened_holds buffer empty fits)
 
   pub made_fits : (made : ChannelMachine T W) (buffer : Bounded T) → made ≡ opened buffer → Fits made.own.buffer → Fits buffer
   made_fits made buffer is fits = subst (λ (m : ChannelMachine T W). Fits m.own.buffer) is fits
 
   -- a send, or a receive, that was just made may be polled
-  pub send_pollable : (old new : ChannelMachine T W) (value : T) (name : ℕ) → MakesSend old value name new → can_send (send_phase new name) ≡ true
+  pub send_pollable : (old new : ChannelMachine T W) (value : T) (name : ℕ) → MakesSend old value name new →
+      can_send (send_phase new name) ≡ true
   send_pollable old new value name did = ap (λ (s : Side (Option T) W). can_send (phase_of s name)) did.1.0.1
       ∙ ap can_send (becomes-made old.waiting.sends name (Some value)).here
 
-  pub kind_made : (old new : ChannelMachine T W) (kind : ReceiveKind) (name : ℕ) → MakesReceive old kind name new → kind_of new name ≡ Some kind
+  pub kind_made : (old new : ChannelMachine T W) (kind : ReceiveKind) (name : ℕ) → MakesReceive old kind name new →
+      kind_of new name ≡ Some kind
   kind_made old new kind name did = ap (λ (s : Side ReceiveKind W). asks_of s name) did.1.0.1
       ∙ ap asks_in (get-insert_same old.waiting.receives.live name _)
 

@@ -1,5 +1,6 @@
 -- What the calls on the fields of a channel do to its sends and receives, as effects.
-use Rattle.std.specs.Prelude.{◌≡◌, ◌<◌, ◌≤◌, length, ℕ, Bool, true, false, is_some, Option, Some, None, Result, Ok, Err, List, ◌++◌, refl}
+use Rattle.std.specs.Prelude.{◌≡◌, ◌<◌, ◌≤◌, length, ℕ, Bool, true, false, is_some, Option, Some, None, Result, Ok, Err, List}
+use Rattle.std.specs.Prelude.{◌++◌, refl}
 use Rattle.std.proofs.Common.{sym, ◌∙◌, ap, subst, inl, inr}
 use Rattle.std.proofs.lemmas.Bool.{both_ways, cases_eq}
 use Rattle.std.specs.Cmp.{nat_cmp_total}
@@ -15,7 +16,8 @@ use Rattle.fi_parts.specs.declared.phase.Phase.TheVariants.{Fresh, Registered, T
 use Rattle.fi_parts.specs.Buffer.{Bounded, Fits, pushed}
 use Rattle.fi_parts.specs.NamedPairs.{without_by}
 use Rattle.fi_parts.specs.Oldest.{pop_oldest, pair_of_oldest}
-use Rattle.fi_parts.specs.Waiting.{Side, phase_of, phase_in, asks_of, asks_in, is_registered, may_be_named, with_phase, with_asks, exchange, ended, registered, forgotten, IsLive, IsOrdered}
+use Rattle.fi_parts.specs.Waiting.{Side, phase_of, phase_in, asks_of, asks_in, is_registered, may_be_named, with_phase}
+use Rattle.fi_parts.specs.Waiting.{with_asks, exchange, ended, registered, forgotten, IsLive, IsOrdered}
 use Rattle.fi_parts.proofs.Waiting.{get-with_phase, get-with_phase_other, lives_as, becomes-with_phase, asks-with_phase}
 use Rattle.fi_parts.proofs.Oldest.{get-with_asks, get-with_asks_other, phase-with_asks}
 use Rattle.fi_parts.proofs.PairsWithin.{none_some, some_same}
@@ -25,9 +27,11 @@ use Rattle.fi_channels.specs.declared.channel_fields.ReceiveKind.{ReceiveKind}
 use Rattle.fi_channels.specs.declared.channel_fields.ReceiveKind.TheVariants.{Single, Stream}
 use Rattle.fi_channels.specs.declared.two_sides.Waiter.{Waiter}
 use Rattle.fi_channels.specs.declared.two_sides.Waiter.TheVariants.{Send, Receive}
-use Rattle.fi_channels.specs.Channel.{ChannelMachine, Buffered, IsSound, owns_value, is_send_phase, is_receive_phase, has_room, Stores}
+use Rattle.fi_channels.specs.Channel.{ChannelMachine, Buffered, IsSound, owns_value, is_send_phase, is_receive_phase}
+use Rattle.fi_channels.specs.Channel.{has_room, Stores}
 use Rattle.fi_channels.specs.Channel.{can_take, is_given, finishes, tells_oldest, completes_oldest, next_of}
-use Rattle.fi_channels.specs.Channel.{SendsAs, FreshSends, PollsReceive, ReceivesAs, TakesNext, CancelsReceive, CancelsReceiveAs, Closes, ClosesAt}
+use Rattle.fi_channels.specs.Channel.{SendsAs, FreshSends, PollsReceive, ReceivesAs, TakesNext, CancelsReceive}
+use Rattle.fi_channels.specs.Channel.{CancelsReceiveAs, Closes, ClosesAt}
 use Rattle.fi_channels.specs.ChannelFields.{Waiters, machine, phase_given, Takes, TakesAt}
 use Rattle.fi_channels.specs.TwoSidedEffects.{TakesOn, TakesTwoSided}
 use Rattle.fi_channels.specs.TwoSidedEffects.TwoSidedEffect.{OnSends}
@@ -47,7 +51,8 @@ module _ {D W : Type 0} where
       each (Some future) e = (future, refl)
 
   -- The phase and what a future asks for may be set in either order.
-  phase_then_asks : (live : map.FinMap nat_cmp (Future D W)) (n : ℕ) (d : D) (p : Phase W) (f : Future D W) → map.get live n ≡ Some f →
+  phase_then_asks : (live : map.FinMap nat_cmp (Future D W)) (n : ℕ) (d : D) (p : Phase W) (f : Future D W) →
+      map.get live n ≡ Some f →
       with_phase (with_asks live n d) n p ≡ with_asks (with_phase live n p) n d
   phase_then_asks live n d p f is = map.same_map nat_cmp_total map.nat_cmp-IsAntisymmetric _ _ (λ q. elim (cases_eq q n) [
     | inl same ↦ rw same (get-with_phase (with_asks live n d) n p (record f { asks = d }) (get-with_asks live n d f is)
@@ -60,11 +65,13 @@ module _ {D W : Type 0} where
   asks_back : (live : map.FinMap nat_cmp (Future D W)) (n : ℕ) (d : D) (f : Future D W) → map.get live n ≡ Some f →
       with_asks (with_asks live n d) n f.asks ≡ live
   asks_back live n d f is = map.same_map nat_cmp_total map.nat_cmp-IsAntisymmetric _ _ (λ q. elim (cases_eq q n) [
-    | inl same ↦ rw same (get-with_asks (with_asks live n d) n f.asks (record f { asks = d }) (get-with_asks live n d f is) ∙ sym is)
+    | inl same ↦ rw same (get-with_asks (with_asks live n d) n f.asks (record f { asks = d }) (get-with_asks live n d f is)
+        ∙ sym is)
     | inr ne ↦ get-with_asks_other (with_asks live n d) n f.asks q ne ∙ get-with_asks_other live n d q ne
   ])
 
-some_value : {T : Type 0} (asks : Option (Option T)) → is_some (option_flatten asks) ≡ true → (value : T) × (asks ≡ Some (Some value))
+some_value : {T : Type 0} (asks : Option (Option T)) → is_some (option_flatten asks) ≡ true →
+    (value : T) × (asks ≡ Some (Some value))
 some_value None is = absurd (both_ways false refl is)
 some_value (Some None) is = absurd (both_ways false refl is)
 some_value (Some (Some value)) is = (value, refl)
@@ -97,16 +104,21 @@ module _ {T W : Type 0} where
       ((ap (λ (v : Waiters T W). v.receives) now, ap (λ (v : Waiters T W). v.out) now), ap (λ (v : Waiters T W). v.sends) now)
 
   -- who lives still does without a pair
-  pub unpaired_lives : (one two : Waiters T W) (name : ℕ) (out : List (Waiter × W)) → two ≡ record one { out = out } → IsLive one.sends name →
+  pub unpaired_lives : (one two : Waiters T W) (name : ℕ) (out : List (Waiter × W)) → two ≡ record one { out = out } →
+      IsLive one.sends name →
       IsLive two.sends name
   unpaired_lives one two name out is lives = subst (λ (v : Waiters T W). IsLive v.sends name) (sym is) lives
 
   -- the phase that a receive has which was given an item
-  pub given_phase : (taken new : Waiters T W) (name : ℕ) (kind : Option ReceiveKind) (phase : Phase W) → phase ≡ phase_given kind →
+  pub given_phase : (taken new : Waiters T W) (name : ℕ) (kind : Option ReceiveKind) (phase : Phase W) →
+      phase ≡ phase_given kind →
       kind ≡ asks_of taken.receives name →
       new ≡ record taken { receives = record taken.receives { live = with_phase taken.receives.live name phase } } →
       new ≡ record taken {
-        receives = record taken.receives { live = with_phase taken.receives.live name (phase_given (asks_of taken.receives name)) };
+        receives = record taken.receives {
+          live = with_phase taken.receives.live name (phase_given
+              (asks_of taken.receives name));
+        };
       }
   given_phase taken new name kind phase is asks now =
       now ∙ ap (λ (p : Phase W). let after : Waiters T W = record taken {
@@ -147,7 +159,11 @@ module _ {T W : Type 0} (buffer : Bounded T) (waiters : Waiters T W) (is_open : 
         (
           mid,
           (
-            (lives_as waiters.receives name Told was, ap (λ (v : Waiters T W). v.receives) is, ap (λ (v : Waiters T W). v.out) is),
+            (
+              lives_as waiters.receives name Told was,
+              ap (λ (v : Waiters T W). v.receives) is,
+              ap (λ (v : Waiters T W). v.out) is,
+            ),
             ap (λ (v : Waiters T W). v.sends) is,
           ),
           tells mid new now,
@@ -157,7 +173,9 @@ module _ {T W : Type 0} (buffer : Bounded T) (waiters : Waiters T W) (is_open : 
   -- A receive was given an item.
   abbrev given : Waiters T W
   given = record no_receive_pair {
-    receives = record waiters.receives { live = with_phase waiters.receives.live name (phase_given (asks_of waiters.receives name)) };
+    receives = record waiters.receives {
+      live = with_phase waiters.receives.live name (phase_given (asks_of waiters.receives name));
+    };
   }
 
   given_by : (kind : Option ReceiveKind) → may_be_named (phase_of waiters.receives name) ≡ true →
@@ -171,7 +189,10 @@ module _ {T W : Type 0} (buffer : Bounded T) (waiters : Waiters T W) (is_open : 
       (next : Option (T × Bounded T)) (value : T) (left : Bounded T) (taken new : Waiters T W) →
       TakesAt next buffer no_receive_pair (Some value) left taken →
       new ≡ record taken {
-        receives = record taken.receives { live = with_phase taken.receives.live name (phase_given (asks_of taken.receives name)) };
+        receives = record taken.receives {
+          live = with_phase taken.receives.live name (phase_given
+              (asks_of taken.receives name));
+        };
       } → TakesNext next is_open Old name waker (Ready (Some value)) (machine left new is_open)
   takes_given waker sound may None value left taken new took now = absurd (none_some value (sym took.0))
   takes_given waker sound may (Some next) value left taken new took now = (
@@ -184,8 +205,11 @@ module _ {T W : Type 0} (buffer : Bounded T) (waiters : Waiters T W) (is_open : 
         subst (λ (v : Waiters T W). TakesTwoSided (completes_oldest Old) given v)
             (sym (now ∙ ap (λ (v : Waiters T W). let after : Waiters T W = record v {
               receives = record v.receives { live = with_phase v.receives.live name (phase_given (asks_of v.receives name)) };
-            } in after) took.2))
-            (oldest_completes Send same_waiter is_send_phase None waiters.sends (sends_in waiters.out) given.out sound.waiters.sends, refl),
+            } in after) took.2)) (
+              oldest_completes Send same_waiter is_send_phase None waiters.sends
+                  (sends_in waiters.out) given.out sound.waiters.sends,
+              refl,
+            ),
       ),
     ),
   )
@@ -209,10 +233,14 @@ module _ {T W : Type 0} (buffer : Bounded T) (waiters : Waiters T W) (is_open : 
   may_take (Some Ended) can off = absurd (both_ways false refl can)
 
   pub received : (waker : W) → IsSound Old → can_take (phase_of waiters.receives name) ≡ true →
-      is_registered (phase_of waiters.receives name) ≡ false → (value : T) (left : Bounded T) (mid taken new : Waiters T W) (flag : Bool) →
+      is_registered (phase_of waiters.receives name) ≡ false →
+      (value : T) (left : Bounded T) (mid taken new : Waiters T W) (flag : Bool) →
       mid ≡ no_receive_pair → Takes buffer mid (Some value) left taken → flag ≡ is_open →
       new ≡ record taken {
-        receives = record taken.receives { live = with_phase taken.receives.live name (phase_given (asks_of taken.receives name)) };
+        receives = record taken.receives {
+          live = with_phase taken.receives.live name (phase_given
+              (asks_of taken.receives name));
+        };
       } → PollsReceive Old name waker (Ready (Some value)) (machine left new flag)
   received waker sound can off value left mid taken new flag is took same now =
       subst (λ (f : Bool). PollsReceive Old name waker (Ready (Some value)) (machine left new f)) (sym same)
@@ -222,12 +250,16 @@ module _ {T W : Type 0} (buffer : Bounded T) (waiters : Waiters T W) (is_open : 
 
   -- A fresh send.
   fresh_sends : (waker : W) (value : T) (open_now room : Bool) → phase_of waiters.sends name ≡ Some Fresh →
-      asks_of waiters.sends name ≡ Some (Some value) → is_open ≡ open_now → has_room Old.own ≡ room → (answer : Sent T) (new : ChannelMachine T W) →
-      FreshSends open_now room (Some value) Old name waker answer new → SendsAs (phase_of waiters.sends name) Old name waker answer new
+      asks_of waiters.sends name ≡ Some (Some value) → is_open ≡ open_now → has_room Old.own ≡ room →
+      (answer : Sent T) (new : ChannelMachine T W) →
+      FreshSends open_now room (Some value) Old name waker answer new →
+      SendsAs (phase_of waiters.sends name) Old name waker answer new
   fresh_sends waker value open_now room fresh asks flag has answer new did =
       subst (λ (p : Option (Phase W)). SendsAs p Old name waker answer new) (sym fresh)
-      (subst (λ (f : Bool). FreshSends f (has_room Old.own) (option_flatten (asks_of waiters.sends name)) Old name waker answer new) (sym flag)
-      (subst (λ (r : Bool). FreshSends open_now r (option_flatten (asks_of waiters.sends name)) Old name waker answer new) (sym has)
+      (subst (λ (f : Bool). FreshSends f (has_room Old.own) (option_flatten
+      (asks_of waiters.sends name)) Old name waker answer new) (sym flag)
+      (subst (λ (r : Bool). FreshSends open_now r (option_flatten (asks_of waiters.sends name)) Old name waker answer new)
+      (sym has)
       (subst (λ (o : Option (Option T)). FreshSends open_now room (option_flatten o) Old name waker answer new) (sym asks) did)))
 
   -- Its value left it, and it ended.
@@ -237,12 +269,14 @@ module _ {T W : Type 0} (buffer : Bounded T) (waiters : Waiters T W) (is_open : 
   pub lives_exchanged : phase_of waiters.sends name ≡ Some Fresh → (mid : Waiters T W) (out : List (Waiter × W)) →
       mid ≡ record exchanged { out = out } → IsLive mid.sends name
   lives_exchanged fresh mid out is =
-      lives_as mid.sends name Fresh (ap (λ (v : Waiters T W). phase_of v.sends name) is ∙ phase-with_asks waiters.sends.live name None name ∙ fresh)
+      lives_as mid.sends name Fresh (ap (λ (v : Waiters T W). phase_of v.sends name) is
+      ∙ phase-with_asks waiters.sends.live name None name ∙ fresh)
 
   abbrev finished : Waiters T W
   finished = record no_send_pair { sends = exchange (ended waiters.sends name) name None }
 
-  finishes_send : phase_of waiters.sends name ≡ Some Fresh → (mid : Waiters T W) → mid ≡ finished → TakesTwoSided (OnSends (finishes name)) waiters mid
+  finishes_send : phase_of waiters.sends name ≡ Some Fresh → (mid : Waiters T W) → mid ≡ finished →
+      TakesTwoSided (OnSends (finishes name)) waiters mid
   finishes_send fresh mid is =
       let live : IsLive waiters.sends name = lives_as waiters.sends name Fresh fresh in
       let becomes = becomes-with_phase waiters.sends name Ended waiters.sends.queue live in (
@@ -250,7 +284,11 @@ module _ {T W : Type 0} (buffer : Bounded T) (waiters : Waiters T W) (is_open : 
           ended waiters.sends name,
           no_send_pair.out,
           (ap may_be_named fresh, refl, refl),
-          (lives_as (ended waiters.sends name) name Ended becomes.here, ap (λ (v : Waiters T W). v.sends) is, ap (λ (v : Waiters T W). v.out) is),
+          (
+            lives_as (ended waiters.sends name) name Ended becomes.here,
+            ap (λ (v : Waiters T W). v.sends) is,
+            ap (λ (v : Waiters T W). v.out) is,
+          ),
         ),
         ap (λ (v : Waiters T W). v.receives) is,
       )
@@ -272,11 +310,14 @@ module _ {T W : Type 0} (buffer : Bounded T) (waiters : Waiters T W) (is_open : 
       (phase ∙ ap (λ (v : Waiters T W). let after : Waiters T W = record v { sends = ended v.sends name } in after) out)
       ∙ asks-with_phase waiters.sends.live name Ended name) ∙ is
 
-  pub fresh_asks : IsSound Old → phase_of waiters.sends name ≡ Some Fresh → (asks : Option T) → asks_of waiters.sends name ≡ Some asks →
+  pub fresh_asks : IsSound Old → phase_of waiters.sends name ≡ Some Fresh → (asks : Option T) →
+      asks_of waiters.sends name ≡ Some asks →
       is_some asks ≡ true
-  fresh_asks sound fresh asks is = sym (ap (λ (o : Option (Option T)). is_some (option_flatten o)) is) ∙ sound.owned name ∙ ap owns_value fresh
+  fresh_asks sound fresh asks is = sym (ap (λ (o : Option (Option T)). is_some (option_flatten o)) is) ∙ sound.owned name
+      ∙ ap owns_value fresh
 
-  pub fresh_value : IsSound Old → phase_of waiters.sends name ≡ Some Fresh → (value : T) × (asks_of waiters.sends name ≡ Some (Some value))
+  pub fresh_value : IsSound Old → phase_of waiters.sends name ≡ Some Fresh →
+      (value : T) × (asks_of waiters.sends name ≡ Some (Some value))
   fresh_value sound fresh = some_value (asks_of waiters.sends name) (sound.owned name ∙ ap owns_value fresh)
 
   -- It was ended before its value left it, or after.
@@ -293,31 +334,41 @@ module _ {T W : Type 0} (buffer : Bounded T) (waiters : Waiters T W) (is_open : 
   exchanged_then fresh one two three asks out phase =
       let f = future_there waiters.sends name Fresh fresh in
       phase ∙ ap (λ (v : Waiters T W). let after : Waiters T W = record v { sends = ended v.sends name } in after)
-      (out ∙ ap (λ (v : Waiters T W). let after : Waiters T W = record v { out = without_by same_waiter (Send name) v.out } in after) asks)
+      (out ∙ ap (λ (v : Waiters T W). let after : Waiters T W = record v {
+        out = without_by same_waiter (Send name) v.out;
+      } in after) asks)
       ∙ ap (λ (live : map.FinMap nat_cmp (Future (Option T) W)). let after : Waiters T W = record no_send_pair {
         sends = record waiters.sends { live = live };
       } in after) (phase_then_asks waiters.sends.live name None Ended f.0 f.1)
 
   pub put_back : (value : T) → phase_of waiters.sends name ≡ Some Fresh → asks_of waiters.sends name ≡ Some (Some value) →
-      (one two : Waiters T W) → one ≡ exchanged → two ≡ record one { sends = exchange one.sends name (Some value) } → two ≡ waiters
+      (one two : Waiters T W) → one ≡ exchanged → two ≡ record one { sends = exchange one.sends name (Some value) } →
+      two ≡ waiters
   put_back value fresh asks one two took put =
       let f = future_there waiters.sends name Fresh fresh in
       let same : f.0.asks ≡ Some value = some_same f.0.asks (Some value) (ap asks_in (sym f.1) ∙ asks) in
-      put ∙ ap (λ (v : Waiters T W). let after : Waiters T W = record v { sends = exchange v.sends name (Some value) } in after) took
+      put ∙ ap (λ (v : Waiters T W). let after : Waiters T W = record v {
+        sends = exchange v.sends name (Some value);
+      } in after) took
       ∙ ap (λ (live : map.FinMap nat_cmp (Future (Option T) W)). let after : Waiters T W = record waiters {
         sends = record waiters.sends { live = live };
       } in after)
-      (ap (λ (d : Option T). with_asks (with_asks waiters.sends.live name None) name d) (sym same) ∙ asks_back waiters.sends.live name None f.0 f.1)
+      (ap (λ (d : Option T). with_asks (with_asks waiters.sends.live name None) name d) (sym same)
+      ∙ asks_back waiters.sends.live name None f.0 f.1)
 
-  pub closed_sends : (waker : W) (value : T) → phase_of waiters.sends name ≡ Some Fresh → asks_of waiters.sends name ≡ Some (Some value) →
+  pub closed_sends : (waker : W) (value : T) → phase_of waiters.sends name ≡ Some Fresh →
+      asks_of waiters.sends name ≡ Some (Some value) →
       is_open ≡ false → (new : Waiters T W) → new ≡ finished →
       SendsAs (phase_of waiters.sends name) Old name waker (Ready (Err (send_fault.Closed value))) (machine buffer new is_open)
   closed_sends waker value fresh asks flag new is =
-      fresh_sends waker value false (has_room Old.own) fresh asks flag refl (Ready (Err (send_fault.Closed value))) (machine buffer new is_open)
+      fresh_sends waker value false (has_room Old.own) fresh asks flag refl (Ready (Err (send_fault.Closed value)))
+      (machine buffer new is_open)
       (refl, (refl, finishes_send fresh new is))
 
-  pub room_sends : (waker : W) (value : T) → phase_of waiters.sends name ≡ Some Fresh → asks_of waiters.sends name ≡ Some (Some value) →
-      is_open ≡ true → has_room Old.own ≡ true → (left : Bounded T) → Stores Old.own value (record { is_open = is_open; buffer = left }) →
+  pub room_sends : (waker : W) (value : T) → phase_of waiters.sends name ≡ Some Fresh →
+      asks_of waiters.sends name ≡ Some (Some value) →
+      is_open ≡ true → has_room Old.own ≡ true → (left : Bounded T) →
+      Stores Old.own value (record { is_open = is_open; buffer = left }) →
       (mid new : Waiters T W) → mid ≡ finished → new ≡ told mid →
       SendsAs (phase_of waiters.sends name) Old name waker (Ready (Ok tt)) (machine left new is_open)
   room_sends waker value fresh asks flag has left stored mid new is now =
@@ -328,12 +379,14 @@ module _ {T W : Type 0} (buffer : Bounded T) (waiters : Waiters T W) (is_open : 
   abbrev waits_on : W → Waiters T W
   waits_on waker = record no_send_pair { sends = registered waiters.sends name waker }
 
-  pub waits_then : (waker : W) (one two : Waiters T W) → one ≡ no_send_pair → two ≡ record one { sends = registered one.sends name waker } →
+  pub waits_then : (waker : W) (one two : Waiters T W) → one ≡ no_send_pair →
+      two ≡ record one { sends = registered one.sends name waker } →
       two ≡ waits_on waker
   waits_then waker one two out now =
       now ∙ ap (λ (v : Waiters T W). let after : Waiters T W = record v { sends = registered v.sends name waker } in after) out
 
-  pub full_sends : (waker : W) (value : T) → phase_of waiters.sends name ≡ Some Fresh → asks_of waiters.sends name ≡ Some (Some value) →
+  pub full_sends : (waker : W) (value : T) → phase_of waiters.sends name ≡ Some Fresh →
+      asks_of waiters.sends name ≡ Some (Some value) →
       is_open ≡ true → has_room Old.own ≡ false → (mid new : Waiters T W) → mid ≡ waits_on waker → new ≡ told mid →
       SendsAs (phase_of waiters.sends name) Old name waker Pending (machine buffer new is_open)
   full_sends waker value fresh asks flag has mid new is now =
@@ -353,10 +406,12 @@ module _ {T W : Type 0} (buffer : Bounded T) (waiters : Waiters T W) (is_open : 
       )
 
   -- The receives stay in order where a send changes.
-  pub ordered_beside : IsSound Old → (sends : Side (Option T) W) (mid : Waiters T W) → mid ≡ record no_send_pair { sends = sends } →
+  pub ordered_beside : IsSound Old → (sends : Side (Option T) W) (mid : Waiters T W) →
+      mid ≡ record no_send_pair { sends = sends } →
       IsOrdered mid.receives (receives_in mid.out)
   ordered_beside sound sends mid is = subst (λ (v : Waiters T W). IsOrdered v.receives (receives_in v.out)) (sym is)
-      (subst (λ (ps : List (ℕ × W)). IsOrdered waiters.receives ps) (sym (receives-without_send name waiters.out)) sound.waiters.receives.ordered)
+      (subst (λ (ps : List (ℕ × W)). IsOrdered waiters.receives ps) (sym
+      (receives-without_send name waiters.out)) sound.waiters.receives.ordered)
 
 module _ {T W : Type 0} (buffer : Bounded T) (waiters : Waiters T W) (is_open : Bool) where
   pub ordered_notified : IsSound (machine buffer waiters is_open) → (mid : Waiters T W) → mid ≡ notify_receives Fresh waiters →
@@ -374,7 +429,10 @@ module _ {T W : Type 0} (buffer : Bounded T) (waiters : Waiters T W) (is_open : 
           (
             mid,
             ((ap (λ (v : Waiters T W). v.receives) is, ap (λ (v : Waiters T W). v.out) is), ap (λ (v : Waiters T W). v.sends) is),
-            ((ap (λ (v : Waiters T W). v.sends) now, ap (λ (v : Waiters T W). v.out) now), ap (λ (v : Waiters T W). v.receives) now),
+            (
+              (ap (λ (v : Waiters T W). v.sends) now, ap (λ (v : Waiters T W). v.out) now),
+              ap (λ (v : Waiters T W). v.receives) now,
+            ),
           ),
         ),
       )

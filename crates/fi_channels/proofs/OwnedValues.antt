@@ -7,11 +7,13 @@ use Rattle.fi_parts.specs.declared.phase.Future.{Future}
 use Rattle.fi_parts.specs.declared.phase.Phase.{Phase}
 use Rattle.fi_parts.specs.declared.phase.Phase.TheVariants.{Fresh, Registered, Told, Complete, Ended}
 use Rattle.fi_parts.specs.Oldest.{complete_first, complete_oldest}
-use Rattle.fi_parts.specs.Waiting.{Side, phase_of, phase_in, asks_in, made, with_phase, with_asks, exchange, ended, forgotten, emptied, IsOrdered}
+use Rattle.fi_parts.specs.Waiting.{Side, phase_of, phase_in, asks_in, made, with_phase, with_asks, exchange, ended, forgotten}
+use Rattle.fi_parts.specs.Waiting.{emptied, IsOrdered}
 use Rattle.fi_parts.proofs.FiniteMaps.{get-insert_same, get-insert_other, get-remove_same, get-remove_other}
 use Rattle.fi_parts.proofs.Effects.{registered_as}
 use Rattle.fi_parts.proofs.Oldest.{get-with_asks, get-with_asks_other}
-use Rattle.fi_parts.proofs.Waiting.{noticed_phase, get-with_phase, get-with_phase_other, phase-with_phase, asks-with_phase, asks-with_phases, phase-emptied, lives_as, first_registered}
+use Rattle.fi_parts.proofs.Waiting.{noticed_phase, get-with_phase, get-with_phase_other, phase-with_phase, asks-with_phase}
+use Rattle.fi_parts.proofs.Waiting.{asks-with_phases, phase-emptied, lives_as, first_registered}
 use Rattle.fi_channels.specs.Channel.{owns_value}
 use Rattle.fi_channels.proofs.ChannelSteps.{future_there}
 
@@ -43,10 +45,15 @@ module _ {T W : Type 0} where
       (subst OwnedAt (sym (get-insert_same sends.live n _)) refl) was
 
   -- another phase, which owns its value just as the one before
-  pub owned-with_phase : (sends : Side (Option T) W) (n : ℕ) (before phase : Phase W) (queue : List ℕ) → phase_of sends n ≡ Some before →
-      owns_value (Some phase) ≡ owns_value (Some before) → Owned sends → Owned (record { live = with_phase sends.live n phase; queue = queue })
+  pub owned-with_phase : (sends : Side (Option T) W) (n : ℕ) (before phase : Phase W) (queue : List ℕ) →
+      phase_of sends n ≡ Some before →
+      owns_value (Some phase) ≡ owns_value (Some before) → Owned sends →
+      Owned (record { live = with_phase sends.live n phase; queue = queue })
   owned-with_phase sends n before phase queue stood same was =
-      owned_one sends (record { live = with_phase sends.live n phase; queue = queue }) n (λ q ne. get-with_phase_other sends.live n phase q ne)
+      owned_one sends (record {
+        live = with_phase sends.live n phase;
+        queue = queue;
+      }) n (λ q ne. get-with_phase_other sends.live n phase q ne)
       (ap (λ asks. is_some (option_flatten asks)) (asks-with_phase sends.live n phase n) ∙ was n ∙ ap owns_value stood ∙ sym same
       ∙ sym (ap owns_value (phase-with_phase sends.live n phase (lives_as sends n before stood)))) was
 
@@ -65,12 +72,14 @@ module _ {T W : Type 0} where
       (subst OwnedAt (sym (get-remove_same sends.live n)) refl) was
 
   -- all that waited are fresh
-  pub owned-emptied : (sends : Side (Option T) W) (out : List (ℕ × W)) → IsOrdered sends out → Owned sends → Owned (emptied Fresh sends)
+  pub owned-emptied : (sends : Side (Option T) W) (out : List (ℕ × W)) → IsOrdered sends out → Owned sends →
+      Owned (emptied Fresh sends)
   owned-emptied sends out ordered was q =
       ap (λ asks. is_some (option_flatten asks)) (asks-with_phases Fresh sends.queue sends.live q) ∙ was q
       ∙ still_owns (phase_of sends q) ∙ sym (ap owns_value (phase-emptied Fresh sends out q ordered))
 
-  completed_first : (sends : Side (Option T) W) (out : List (ℕ × W)) (queue : List ℕ) → IsOrdered sends out → sends.queue ≡ queue →
+  completed_first : (sends : Side (Option T) W) (out : List (ℕ × W)) (queue : List ℕ) → IsOrdered sends out →
+      sends.queue ≡ queue →
       Owned sends → Owned (complete_first None sends queue)
   completed_first sends out [] ordered is was = was
   completed_first sends out (n ∷ others) ordered is was =

@@ -1,5 +1,6 @@
 -- How many receives are told, and that they stay enough.
-use Rattle.std.proofs.Common.{◌≡◌, ◌≢◌, ◌≤◌, ℕ, zero, suc, Bool, true, false, not, eqb, ◌||◌, cond, List, [], ◌∷◌, Option, Some, None, length, refl, sym, ap, ◌∙◌, inl, inr, arith}
+use Rattle.std.proofs.Common.{◌≡◌, ◌≢◌, ◌≤◌, ℕ, zero, suc, Bool, true, false, not, eqb, ◌||◌, cond, List, [], ◌∷◌, Option}
+use Rattle.std.proofs.Common.{Some, None, length, refl, sym, ap, ◌∙◌, inl, inr, arith}
 use Rattle.std.proofs.lemmas.Bool.{cases_eq, both_ways, eqb-true, ne_eqb}
 use Rattle.fi_parts.specs.declared.phase.Phase.{Phase}
 use Rattle.fi_parts.specs.declared.phase.Phase.TheVariants.{Told}
@@ -17,7 +18,8 @@ length-without : (x : ℕ) (xs : List ℕ) → Apart xs → length xs ≤ suc (l
 length-without x [] a = omega arith
 length-without x (y ∷ ys) a = each (length-without x ys a.1) (eqb x y) refl
   where
-    each : length ys ≤ suc (length (without x ys)) → (b : Bool) → eqb x y ≡ b → suc (length ys) ≤ suc (length (cond (not b) (y ∷ without x ys) (without x ys)))
+    each : length ys ≤ suc (length (without x ys)) → (b : Bool) → eqb x y ≡ b →
+        suc (length ys) ≤ suc (length (cond (not b) (y ∷ without x ys) (without x ys)))
     each rest true e =
         let same : x ≡ y = eqb-true x y e in
         let off : holds x ys ≡ false = ap (λ n. holds n ys) same ∙ a.0 in
@@ -33,10 +35,16 @@ module _ {W : Type 0} where
   none_told receives = record { names = []; apart = tt; told = λ name at. absurd (both_ways false refl at); many = omega arith }
 
   pub fewer_told : (receives : Side ReceiveKind W) (m n : ℕ) → m ≤ n → AreTold receives n → AreTold receives m
-  fewer_told receives m n less was = let many = was.many in record { names = was.names; apart = was.apart; told = was.told; many = omega (arith, less, many) }
+  fewer_told receives m n less was = let many = was.many in record {
+    names = was.names;
+    apart = was.apart;
+    told = was.told;
+    many = omega (arith, less, many);
+  }
 
   -- the others stand as before
-  pub told_but : (old new : Side ReceiveKind W) (name n : ℕ) → ((q : ℕ) → q ≢ name → phase_of new q ≡ phase_of old q) → AreTold old (suc n) → AreTold new n
+  pub told_but : (old new : Side ReceiveKind W) (name n : ℕ) → ((q : ℕ) → q ≢ name → phase_of new q ≡ phase_of old q) →
+      AreTold old (suc n) → AreTold new n
   told_but old new name n others was =
       let many = was.many in
       let left = length-without name was.names was.apart in
@@ -44,14 +52,16 @@ module _ {W : Type 0} where
         names = without name was.names;
         apart = Apart-without_one name was.names was.apart;
         told = λ q at. elim (cases_eq q name) [
-          | inl same ↦ absurd (both_ways _ (holds-without_same name was.names) (ap (λ k. holds k (without name was.names)) (sym same) ∙ at))
+          | inl same ↦ absurd (both_ways _ (holds-without_same name was.names) (ap (λ k. holds k (without name was.names))
+              (sym same) ∙ at))
           | inr ne ↦ others q ne ∙ was.told q (holds-without q name was.names at)
         ];
         many = omega (arith, many, left);
       }
 
   -- one that was not told is told
-  told_more : (old new : Side ReceiveKind W) (name n : ℕ) → Becomes old new name (Some Told) → (phase_of old name ≡ Some Told → ⊥) → AreTold old n → AreTold new (suc n)
+  told_more : (old new : Side ReceiveKind W) (name n : ℕ) → Becomes old new name (Some Told) →
+      (phase_of old name ≡ Some Told → ⊥) → AreTold old n → AreTold new (suc n)
   told_more old new name n becomes apart was =
       let many = was.many in
       record {
@@ -75,27 +85,38 @@ module _ {W : Type 0} where
   pub enough_fewer : (receives : Side ReceiveKind W) (m n : ℕ) → m ≤ n → Enough receives n → Enough receives m
   enough_fewer receives m n less was name is = fewer_told receives m n less (was name is)
 
-  pub enough_but : (old new : Side ReceiveKind W) (name n : ℕ) (phase : Option (Phase W)) → Becomes old new name phase → is_registered phase ≡ false → Enough old (suc n) → Enough new n
+  pub enough_but : (old new : Side ReceiveKind W) (name n : ℕ) (phase : Option (Phase W)) → Becomes old new name phase →
+      is_registered phase ≡ false → Enough old (suc n) → Enough new n
   enough_but old new name n phase becomes apart was q is = told_but old new name n becomes.others (was q (elim (cases_eq q name) [
-    | inl same ↦ absurd (both_ways _ apart (ap is_registered (sym becomes.here) ∙ ap (λ k. is_registered (phase_of new k)) (sym same) ∙ is))
+    | inl same ↦ absurd (both_ways _ apart (ap is_registered (sym becomes.here)
+        ∙ ap (λ k. is_registered (phase_of new k)) (sym same) ∙ is))
     | inr ne ↦ ap is_registered (sym (becomes.others q ne)) ∙ is
   ]))
 
-  first_told : (receives : Side ReceiveKind W) (out : List (ℕ × W)) (n : ℕ) (queue : List ℕ) → AreSound is_receive_phase receives out → receives.queue ≡ queue → Enough receives n → Enough (pop_first Told receives queue) (suc n)
-  first_told receives out n [] sound queue was name is = absurd (none_registered is_receive_phase receives out sound queue name is)
+  first_told : (receives : Side ReceiveKind W) (out : List (ℕ × W)) (n : ℕ) (queue : List ℕ) →
+      AreSound is_receive_phase receives out → receives.queue ≡ queue → Enough receives n →
+      Enough (pop_first Told receives queue) (suc n)
+  first_told receives out n [] sound queue was name is =
+      absurd (none_registered is_receive_phase receives out sound queue name is)
   first_told receives out n (first ∷ others) sound queue was name is =
       let waits = first_registered receives out first others sound.ordered queue in
       let becomes = becomes-with_phase receives first Told others (live_if_registered receives first waits) in
-      told_more receives (noticed Told receives first others) first n becomes (λ e. told_or_registered (phase_of receives first) e waits) (was first waits)
+      told_more receives (noticed Told receives first others) first n becomes (λ e. told_or_registered
+      (phase_of receives first) e waits) (was first waits)
 
   -- the oldest was told
-  pub oldest_enough : (receives : Side ReceiveKind W) (out : List (ℕ × W)) (n : ℕ) → AreSound is_receive_phase receives out → Enough receives n → Enough (pop_oldest Told receives) (suc n)
+  pub oldest_enough : (receives : Side ReceiveKind W) (out : List (ℕ × W)) (n : ℕ) → AreSound is_receive_phase receives out →
+      Enough receives n → Enough (pop_oldest Told receives) (suc n)
   oldest_enough receives out n sound was = first_told receives out n receives.queue sound refl was
 
   -- a told one passed its notice on
-  pub passed_on : (receives : Side ReceiveKind W) (out : List (ℕ × W)) (name n : ℕ) → AreSound is_receive_phase (forgotten receives name) out → Enough receives n → Enough (pop_oldest Told (forgotten receives name)) n
+  pub passed_on : (receives : Side ReceiveKind W) (out : List (ℕ × W)) (name n : ℕ) →
+      AreSound is_receive_phase (forgotten receives name) out → Enough receives n →
+      Enough (pop_oldest Told (forgotten receives name)) n
   passed_on receives out name zero sound was = λ q is. none_told (pop_oldest Told (forgotten receives name))
-  passed_on receives out name (suc n) sound was = oldest_enough (forgotten receives name) out n sound (enough_but receives (forgotten receives name) name n None (becomes-forgotten receives name) refl was)
+  passed_on receives out name (suc n) sound was =
+      oldest_enough (forgotten receives name) out n sound (enough_but receives (forgotten receives name) name n None
+      (becomes-forgotten receives name) refl was)
 
   -- one that was not told changed, and is told no less
   pub enough_beside : (old new : Side ReceiveKind W) (name n : ℕ) → ((q : ℕ) → q ≢ name → phase_of new q ≡ phase_of old q) →

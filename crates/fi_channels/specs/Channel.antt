@@ -13,7 +13,8 @@ use Rattle.fi_parts.specs.declared.phase.Phase.{Phase}
 use Rattle.fi_parts.specs.declared.phase.Phase.TheVariants.{Fresh, Registered, Told, Complete, Ended}
 use Rattle.fi_parts.specs.Buffer.{Bounded, bounded_code, Fits, pushed, popped}
 use Rattle.fi_parts.specs.Effects.{WaiterEffect, completes_first}
-use Rattle.fi_parts.specs.Effects.WaiterEffect.{Inserts, Registers, KeepsWaiting, Ends, Renews, Asks, Removes, NotifiesOldest, NotifiesAll, AndThen}
+use Rattle.fi_parts.specs.Effects.WaiterEffect.{Inserts, Registers, KeepsWaiting, Ends, Renews, Asks, Removes, NotifiesOldest}
+use Rattle.fi_parts.specs.Effects.WaiterEffect.{NotifiesAll, AndThen}
 use Rattle.fi_parts.specs.Machine.{AllowsBasics}
 use Rattle.fi_parts.specs.NamedPairs.{waker_by}
 use Rattle.fi_parts.specs.Oldest.{asks_of_oldest}
@@ -30,7 +31,8 @@ use Rattle.fi_channels.specs.declared.channel_fields.ReceiveKind.TheVariants.{Si
 use Rattle.fi_channels.specs.declared.two_sides.Waiter.TheVariants.{Send, Receive}
 use Rattle.fi_channels.specs.TwoSidedEffects.{TwoSidedEffect}
 use Rattle.fi_channels.specs.TwoSidedEffects.TwoSidedEffect.{OnSends, OnReceives, PopsFirst, Then}
-use Rattle.fi_channels.specs.TwoSidedMachine.{TwoSidedMachine, TwoSidedRules, two_sided_code, initial_two_sided, TwoSidedStep, HasSoundSides}
+use Rattle.fi_channels.specs.TwoSidedMachine.{TwoSidedMachine, TwoSidedRules, two_sided_code, initial_two_sided, TwoSidedStep}
+use Rattle.fi_channels.specs.TwoSidedMachine.{HasSoundSides}
 use Rattle.fi_channels.specs.Waiter.{same_waiter}
 
 -- Open or closed, and the buffer.
@@ -128,7 +130,12 @@ module _ {W : Type 0} where
   knows_receives = record { gone = refl; fresh = refl; registered = λ waker. refl; ended = refl }
 
   abbrev pub rules : TwoSidedRules W
-  rules = record { sending = is_send_phase; known_send = knows_sends; receiving = is_receive_phase; known_receive = knows_receives }
+  rules = record {
+    sending = is_send_phase;
+    known_send = knows_sends;
+    receiving = is_receive_phase;
+    known_receive = knows_receives;
+  }
 
 module _ {T : Type 0} where
   -- a poll of a send is its last: a refused one has not ended
@@ -145,6 +152,13 @@ module _ {T : Type 0} where
   -- the buffer holds less than its capacity
   abbrev pub has_room : Buffered T → Bool
   has_room own = nat_lt (length own.buffer.items) own.buffer.capacity
+
+  -- with that buffer, and closed
+  abbrev pub with_buffer : Buffered T → Bounded T → Buffered T
+  with_buffer own buffer = record own { buffer = buffer }
+
+  abbrev pub closed : Buffered T → Buffered T
+  closed own = record own { is_open = false }
 
   -- The value is in the buffer, behind the others. More may be reserved, if what was reserved is full.
   abbrev pub Stores : Buffered T → T → Buffered T → Type 0
@@ -238,12 +252,14 @@ module _ {T W : Type 0} where
   -- A poll of a send of this phase.
   abbrev pub SendsAs : Option (Phase W) → ChannelMachine T W → ℕ → W → Poll (Result (Unit {0}) (SendFault T)) →
       ChannelMachine T W → Type 0
-  SendsAs (Some Fresh) old name waker answer new = FreshSends old.own.is_open (has_room old.own) (value_of old name) old name waker answer new
+  SendsAs (Some Fresh) old name waker answer new =
+      FreshSends old.own.is_open (has_room old.own) (value_of old name) old name waker answer new
   -- a registered one stays pending with its newest waker
   SendsAs (Some (Registered before)) old name waker answer new =
       (answer ≡ Pending) × TwoSidedStep old old.own (OnSends (KeepsWaiting name waker)) new
   -- the value of a complete one was taken
-  SendsAs (Some Complete) old name waker answer new = (answer ≡ Ready (Ok tt)) × TwoSidedStep old old.own (OnSends (Ends name)) new
+  SendsAs (Some Complete) old name waker answer new = (answer ≡ Ready (Ok tt))
+      × TwoSidedStep old old.own (OnSends (Ends name)) new
   -- no other is polled
   SendsAs phase old name waker answer new = ⊥
 
@@ -264,10 +280,12 @@ module _ {T W : Type 0} where
 
   -- A poll of a fresh or told receive, where this can be received: it takes that; else it waits at an open channel, and ends at a
   -- closed one.
-  abbrev pub TakesNext : Option (T × Bounded T) → Bool → ChannelMachine T W → ℕ → W → Poll (Option T) → ChannelMachine T W → Type 0
+  abbrev pub TakesNext : Option (T × Bounded T) → Bool → ChannelMachine T W → ℕ → W → Poll (Option T) → ChannelMachine T W →
+      Type 0
   TakesNext (Some next) is_open old name waker answer new = (answer ≡ Ready (Some next.0))
-      × TwoSidedStep old (record old.own { buffer = next.1 }) (Then (OnReceives (is_given (kind_of old name) name)) (completes_oldest old)) new
-  TakesNext None true old name waker answer new = (answer ≡ Pending) × TwoSidedStep old old.own (OnReceives (Registers name waker)) new
+      × TwoSidedStep old (with_buffer old.own next.1) (Then (OnReceives (is_given (kind_of old name) name)) (completes_oldest old)) new
+  TakesNext None true old name waker answer new = (answer ≡ Pending)
+      × TwoSidedStep old old.own (OnReceives (Registers name waker)) new
   TakesNext None false old name waker answer new = (answer ≡ Ready None) × TwoSidedStep old old.own (OnReceives (Ends name)) new
 
   -- A poll of a receive of this phase.
@@ -299,8 +317,8 @@ module _ {T W : Type 0} where
   abbrev pub CancelsReceive : ChannelMachine T W → ℕ → ChannelMachine T W → Type 0
   CancelsReceive old name new = CancelsReceiveAs (receive_phase old name) old name new
 
-  -- A send at once is accepted by an open channel whose buffer has room; the oldest receive is told. Else the value comes back and
-  -- nothing has changed.
+  -- A send at once is accepted by an open channel whose buffer has room; the oldest receive is told. Else the value comes
+  -- back and nothing has changed.
   abbrev pub TriesSend : ChannelMachine T W → T → Result (Unit {0}) (TrySendError T) → ChannelMachine T W → Type 0
   TriesSend old value (Ok done) new = (old.own.is_open ≡ true) × (has_room old.own ≡ true)
       × (own : Buffered T) × Stores old.own value own × TwoSidedStep old own tells_oldest new
@@ -310,20 +328,21 @@ module _ {T W : Type 0} where
   TriesSend old value (Err (not_sent.NoMemory back)) new = (back ≡ value) × IsGrowing old.own × (new ≡ old)
 
   -- A receive at once, where this can be received; else it is refused and nothing has changed.
-  abbrev pub TriesNext : Option (T × Bounded T) → Bool → ChannelMachine T W → Result T TryReceiveError → ChannelMachine T W → Type 0
+  abbrev pub TriesNext : Option (T × Bounded T) → Bool → ChannelMachine T W → Result T TryReceiveError → ChannelMachine T W →
+      Type 0
   TriesNext (Some next) is_open old answer new =
-      (answer ≡ Ok next.0) × TwoSidedStep old (record old.own { buffer = next.1 }) (completes_oldest old) new
+      (answer ≡ Ok next.0) × TwoSidedStep old (with_buffer old.own next.1) (completes_oldest old) new
   TriesNext None true old answer new = (answer ≡ Err not_received.Empty) × (new ≡ old)
   TriesNext None false old answer new = (answer ≡ Err not_received.Closed) × (new ≡ old)
 
   abbrev pub TriesReceive : ChannelMachine T W → Result T TryReceiveError → ChannelMachine T W → Type 0
   TriesReceive old answer new = TriesNext (next_of old) old.own.is_open old answer new
 
-  -- The first close names all receives that wait, then all sends, each in order, and makes them fresh; the sends keep their values.
-  -- Later ones change nothing.
+  -- The first close names all receives that wait, then all sends, each in order, and makes them fresh; the sends keep their
+  -- values. Later ones change nothing.
   abbrev pub ClosesAt : Bool → ChannelMachine T W → CloseStatus → ChannelMachine T W → Type 0
   ClosesAt true old status new = (status ≡ NewlyClosed)
-      × TwoSidedStep old (record old.own { is_open = false }) (Then (OnReceives (NotifiesAll Renew)) (OnSends (NotifiesAll Renew))) new
+      × TwoSidedStep old (closed old.own) (Then (OnReceives (NotifiesAll Renew)) (OnSends (NotifiesAll Renew))) new
   ClosesAt false old status new = (status ≡ AlreadyClosed) × (new ≡ old)
 
   abbrev pub Closes : ChannelMachine T W → CloseStatus → ChannelMachine T W → Type 0
@@ -333,15 +352,17 @@ module _ {T W : Type 0} where
   abbrev pub Wakes : ChannelMachine T W → Option W → ChannelMachine T W → Type 0
   Wakes old answer new = TwoSidedStep old old.own (PopsFirst answer) new
 
-  -- The queues and out are in order and only their phases occur; exactly the fresh and registered sends own a value; what is buffered
-  -- fits.
+  -- The queues and out are in order and only their phases occur; exactly the fresh and registered sends own a value; what is
+  -- buffered fits.
   pub record IsSound (state : ChannelMachine T W) : Type 0 where
     pub waiters : HasSoundSides rules state
     pub owned : (name : ℕ) → is_some (value_of state name) ≡ owns_value (send_phase state name)
     pub buffer : Fits state.own.buffer
 
-  -- No wake is owed: if a receive is registered, at least as many are told as there are values; a send is registered only while the
-  -- channel is open and its buffer full, so that with its own there are more values than the capacity.
+  -- No wake is owed: if a receive is registered, at least as many are told as there are values; a send is registered only
+  -- while the channel is open and its buffer full, so that with its own there are more values than the capacity.
   pub record OwesNoWake (state : ChannelMachine T W) : Type 0 where
-    pub receives : (name : ℕ) → is_registered (receive_phase state name) ≡ true → AreTold state.waiting.receives (value_count state)
-    pub sends : (name : ℕ) → is_registered (send_phase state name) ≡ true → (state.own.is_open ≡ true) × (has_room state.own ≡ false)
+    pub receives : (name : ℕ) → is_registered (receive_phase state name) ≡ true →
+        AreTold state.waiting.receives (value_count state)
+    pub sends : (name : ℕ) → is_registered (send_phase state name) ≡ true →
+        (state.own.is_open ≡ true) × (has_room state.own ≡ false)

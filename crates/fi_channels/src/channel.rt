@@ -3,7 +3,10 @@ ghost use Rattle.std.specs.Prelude.{◌≡◌, ℕ, Bool, true, false, Option, S
 ghost use Rattle.fi_parts.specs.Buffer.{Fits, empty};
 ghost use Rattle.fi_channels.specs.Polled.{unused_after, Answered, displaced_by};
 ghost use Rattle.fi_channels.specs.Channel as channel;
-ghost use Rattle.fi_channels.specs.Channel.{opened, send_phase, receive_phase, kind_of, displaced_send, displaced_receive, displaced_by_send, displaced_by_next, MakesSend, MakesReceive, PollsSend, PollsReceive, PollsNext, CancelsSend, CancelsReceive, TriesSend, TriesReceive, Closes, Wakes, IsSound, OwesNoWake};
+ghost use Rattle.fi_channels.specs.Channel.{opened, send_phase, receive_phase, kind_of, displaced_send, displaced_receive};
+ghost use Rattle.fi_channels.specs.Channel.{displaced_by_send, displaced_by_next, MakesSend, MakesReceive, PollsSend};
+ghost use Rattle.fi_channels.specs.Channel.{PollsReceive, PollsNext, CancelsSend, CancelsReceive, TriesSend, TriesReceive};
+ghost use Rattle.fi_channels.specs.Channel.{Closes, Wakes, IsSound, OwesNoWake};
 ghost use Rattle.fi_channels.specs.declared.channel_fields.ReceiveKind.TheVariants.{Single, Stream};
 
 use crate::access::{ChannelReceiveAccess, ChannelSendAccess, Received, Sent};
@@ -20,9 +23,11 @@ use std::marker::Model;
 
 /// A channel of many senders and receivers over a bounded buffer: what was sent first is received first.
 ///
-/// A send that finds the buffer full waits with its value; so with capacity 0 every send waits until a receive takes its value. The
+/// A send that finds the buffer full waits with its value; so with capacity 0 every send waits until a receive takes its
+/// value. The
 /// channel names the wakers to be woken and wakes nobody itself: whoever calls it takes them out by `next_wake`. Each call takes
-/// constant time (`close` for each future that waits) and, but for the makings and a send into a buffer that has to grow, no memory.
+/// constant time (`close` for each future that waits) and, but for the makings and a send into a buffer that has to grow, no
+/// memory.
 /// Keeps `GenericChannel` of futures-intrusive's `channel`.
 #[derive(Drop)]
 pub struct ChannelState<T: Drop, B: RingBuf<Item = T>, W> {
@@ -62,7 +67,8 @@ impl<T: Drop, B: RingBuf<Item = T>, W: Drop> ChannelState<T, B, W> {
         }
     }
 
-    /// An open channel over a buffer for `capacity` values. Some buffers ignore the number and have a capacity of their own. Refused
+    /// An open channel over a buffer for `capacity` values. Some buffers ignore the number and have a capacity of their own.
+    /// Refused
     /// only with `NoMemory`. Keeps `GenericChannel::with_capacity`.
     pub fn with_capacity(alloc: Global, capacity: usize) -> Result<Self, Fault>
         ensures opened { IfOk result (λ made. made ≡ opened (empty (B.capacity_for capacity) made.own.buffer.reserved)) }
@@ -82,7 +88,8 @@ impl<T: Drop, B: RingBuf<Item = T>, W: Drop> ChannelState<T, B, W> {
 
     /// Sends a value at once, if the channel is open and its buffer has room, and tells the oldest receive that waits.
     ///
-    /// Else the value comes back and nothing has changed: `Closed` if the channel is closed, else `Full` if there is no room (with
+    /// Else the value comes back and nothing has changed: `Closed` if the channel is closed, else `Full` if there is no room
+    /// (with
     /// capacity 0 always), else `NoMemory` if the buffer could not grow. Keeps `GenericChannel::try_send`.
     pub fn try_send(&mut self, value: T) -> Result<(), TrySendError<T>>
         ensures { TriesSend self.old value result self.new }
@@ -111,8 +118,10 @@ impl<T: Drop, B: RingBuf<Item = T>, W: Drop> ChannelState<T, B, W> {
 
     /// A future that sends the value: it is ready once the value is stored, or was taken from it.
     ///
-    /// It fails with `Closed` and the value on a closed channel, also one that closes while it waits, and with `Fault(NoMemory)` if the
-    /// buffer could not grow; then it may be polled again. Its making is refused only for want of memory; then the value comes back and
+    /// It fails with `Closed` and the value on a closed channel, also one that closes while it waits, and with
+    /// `Fault(NoMemory)` if the
+    /// buffer could not grow; then it may be polled again. Its making is refused only for want of memory; then the value
+    /// comes back and
     /// nothing has changed. Keeps `GenericChannel::send`.
     pub fn send(&mut self, value: T) -> Result<LocalSendFuture, NoRoom<T>>
         ensures made { IfOk result (λ future. MakesSend self.old value future.name self.new) }
@@ -125,7 +134,8 @@ impl<T: Drop, B: RingBuf<Item = T>, W: Drop> ChannelState<T, B, W> {
         Ok(LocalSendFuture::at(slot))
     }
 
-    /// A future that receives one value, or None once the channel is closed and empty. Refused only with `NoMemory`; then nothing has
+    /// A future that receives one value, or None once the channel is closed and empty. Refused only with `NoMemory`; then
+    /// nothing has
     /// changed. Keeps `GenericChannel::receive`.
     pub fn receive(&mut self) -> Result<LocalReceiveFuture, Fault>
         ensures made { IfOk result (λ future. MakesReceive self.old Single future.name self.new) }
@@ -165,7 +175,8 @@ impl<T: Drop, B: RingBuf<Item = T>, W: Drop> ChannelState<T, B, W> {
         self.fields.wake_count()
     }
 
-    /// Makes a send of this value under a slot that was not live. Refused only for want of memory; then the value comes back and nothing
+    /// Makes a send of this value under a slot that was not live. Refused only for want of memory; then the value comes back
+    /// and nothing
     /// has changed.
     pub fn claim_send(&mut self, value: T) -> Result<Slot, NoRoom<T>>
         ensures made { IfOk result (λ slot. MakesSend self.old value slot.0 self.new) }
@@ -200,7 +211,8 @@ impl<T: Drop, B: RingBuf<Item = T>, W: Drop> ChannelState<T, B, W> {
         self.fields.can_stream(slot)
     }
 
-    /// Polls the stream under this slot: ready with its next item, or with None once the channel is closed and empty, and ever after;
+    /// Polls the stream under this slot: ready with its next item, or with None once the channel is closed and empty, and
+    /// ever after;
     /// else it is registered with this waker. `remove_receive_waiter` cancels it.
     pub fn next_or_register(&mut self, slot: Slot, waker: W) -> (Poll<Option<T>>, Leftover<W>)
         requires { channel.can_stream (kind_of self.old slot.0) (receive_phase self.old slot.0) ≡ true }

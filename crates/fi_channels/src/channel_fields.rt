@@ -4,7 +4,10 @@ ghost use Rattle.fi_parts.specs.Buffer.{Fits, empty};
 ghost use Rattle.fi_parts.specs.Waiting.{phase_of, asks_of};
 ghost use Rattle.fi_parts.specs.declared.phase.Phase.TheVariants.{Fresh};
 ghost use Rattle.fi_channels.specs.Polled.{unused_after};
-ghost use Rattle.fi_channels.specs.Channel.{opened, can_send, can_take, can_receive, can_stream, MakesSend, MakesReceive, PollsSend, displaced_by_send, CancelsSend, PollsReceive, PollsNext, displaced_by_next, CancelsReceive, TriesSend, TriesReceive, Closes, Wakes, IsSound, displaced_send, displaced_receive, value_of};
+ghost use Rattle.fi_channels.specs.Channel.{opened, can_send, can_take, can_receive, can_stream, MakesSend, MakesReceive};
+ghost use Rattle.fi_channels.specs.Channel.{PollsSend, displaced_by_send, CancelsSend, PollsReceive, PollsNext};
+ghost use Rattle.fi_channels.specs.Channel.{displaced_by_next, CancelsReceive, TriesSend, TriesReceive, Closes, Wakes};
+ghost use Rattle.fi_channels.specs.Channel.{IsSound, displaced_send, displaced_receive, value_of};
 ghost use Rattle.fi_channels.specs.ChannelFields.{machine_of, phase_given, Takes};
 
 use crate::access::Sent;
@@ -235,7 +238,8 @@ impl<T: Drop, B: RingBuf<Item = T>, W: Drop> ChannelFields<T, B, W> {
         waker
     }
 
-    /// Sends a value at once, if the channel is open and its buffer has room; tells the oldest receive. Else the value comes back and
+    /// Sends a value at once, if the channel is open and its buffer has room; tells the oldest receive. Else the value comes
+    /// back and
     /// nothing has changed.
     pub fn try_send(&mut self, value: T) -> Result<(), TrySendError<T>>
         requires { IsSound (machine_of B.bounded self.old) }
@@ -254,7 +258,8 @@ impl<T: Drop, B: RingBuf<Item = T>, W: Drop> ChannelFields<T, B, W> {
         Ok(())
     }
 
-    /// Polls a send: its value is stored or waits with it, and the oldest receive is told; a closed channel hands it back. Refused where
+    /// Polls a send: its value is stored or waits with it, and the oldest receive is told; a closed channel hands it back.
+    /// Refused where
     /// memory to store it was: then nothing has changed, and the send still owns its value.
     pub fn send_or_register(&mut self, slot: Slot, waker: W) -> Sent<T, W>
         requires sound { IsSound (machine_of B.bounded self.old) }

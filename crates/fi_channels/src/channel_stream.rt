@@ -11,13 +11,15 @@ use futures::task::Poll;
 /// To receive one value after another from a channel.
 pub struct ChannelStreaming;
 
-/// Receives the values of a local channel, one after another. It is spent by `cancel`, with its channel; it cannot just be let go.
+/// Receives the values of a local channel, one after another. It is spent by `cancel`, with its channel; it cannot just be
+/// let go.
 ///
 /// Keeps `ChannelStream` of futures-intrusive's `channel`.
 pub type LocalChannelStream = LocalFutureOf<ChannelStreaming>;
 
 impl LocalFutureOf<ChannelStreaming> {
-    /// Ready with the next value, or with None once the channel is closed and empty, and ever after; else the stream is registered with
+    /// Ready with the next value, or with None once the channel is closed and empty, and ever after; else the stream is
+    /// registered with
     /// this waker. The caller lends the stream's own channel. Keeps `Stream::poll_next` of `ChannelStream`.
     pub fn poll_next<T: Drop, B: RingBuf<Item = T>, W: Drop>(
         &mut self,

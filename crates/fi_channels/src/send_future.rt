@@ -16,10 +16,12 @@ pub struct ChannelSend;
 pub type LocalSendFuture = LocalFutureOf<ChannelSend>;
 
 impl LocalFutureOf<ChannelSend> {
-    /// Ready once the value is stored or was taken; ready with the value where the channel is closed; else the send waits with its
+    /// Ready once the value is stored or was taken; ready with the value where the channel is closed; else the send waits
+    /// with its
     /// value, registered with this waker.
     ///
-    /// The caller lends the send's own channel, and polls no send that has ended. `Ready(Err(SendFault::Fault(NoMemory)))` says that
+    /// The caller lends the send's own channel, and polls no send that has ended. `Ready(Err(SendFault::Fault(NoMemory)))`
+    /// says that
     /// the buffer could not grow; then nothing has changed, and the send may be polled again.
     pub fn poll<C: ChannelSendAccess>(
         &mut self,
@@ -42,7 +44,8 @@ impl LocalFutureOf<ChannelSend> {
         answer
     }
 
-    /// Ends the send: it leaves its channel. Returns its value if that was neither accepted into the buffer, taken nor handed back.
+    /// Ends the send: it leaves its channel. Returns its value if that was neither accepted into the buffer, taken nor handed
+    /// back.
     ///
     /// The caller lends the send's own channel. Keeps `ChannelSendFuture::cancel`.
     pub fn cancel<C: ChannelSendAccess>(self, channel: &mut C) -> Option<C::Item>

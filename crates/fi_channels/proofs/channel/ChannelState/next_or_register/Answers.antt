@@ -6,14 +6,19 @@ use Rattle.fi_channels.proofs.channel.ChannelState.next_or_register.Goals as goa
 
 pub invariant_of-self : goal.invariant_of-self
 invariant_of-self g c =
-    let old = machine (g.B.RingBuf.bounded c.self.inside.fields.buffer) c.self.inside.fields.waiters c.self.inside.fields.is_open in
-    let new = machine (g.B.RingBuf.bounded c.next_or_register.new.self.buffer) c.next_or_register.new.self.waiters c.next_or_register.new.self.is_open in
-    (polls_next old new c.args.slot.0 c.args.waker c.next_or_register.result.0 c.next_or_register.ensures.polled c.self.invariant).0
+    let old = machine (g.B.RingBuf.bounded c.self.inside.fields.buffer) c.self.inside.fields.waiters
+    c.self.inside.fields.is_open in
+    let new = machine (g.B.RingBuf.bounded c.next_or_register.new.self.buffer) c.next_or_register.new.self.waiters
+    c.next_or_register.new.self.is_open in
+    (polls_next old new c.args.slot.0 c.args.waker c.next_or_register.result.0 c.next_or_register.ensures.polled
+    c.self.invariant).0
 
 pub returns-clause-live : goal.returns-clause-live
 returns-clause-live g c =
-    let old = machine (g.B.RingBuf.bounded c.self.inside.fields.buffer) c.self.inside.fields.waiters c.self.inside.fields.is_open in
-    let new = machine (g.B.RingBuf.bounded c.next_or_register.new.self.buffer) c.next_or_register.new.self.waiters c.next_or_register.new.self.is_open in
+    let old = machine (g.B.RingBuf.bounded c.self.inside.fields.buffer) c.self.inside.fields.waiters
+    c.self.inside.fields.is_open in
+    let new = machine (g.B.RingBuf.bounded c.next_or_register.new.self.buffer) c.next_or_register.new.self.waiters
+    c.next_or_register.new.self.is_open in
     still_streams old new c.args.slot.0 c.args.waker
     (subst (λ m. can_stream (kind_of m c.args.slot.0) (receive_phase m c.args.slot.0) ≡ true) (sym c.self.view_is) c.requires)
     (polls_next old new c.args.slot.0 c.args.waker c.next_or_register.result.0 c.next_or_register.ensures.polled c.self.invariant)

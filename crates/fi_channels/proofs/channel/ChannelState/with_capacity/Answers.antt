@@ -9,4 +9,5 @@ invariant_of-result g c =
     let made = c.in_ok-fields.fields in
     let state = machine (g.B.RingBuf.bounded made.buffer) made.waiters made.is_open in
     let buffer = empty (g.B.RingBuf.capacity_for c.args.capacity) (g.B.RingBuf.bounded made.buffer).reserved in
-    made_holds state buffer c.in_ok-fields.ensures.opened refl (made_fits state buffer c.in_ok-fields.ensures.opened c.in_ok-fields.ensures.fits)
+    made_holds state buffer c.in_ok-fields.ensures.opened refl
+    (made_fits state buffer c.in_ok-fields.ensures.opened c.in_ok-fields.ensures.fits)

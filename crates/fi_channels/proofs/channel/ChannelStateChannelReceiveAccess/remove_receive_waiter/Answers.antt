@@ -4,6 +4,8 @@ use Rattle.fi_channels.proofs.channel.ChannelStateChannelReceiveAccess.remove_re
 
 pub invariant_of-self : goal.invariant_of-self
 invariant_of-self g c =
-    let old = machine (g.B.RingBuf.bounded c.self.inside.fields.buffer) c.self.inside.fields.waiters c.self.inside.fields.is_open in
-    let new = machine (g.B.RingBuf.bounded c.remove_receive_waiter.new.self.buffer) c.remove_receive_waiter.new.self.waiters c.remove_receive_waiter.new.self.is_open in
+    let old = machine (g.B.RingBuf.bounded c.self.inside.fields.buffer) c.self.inside.fields.waiters
+    c.self.inside.fields.is_open in
+    let new = machine (g.B.RingBuf.bounded c.remove_receive_waiter.new.self.buffer) c.remove_receive_waiter.new.self.waiters
+    c.remove_receive_waiter.new.self.is_open in
     (cancels_receive old new c.args.slot.0 c.remove_receive_waiter.ensures.cancelled c.self.invariant).1

@@ -4,12 +4,18 @@ use Rattle.fi_channels.proofs.channel.ChannelStateChannelSendAccess.send_or_regi
 
 pub invariant_of-self : goal.invariant_of-self
 invariant_of-self g c =
-    let old = machine (g.B.RingBuf.bounded c.self.inside.fields.buffer) c.self.inside.fields.waiters c.self.inside.fields.is_open in
-    let new = machine (g.B.RingBuf.bounded c.send_or_register.new.self.buffer) c.send_or_register.new.self.waiters c.send_or_register.new.self.is_open in
-    (polls_send old new c.args.slot.0 c.args.waker c.send_or_register.result.0 c.send_or_register.ensures.polled c.self.invariant).0.1
+    let old = machine (g.B.RingBuf.bounded c.self.inside.fields.buffer) c.self.inside.fields.waiters
+    c.self.inside.fields.is_open in
+    let new = machine (g.B.RingBuf.bounded c.send_or_register.new.self.buffer) c.send_or_register.new.self.waiters
+    c.send_or_register.new.self.is_open in
+    (polls_send old new c.args.slot.0 c.args.waker c.send_or_register.result.0 c.send_or_register.ensures.polled
+    c.self.invariant).0.1
 
 pub returns-clause-live : goal.returns-clause-live
 returns-clause-live g c =
-    let old = machine (g.B.RingBuf.bounded c.self.inside.fields.buffer) c.self.inside.fields.waiters c.self.inside.fields.is_open in
-    let new = machine (g.B.RingBuf.bounded c.send_or_register.new.self.buffer) c.send_or_register.new.self.waiters c.send_or_register.new.self.is_open in
-    (polls_send old new c.args.slot.0 c.args.waker c.send_or_register.result.0 c.send_or_register.ensures.polled c.self.invariant).1
+    let old = machine (g.B.RingBuf.bounded c.self.inside.fields.buffer) c.self.inside.fields.waiters
+    c.self.inside.fields.is_open in
+    let new = machine (g.B.RingBuf.bounded c.send_or_register.new.self.buffer) c.send_or_register.new.self.waiters
+    c.send_or_register.new.self.is_open in
+    (polls_send old new c.args.slot.0 c.args.waker c.send_or_register.result.0 c.send_or_register.ensures.polled
+    c.self.invariant).1

@@ -6,13 +6,15 @@ use Rattle.fi_parts.specs.NamedPairs.{without_by}
 use Rattle.fi_channels.specs.declared.two_sides.Waiter.TheVariants.{Send}
 use Rattle.fi_channels.specs.TwoSidesModel.{TwoSidesModel}
 use Rattle.fi_channels.specs.Waiter.{same_waiter}
-use Rattle.fi_channels.proofs.ChannelSteps.{ended_lives, ended_asks, fresh_asks, fresh_value, unpaired_lives, stored, ended_then, exchanged_then, lives_exchanged, put_back}
+use Rattle.fi_channels.proofs.ChannelSteps.{ended_lives, ended_asks, fresh_asks, fresh_value, unpaired_lives, stored}
+use Rattle.fi_channels.proofs.ChannelSteps.{ended_then, exchanged_then, lives_exchanged, put_back}
 use Rattle.fi_channels.proofs.ChannelSteps.{closed_sends, room_sends, full_sends, waits_then, ordered_beside}
 use Rattle.fi_channels.proofs.channel_fields.ChannelFields.send_fresh.Goals as goal
 
 pub exchange_send-requires : goal.exchange_send-requires
 exchange_send-requires g c =
-    ended_lives (g.B.RingBuf.bounded c.args.self.now.buffer) c.args.self.now.waiters c.args.self.now.is_open c.args.slot.0 c.requires.fresh
+    ended_lives (g.B.RingBuf.bounded c.args.self.now.buffer) c.args.self.now.waiters c.args.self.now.is_open c.args.slot.0
+    c.requires.fresh
     c.take_out_send-named.new.self c.set_send_phase.new.self c.take_out_send-named.ensures.rest c.set_send_phase.ensures.rest
 
 pub unwrap-value-requires : goal.unwrap-value-requires
@@ -37,7 +39,8 @@ pub tell_oldest_receive-requires : goal.tell_oldest_receive-requires
 tell_oldest_receive-requires g c =
     ordered_beside _ c.args.self.now.waiters _ c.args.slot.0 c.requires.sound
     (registered c.args.self.now.waiters.sends c.args.slot.0 c.args.waker) c.register_send.new.self
-    (waits_then (g.B.RingBuf.bounded c.args.self.now.buffer) c.args.self.now.waiters c.args.self.now.is_open c.args.slot.0 c.args.waker
+    (waits_then (g.B.RingBuf.bounded c.args.self.now.buffer) c.args.self.now.waiters c.args.self.now.is_open c.args.slot.0
+    c.args.waker
     c.take_out_send-named-then-not-can_push.new.self c.register_send.new.self c.take_out_send-named-then-not-can_push.ensures.rest
     c.register_send.ensures)
 
@@ -46,11 +49,14 @@ returns-then-not-can_push-clause-polled g c =
     let owned =
     fresh_value (g.B.RingBuf.bounded c.args.self.now.buffer) c.args.self.now.waiters c.args.self.now.is_open c.args.slot.0
     c.requires.sound c.requires.fresh in
-    let full : nat_lt (length (g.B.RingBuf.bounded c.args.self.now.buffer).items) (g.B.RingBuf.bounded c.args.self.now.buffer).capacity ≡ false =
+    let full : nat_lt (length (g.B.RingBuf.bounded c.args.self.now.buffer).items)
+    (g.B.RingBuf.bounded c.args.self.now.buffer).capacity ≡ false =
     sym c.can_push.ensures.room ∙ c.if-not-can_push.true in
-    full_sends (g.B.RingBuf.bounded c.args.self.now.buffer) c.args.self.now.waiters c.args.self.now.is_open c.args.slot.0 c.args.waker owned.0
+    full_sends (g.B.RingBuf.bounded c.args.self.now.buffer) c.args.self.now.waiters c.args.self.now.is_open c.args.slot.0
+    c.args.waker owned.0
     c.requires.fresh owned.1 c.if-not-self.false full c.register_send.new.self c.tell_oldest_receive.new.self
-    (waits_then (g.B.RingBuf.bounded c.args.self.now.buffer) c.args.self.now.waiters c.args.self.now.is_open c.args.slot.0 c.args.waker
+    (waits_then (g.B.RingBuf.bounded c.args.self.now.buffer) c.args.self.now.waiters c.args.self.now.is_open c.args.slot.0
+    c.args.waker
     c.take_out_send-named-then-not-can_push.new.self c.register_send.new.self c.take_out_send-named-then-not-can_push.ensures.rest
     c.register_send.ensures) c.tell_oldest_receive.ensures
 
@@ -68,8 +74,10 @@ returns-in-Err-clause-polled g c =
     omega (arith, why.2, room) in
     let back =
     put_back (g.B.RingBuf.bounded c.args.self.now.buffer) c.args.self.now.waiters c.args.self.now.is_open c.args.slot.0
-    c.in-Err.field-0.0 c.requires.fresh (c.exchange_send-2.ensures.asked ∙ ap Some (c.unwrap-value-2.ensures ∙ ap Some (sym why.0)))
-    c.exchange_send-2.new.self c.exchange_send-in-Err.new.self c.exchange_send-2.ensures.rest c.exchange_send-in-Err.ensures.rest in
+    c.in-Err.field-0.0 c.requires.fresh (c.exchange_send-2.ensures.asked ∙ ap Some (c.unwrap-value-2.ensures
+    ∙ ap Some (sym why.0)))
+    c.exchange_send-2.new.self c.exchange_send-in-Err.new.self c.exchange_send-2.ensures.rest
+    c.exchange_send-in-Err.ensures.rest in
     (refl, c.requires.fresh, (c.if-not-self.false, why.2, grows), λ i. machine (why.1 i) (back i) c.args.self.now.is_open)
 
 pub take_out_send-named-requires-2 : goal.take_out_send-named-requires-2
@@ -80,7 +88,8 @@ take_out_send-named-requires-2 g c =
 pub set_send_phase-requires-2 : goal.set_send_phase-requires-2
 set_send_phase-requires-2 g c =
     unpaired_lives c.exchange_send-2.new.self c.take_out_send-named-2.new.self c.args.slot.0
-    (without_by same_waiter (Send c.args.slot.0) (TwoSidesModel.out c.exchange_send-2.new.self)) c.take_out_send-named-2.ensures.rest
+    (without_by same_waiter (Send c.args.slot.0)
+    (TwoSidesModel.out c.exchange_send-2.new.self)) c.take_out_send-named-2.ensures.rest
     (lives_exchanged (g.B.RingBuf.bounded c.args.self.now.buffer) c.args.self.now.waiters c.args.self.now.is_open c.args.slot.0
     c.requires.fresh c.exchange_send-2.new.self c.args.self.now.waiters.out c.exchange_send-2.ensures.rest)
 
@@ -88,7 +97,8 @@ pub tell_oldest_receive-requires-2 : goal.tell_oldest_receive-requires-2
 tell_oldest_receive-requires-2 g c =
     ordered_beside _ c.args.self.now.waiters _ c.args.slot.0 c.requires.sound _ c.set_send_phase-2.new.self
     (exchanged_then (g.B.RingBuf.bounded c.args.self.now.buffer) c.args.self.now.waiters c.args.self.now.is_open c.args.slot.0
-    c.requires.fresh c.exchange_send-2.new.self c.take_out_send-named-2.new.self c.set_send_phase-2.new.self c.exchange_send-2.ensures.rest
+    c.requires.fresh c.exchange_send-2.new.self c.take_out_send-named-2.new.self c.set_send_phase-2.new.self
+    c.exchange_send-2.ensures.rest
     c.take_out_send-named-2.ensures.rest c.set_send_phase-2.ensures.rest)
 
 pub returns-clause-polled : goal.returns-clause-polled
@@ -100,5 +110,6 @@ returns-clause-polled g c =
     c.unwrap-value-2.result c.in_default.ensures.ok c.push.ensures.grows c.push.ensures.stays c.push.ensures.fits)
     c.set_send_phase-2.new.self c.tell_oldest_receive-2.new.self
     (exchanged_then (g.B.RingBuf.bounded c.args.self.now.buffer) c.args.self.now.waiters c.args.self.now.is_open c.args.slot.0
-    c.requires.fresh c.exchange_send-2.new.self c.take_out_send-named-2.new.self c.set_send_phase-2.new.self c.exchange_send-2.ensures.rest
+    c.requires.fresh c.exchange_send-2.new.self c.take_out_send-named-2.new.self c.set_send_phase-2.new.self
+    c.exchange_send-2.ensures.rest
     c.take_out_send-named-2.ensures.rest c.set_send_phase-2.ensures.rest) c.tell_oldest_receive-2.ensures
