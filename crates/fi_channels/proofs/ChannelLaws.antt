@@ -623,27 +623,27 @@ module _ {T W : Type 0} where
     pub polls_receive : (answer : Poll (Option T)) → PollsReceive old name waker answer new → Holds old → Receives answer
     polls_receive answer did was = receives_as (receive_phase old name) answer refl did was
 
-    -- An ended stream's poll changes nothing.
-    abbrev pub StreamsOn : Type 0
-    StreamsOn = Holds new × ((is_some (receive_phase new name) ≡ true) × (kind_of new name ≡ kind_of old name))
-
+    -- A poll of a stream is like that of a receive; one that has ended ends again.
     streams_as : (phase : Option (Phase W)) (answer : Poll (Option T)) → receive_phase old name ≡ phase →
-        StreamsAs phase old name waker answer new → Holds old → StreamsOn
-    streams_as (Some Ended) answer is did was = (
-      subst Holds (sym did.1) was,
-      (
-        ap (λ (m : ChannelMachine T W). is_some (receive_phase m name)) did.1 ∙ ap is_some is,
-        ap (λ (m : ChannelMachine T W). kind_of m name) did.1,
-      ),
-    )
+        StreamsAs phase old name waker answer new → Holds old → Receives answer
+    streams_as (Some Ended) answer is did was =
+        let step = did.1 in
+        let side = old.waiting.receives in
+        let becomes = becomes-with_phase side name Ended side.queue (lives_as side name Ended is) in
+        subst Receives (sym did.0) (
+          goes old new old.own (OnReceives (Ends name)) step tt was
+              (keeps_at old new old.own old.waiting.sends (ended side name) step.0 step.1.1 step.1.0.1
+              (receives_alone old new (ended side name) name (Some Ended) (keeps_of old new was) becomes (ap is_told is)
+              (not_joined side (ended side name) name (Some Ended) becomes refl))),
+          lives_received (ended side name) Ended step.1.0.1 becomes.here (asks-with_phase side.live name Ended name),
+        )
     streams_as None answer is did was = absurd did
-    streams_as (Some Fresh) answer is did was = let now = receives_as (Some Fresh) answer is did was in (now.0.1, now.1)
-    streams_as (Some (Registered before)) answer is did was =
-        let now = receives_as (Some (Registered before)) answer is did was in (now.0.1, now.1)
-    streams_as (Some Told) answer is did was = let now = receives_as (Some Told) answer is did was in (now.0.1, now.1)
+    streams_as (Some Fresh) answer is did was = receives_as (Some Fresh) answer is did was
+    streams_as (Some (Registered before)) answer is did was = receives_as (Some (Registered before)) answer is did was
+    streams_as (Some Told) answer is did was = receives_as (Some Told) answer is did was
     streams_as (Some Complete) answer is did was = absurd did
 
-    pub polls_next : (answer : Poll (Option T)) → PollsNext old name waker answer new → Holds old → StreamsOn
+    pub polls_next : (answer : Poll (Option T)) → PollsNext old name waker answer new → Holds old → Receives answer
     polls_next answer did was = streams_as (receive_phase old name) answer refl did was
 
     can_still : (kind : Option ReceiveKind) (before after : Option (Phase W)) → can_stream kind before ≡ true →
@@ -653,9 +653,9 @@ module _ {T W : Type 0} where
     can_still (Some Single) before after can lives = absurd (both_ways false refl can)
     can_still (Some Stream) before after can lives = lives
 
-    pub still_streams : can_stream (kind_of old name) (receive_phase old name) ≡ true → StreamsOn →
+    pub still_streams : can_stream (kind_of old name) (receive_phase old name) ≡ true → (answer : Poll (Option T)) → Receives answer →
         can_stream (kind_of new name) (receive_phase new name) ≡ true
-    still_streams can now = ap (λ kind. can_stream kind (receive_phase new name)) now.1.1
+    still_streams can answer now = ap (λ kind. can_stream kind (receive_phase new name)) now.1.1
         ∙ can_still (kind_of old name) (receive_phase old name) (receive_phase new name) can now.1.0
 
     abbrev finished_side : Side (Option T) W

@@ -21,6 +21,8 @@ use Rattle.fi_parts.specs.Waiting.{with_asks, exchange, ended, registered, forgo
 use Rattle.fi_parts.proofs.Waiting.{get-with_phase, get-with_phase_other, lives_as, becomes-with_phase, asks-with_phase}
 use Rattle.fi_parts.proofs.Oldest.{get-with_asks, get-with_asks_other, phase-with_asks}
 use Rattle.fi_parts.proofs.PairsWithin.{none_some, some_same}
+use Rattle.fi_parts.proofs.Told.{with_phase-same}
+use Rattle.fi_channels.specs.Channel.{PollsNext, StreamsAs}
 use Rattle.fi_channels.specs.declared.channel_errors.SendFault.{SendFault}
 use Rattle.fi_channels.specs.declared.channel_errors.SendFault.TheVariants as send_fault
 use Rattle.fi_channels.specs.declared.channel_fields.ReceiveKind.{ReceiveKind}
@@ -247,6 +249,27 @@ module _ {T W : Type 0} (buffer : Bounded T) (waiters : Waiters T W) (is_open : 
       (received_as waker (phase_of waiters.receives name) can off (Ready (Some value)) (machine left new is_open)
       (takes_given waker sound (may_take (phase_of waiters.receives name) can off) (next_of Old) value left taken new
       (subst (λ (v : Waiters T W). Takes buffer v (Some value) left taken) is took) now))
+
+  -- A stream that has ended ends again.
+  pub ends_again : (waker : W) → phase_of waiters.receives name ≡ Some Ended → (new : Waiters T W) → new ≡ no_receive_pair →
+      PollsNext Old name waker (Ready None) (machine buffer new is_open)
+  ends_again waker was new is =
+      subst (λ (p : Option (Phase W)). StreamsAs p Old name waker (Ready None) (machine buffer new is_open)) (sym was) (
+        refl,
+        (
+          refl,
+          (
+            (
+              ap may_be_named was,
+              ap (λ (v : Waiters T W). v.receives) is
+                  ∙ ap (λ (live : map.FinMap nat_cmp (Future ReceiveKind W)). let after : Side ReceiveKind W = record waiters.receives { live = live } in after)
+                  (sym (with_phase-same waiters.receives.live name Ended was)),
+              ap (λ (v : Waiters T W). v.out) is,
+            ),
+            ap (λ (v : Waiters T W). v.sends) is,
+          ),
+        ),
+      )
 
   -- A fresh send.
   fresh_sends : (waker : W) (value : T) (open_now room : Bool) → phase_of waiters.sends name ≡ Some Fresh →

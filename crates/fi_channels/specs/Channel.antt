@@ -106,11 +106,6 @@ module _ {W : Type 0} where
   owns_value (Some (Registered waker)) = true
   owns_value phase = false
 
-  -- the waker that a stream had; one that has ended keeps what it has
-  abbrev pub displaced_by_next : Option (Phase W) → Option W → Option W
-  displaced_by_next (Some Ended) before = None
-  displaced_by_next phase before = before
-
   -- a receive that was given an item ends, or is fresh again if it is a stream
   abbrev pub is_given : Option ReceiveKind → ℕ → WaiterEffect ReceiveKind W
   is_given (Some Stream) name = Renews name
@@ -301,9 +296,9 @@ module _ {T W : Type 0} where
   abbrev pub PollsReceive : ChannelMachine T W → ℕ → W → Poll (Option T) → ChannelMachine T W → Type 0
   PollsReceive old name waker answer new = ReceivesAs (receive_phase old name) old name waker answer new
 
-  -- A poll of a stream is like that of a receive; one that has ended has no item ever after.
+  -- A poll of a stream is like that of a receive; one that has ended ends again, ever after.
   abbrev pub StreamsAs : Option (Phase W) → ChannelMachine T W → ℕ → W → Poll (Option T) → ChannelMachine T W → Type 0
-  StreamsAs (Some Ended) old name waker answer new = (answer ≡ Ready None) × (new ≡ old)
+  StreamsAs (Some Ended) old name waker answer new = (answer ≡ Ready None) × TwoSidedStep old old.own (OnReceives (Ends name)) new
   StreamsAs phase old name waker answer new = ReceivesAs phase old name waker answer new
 
   abbrev pub PollsNext : ChannelMachine T W → ℕ → W → Poll (Option T) → ChannelMachine T W → Type 0

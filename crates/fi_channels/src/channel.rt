@@ -4,7 +4,7 @@ ghost use Rattle.fi_parts.specs.Buffer.{Fits, empty};
 ghost use Rattle.fi_channels.specs.Polled.{unused_after, Answered, displaced_by};
 ghost use Rattle.fi_channels.specs.Channel as channel;
 ghost use Rattle.fi_channels.specs.Channel.{opened, send_phase, receive_phase, kind_of, displaced_send, displaced_receive};
-ghost use Rattle.fi_channels.specs.Channel.{displaced_by_send, displaced_by_next, MakesSend, MakesReceive, PollsSend};
+ghost use Rattle.fi_channels.specs.Channel.{displaced_by_send, MakesSend, MakesReceive, PollsSend};
 ghost use Rattle.fi_channels.specs.Channel.{PollsReceive, PollsNext, CancelsSend, CancelsReceive, TriesSend, TriesReceive};
 ghost use Rattle.fi_channels.specs.Channel.{Closes, Wakes, IsSound, OwesNoWake};
 ghost use Rattle.fi_channels.specs.declared.channel_fields.ReceiveKind.TheVariants.{Single, Stream};
@@ -217,7 +217,7 @@ impl<T: Drop, B: RingBuf<Item = T>, W: Drop> ChannelState<T, B, W> {
     pub fn next_or_register(&mut self, slot: Slot, waker: W) -> (Poll<Option<T>>, Leftover<W>)
         requires { channel.can_stream (kind_of self.old slot.0) (receive_phase self.old slot.0) ≡ true }
         ensures polled { PollsNext self.old slot.0 waker result.0 self.new }
-        ensures displaced { result.1.displaced ≡ displaced_by_next (receive_phase self.old slot.0) (displaced_receive self.old slot.0) }
+        ensures displaced { result.1.displaced ≡ displaced_receive self.old slot.0 }
         ensures unused { result.1.unused ≡ unused_after result.0 waker }
         // The stream still lives, until it is cancelled.
         ensures live { channel.can_stream (kind_of self.new slot.0) (receive_phase self.new slot.0) ≡ true }

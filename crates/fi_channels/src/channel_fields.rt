@@ -6,7 +6,7 @@ ghost use Rattle.fi_parts.specs.declared.phase.Phase.TheVariants.{Fresh};
 ghost use Rattle.fi_channels.specs.Polled.{unused_after};
 ghost use Rattle.fi_channels.specs.Channel.{opened, can_send, can_take, can_receive, can_stream, MakesSend, MakesReceive};
 ghost use Rattle.fi_channels.specs.Channel.{PollsSend, displaced_by_send, CancelsSend, PollsReceive, PollsNext};
-ghost use Rattle.fi_channels.specs.Channel.{displaced_by_next, CancelsReceive, TriesSend, TriesReceive, Closes, Wakes};
+ghost use Rattle.fi_channels.specs.Channel.{CancelsReceive, TriesSend, TriesReceive, Closes, Wakes};
 ghost use Rattle.fi_channels.specs.Channel.{IsSound, displaced_send, displaced_receive, value_of};
 ghost use Rattle.fi_channels.specs.ChannelFields.{machine_of, phase_given, Takes};
 
@@ -208,16 +208,17 @@ impl<T: Drop, B: RingBuf<Item = T>, W: Drop> ChannelFields<T, B, W> {
         (Poll::Ready(None), Leftover::of(named, Some(waker)))
     }
 
-    /// Polls a stream: like a receive, but one that has ended has no item ever after.
+    /// Polls a stream: like a receive, but one that has ended ends again, ever after.
     pub fn next_or_register(&mut self, slot: Slot, waker: W) -> (Poll<Option<T>>, Leftover<W>)
         requires sound { IsSound (machine_of B.bounded self.old) }
         requires live { is_some (phase_of self.old.waiters.receives slot.0) ≡ true }
         ensures polled { PollsNext (machine_of B.bounded self.old) slot.0 waker result.0 (machine_of B.bounded self.new) }
-        ensures displaced { result.1.displaced ≡ displaced_by_next (phase_of self.old.waiters.receives slot.0) (displaced_receive (machine_of B.bounded self.old) slot.0) }
+        ensures displaced { result.1.displaced ≡ displaced_receive (machine_of B.bounded self.old) slot.0 }
         ensures unused { result.1.unused ≡ unused_after result.0 waker }
     {
         if let Some(Phase::Ended) = self.waiters.receive_phase(slot) {
-            return (Poll::Ready(None), Leftover::of(None, Some(waker)));
+            let named = self.waiters.take_out_receive(slot);
+            return (Poll::Ready(None), Leftover::of(named, Some(waker)));
         }
         self.receive_or_register(slot, waker)
     }

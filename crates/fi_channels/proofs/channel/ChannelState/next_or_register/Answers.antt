@@ -11,7 +11,7 @@ invariant_of-self g c =
     let new = machine (g.B.RingBuf.bounded c.next_or_register.new.self.buffer) c.next_or_register.new.self.waiters
     c.next_or_register.new.self.is_open in
     (polls_next old new c.args.slot.0 c.args.waker c.next_or_register.result.0 c.next_or_register.ensures.polled
-    c.self.invariant).0
+    c.self.invariant).0.1
 
 pub returns-clause-live : goal.returns-clause-live
 returns-clause-live g c =
@@ -21,4 +21,5 @@ returns-clause-live g c =
     c.next_or_register.new.self.is_open in
     still_streams old new c.args.slot.0 c.args.waker
     (subst (λ m. can_stream (kind_of m c.args.slot.0) (receive_phase m c.args.slot.0) ≡ true) (sym c.self.view_is) c.requires)
+    c.next_or_register.result.0
     (polls_next old new c.args.slot.0 c.args.waker c.next_or_register.result.0 c.next_or_register.ensures.polled c.self.invariant)
