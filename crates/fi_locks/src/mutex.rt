@@ -257,9 +257,10 @@ impl<T: Drop, W: Drop> Fields<T, W> {
         Ok(())
     }
 
-    // Grants a live future this value, which was taken of the mutex: the future ends, and leaves the queue.
-    fn grant(&mut self, slot: Slot, value: T, waker: W) -> (Poll<T>, Leftover<W>)
-        requires { IsLive self.old.locks.side slot.0 }
+    // Grants a live future this value, which was taken of the mutex: the future ends, and leaves the queue if it has a place.
+    fn grant(&mut self, slot: Slot, has_place: bool, value: T, waker: W) -> (Poll<T>, Leftover<W>)
+        requires live { IsLive self.old.locks.side slot.0 }
+        requires place { holds slot.0 self.old.locks.side.queue ≡ has_place }
         ensures granted { result.0 ≡ polled.Ready value }
         ensures ended { TakesEffect (EndsPlaced slot.0) self.old.locks self.new.locks }
         ensures rest { self.new ≡ record self.old { locks = self.new.locks } }
@@ -267,7 +268,9 @@ impl<T: Drop, W: Drop> Fields<T, W> {
         ensures unused { result.1.unused ≡ Some waker }
     {
         let named = self.locks.take_out(slot);
-        self.locks.leave(slot);
+        if has_place {
+            self.locks.leave(slot);
+        }
         let before = self.locks.stand(slot, Phase::Ended);
         (
             Poll::Ready(value),
@@ -298,20 +301,21 @@ impl<T: Drop, W: Drop> Fields<T, W> {
         ensures unused { result.1.unused ≡ unused_after result.0 waker }
     {
         match self.take_for_newcomer() {
-            Some(value) => self.grant(slot, value, waker),
+            Some(value) => self.grant(slot, false, value, waker),
             None => self.register(slot, waker),
         }
     }
 
     fn poll_registered(&mut self, slot: Slot, waker: W) -> (Poll<T>, Leftover<W>)
-        requires { is_registered (phase_of self.old.locks.side slot.0) ≡ true }
+        requires sound { IsSound (machine_of self.old) }
+        requires registered { is_registered (phase_of self.old.locks.side slot.0) ≡ true }
         ensures polled { PollsAs (phase_of self.old.locks.side slot.0) (machine_of self.old) slot.0 waker result.0 (machine_of self.new) }
         ensures displaced { result.1.displaced ≡ displaced self.old.locks.side self.old.locks.out slot.0 }
         ensures unused { result.1.unused ≡ unused_after result.0 waker }
     {
         if !self.is_fair {
             if let Some(value) = self.value.take() {
-                return self.grant(slot, value, waker);
+                return self.grant(slot, true, value, waker);
             }
         }
         self.locks.take_out(slot);
@@ -328,7 +332,7 @@ impl<T: Drop, W: Drop> Fields<T, W> {
         ensures unused { result.1.unused ≡ unused_after result.0 waker }
     {
         match self.value.take() {
-            Some(value) => self.grant(slot, value, waker),
+            Some(value) => self.grant(slot, self.is_fair, value, waker),
             None => self.register(slot, waker),
         }
     }
@@ -341,11 +345,10 @@ impl<T: Drop, W: Drop> Fields<T, W> {
         ensures displaced { result.1.displaced ≡ displaced self.old.locks.side self.old.locks.out slot.0 }
         ensures unused { result.1.unused ≡ unused_after result.0 waker }
     {
-        if self.locks.is_registered(slot) {
-            return self.poll_registered(slot, waker);
-        }
-        if self.is_told(slot) {
-            return self.poll_told(slot, waker);
+        match self.locks.phase(slot) {
+            Some(Phase::Registered(_)) => return self.poll_registered(slot, waker),
+            Some(Phase::Told) => return self.poll_told(slot, waker),
+            _ => {}
         }
         self.poll_fresh(slot, waker)
     }
