@@ -1,5 +1,5 @@
 -- Each call on a channel is a line of its table, and keeps a channel sound that owes no wake.
-use Rattle.std.proofs.Common.{◌≡◌, ◌≤◌, ◌+◌, ℕ, suc, not, nat_lt, eqb, cond, drop, ◌⊎◌, Bool, true, false, List, [], ◌∷◌}
+use Rattle.std.proofs.Common.{◌≡◌, ◌≤◌, ◌+◌, ℕ, suc, not, eqb, cond, drop, Bool, true, false, List, [], ◌∷◌}
 use Rattle.std.proofs.Common.{◌++◌, Option, Some, None, is_some, Result, Ok, Err}
 use Rattle.std.proofs.Common.{length, length-append, refl, sym, ap, subst, ◌∙◌, inl, inr, arith}
 use Rattle.std.proofs.lemmas.Bool.{both_ways, cases_eq}
@@ -10,7 +10,7 @@ use Rattle.fi_parts.specs.declared.errors.CloseStatus.{CloseStatus}
 use Rattle.fi_parts.specs.declared.phase.Notice.TheVariants.{Renew}
 use Rattle.fi_parts.specs.declared.phase.Phase.{Phase}
 use Rattle.fi_parts.specs.declared.phase.Phase.TheVariants.{Fresh, Registered, Told, Complete, Ended}
-use Rattle.fi_parts.specs.Buffer.{Bounded, Fits, pushed, popped}
+use Rattle.fi_parts.specs.Buffer.{Bounded, Fits}
 use Rattle.fi_parts.specs.Effects.{completes_first}
 use Rattle.fi_parts.specs.Effects.WaiterEffect.{NoChange, Inserts, Registers, KeepsWaiting, Ends, Removes, NotifiesAll}
 use Rattle.fi_parts.specs.Machine.{AllowsEffect, waker_effect, poll_effect}
@@ -26,7 +26,6 @@ use Rattle.fi_parts.specs.Waiting.{Side, Waiting, phase_of, phase_in, asks_of, i
 use Rattle.fi_parts.specs.Waiting.{forgotten, exchange, emptied, noticed, IsOrdered}
 use Rattle.fi_parts.proofs.Effects.{some_phase, registered_as}
 use Rattle.fi_parts.proofs.Oldest.{phase-with_asks}
-use Rattle.fi_parts.proofs.PairsWithin.{none_some, some_same}
 use Rattle.fi_parts.proofs.Sound.{none_registered, sound-forgotten}
 use Rattle.fi_parts.proofs.Waiting.{asks-with_phase}
 use Rattle.fi_parts.proofs.Waiting.{Becomes, noticed_phase, becomes-made, becomes-with_phase, becomes-forgotten}
@@ -40,7 +39,7 @@ use Rattle.fi_channels.specs.declared.channel_fields.ReceiveKind.{ReceiveKind}
 use Rattle.fi_channels.specs.declared.channel_fields.ReceiveKind.TheVariants.{Single, Stream}
 use Rattle.fi_channels.specs.Channel.{ChannelMachine, Buffered, AreTold, rules, is_send_phase, is_receive_phase, owns_value}
 use Rattle.fi_channels.specs.Channel.{has_room, Stores}
-use Rattle.fi_channels.specs.Channel.{next_value, next_of, value_count, send_phase, receive_phase, value_of, kind_of, opened}
+use Rattle.fi_channels.specs.Channel.{next_of, value_count, send_phase, receive_phase, value_of, kind_of, opened}
 use Rattle.fi_channels.specs.Channel.{finishes, is_given, tells_oldest, completes_oldest, MakesSend, MakesReceive, FreshSends}
 use Rattle.fi_channels.specs.Channel.{SendsAs, PollsSend}
 use Rattle.fi_channels.specs.Channel.{can_send, can_stream}
@@ -56,6 +55,7 @@ use Rattle.fi_channels.specs.TwoSidedMachine.{TwoSidedLine, TwoSidedStep}
 use Rattle.fi_channels.specs.Waiter.{same_waiter, sends_in, receives_in}
 use Rattle.std.specs.Ordering.{nat_cmp}
 use Rattle.std.specs.FinMap as map
+use Rattle.fi_channels.proofs.NextValues.{Fronts, left_over, nothing_left}
 use Rattle.fi_channels.proofs.OwnedValues.{Owned, OwnedAt, owned-made, owned-with_phase, owned-finished, owned-forgotten}
 use Rattle.fi_channels.proofs.OwnedValues.{owned-emptied, owned-completed}
 use Rattle.fi_channels.proofs.ToldReceives.{Enough, none_told, enough_fewer, enough_but, enough_beside, oldest_enough, passed_on}
@@ -77,11 +77,6 @@ record Keeps {T W : Type 0} (own : Buffered T) (sending : Side (Option T) W) (re
   buffer : Fits own.buffer
   told : Enough receiving (length own.buffer.items + length sending.queue)
   waits : Waits own sending
-
--- The oldest of this queue owns this value; None if the queue is empty.
-abbrev Fronts : {T : Type 0} → List ℕ → Option T → Type 0
-Fronts [] asks = asks ≡ None
-Fronts {T} (name ∷ others) asks = (value : T) × (asks ≡ Some value)
 
 shorter : (name : ℕ) (names : List ℕ) → length (without name names) ≤ length names
 shorter name [] = omega arith
@@ -175,49 +170,6 @@ module _ {D W : Type 0} where
     | inl same ↦ ap (λ k. is_registered (phase_of old k)) same ∙ was
     | inr ne ↦ ap is_registered (sym (becomes.others q ne)) ∙ now
   ]
-
-module _ {T : Type 0} where
-  -- What is left where the next value was taken.
-  left_over : (own : Buffered T) (items : List T) (queue : List ℕ) (asks : Option T) (next : T × Bounded T) →
-      own.buffer.items ≡ items →
-      Fits own.buffer → Fronts queue asks → next_value own.buffer items asks ≡ Some next → Fits next.1
-      × (length items + length queue ≡ suc (length next.1.items + length (drop 1 queue)))
-      × ((queue ≡ []) ⊎ (has_room (record own { buffer = next.1 }) ≡ has_room own))
-  left_over own [] [] asks next is fits fronts took =
-      absurd (none_some next (sym (ap (next_value own.buffer []) fronts) ∙ took))
-  left_over own [] (n ∷ others) asks next is fits fronts took =
-      let same : (fronts.0, own.buffer) ≡ next = some_same _ _ (sym (ap (next_value own.buffer []) fronts.1) ∙ took) in
-      let none : length own.buffer.items ≡ 0 = ap length is in
-      subst (λ (n2 : T × Bounded T). Fits n2.1 × (0 + suc (length others) ≡ suc (length n2.1.items + length others))
-      × (((n ∷ others) ≡ []) ⊎ (has_room (record own { buffer = n2.1 }) ≡ has_room own))) same
-      (fits, omega (arith, none), inr refl)
-  left_over own (value ∷ left) [] asks next is fits fronts took =
-      let same : (value, popped own.buffer left)
-      ≡ next = some_same _ _ (sym (ap (next_value own.buffer (value ∷ left)) fronts) ∙ took) in
-      let many : length own.buffer.items ≡ suc (length left) = ap length is in
-      let less = fits.0 in
-      subst (λ (n2 : T × Bounded T). Fits n2.1 × (suc (length left) + 0 ≡ suc (length n2.1.items + 0))
-      × ((◌≡◌ {A = List ℕ} [] []) ⊎ (has_room (record own { buffer = n2.1 }) ≡ has_room own))) same
-      ((omega (arith, many, less), fits.1), omega arith, inl refl)
-  left_over own (value ∷ left) (n ∷ others) asks next is fits fronts took =
-      let after = pushed (popped own.buffer left) fronts.0 own.buffer.reserved in
-      let same : (value, after) ≡ next = some_same _ _ (sym (ap (next_value own.buffer (value ∷ left)) fronts.1) ∙ took) in
-      let many : length own.buffer.items ≡ suc (length left) = ap length is in
-      let pushes : length (left ++ fronts.0 ∷ []) ≡ length left + 1 = length-append left (fronts.0 ∷ []) in
-      let still : length (left ++ fronts.0 ∷ []) ≡ length own.buffer.items = omega (arith, many, pushes) in
-      let less = fits.0 in
-      subst (λ (n2 : T × Bounded T). Fits n2.1 × (suc (length left) + suc (length others)
-      ≡ suc (length n2.1.items + length others))
-      × (((n ∷ others) ≡ []) ⊎ (has_room (record own { buffer = n2.1 }) ≡ has_room own))) same
-      ((omega (arith, still, less), fits.1), omega (arith, pushes), inr (ap (λ m. nat_lt m own.buffer.capacity) still))
-
-  -- Where there is no next value there is none at all.
-  nothing_left : (buffer : Bounded T) (items : List T) (queue : List ℕ) (asks : Option T) → Fronts queue asks →
-      next_value buffer items asks ≡ None → length items + length queue ≡ 0
-  nothing_left buffer [] [] asks fronts none = refl
-  nothing_left buffer [] (n ∷ others) asks fronts none =
-      absurd (none_some _ (sym none ∙ ap (next_value buffer []) fronts.1))
-  nothing_left buffer (value ∷ left) queue asks fronts none = absurd (none_some _ (sym none))
 
 completing_quiet : (T W : Type 0) (queue : List ℕ) →
     ◌≡◌ {A = WakerEffect W} (waker_effect (completes_first {D = Option T} None queue)) NoEffect
@@ -653,7 +605,8 @@ module _ {T W : Type 0} where
     can_still (Some Single) before after can lives = absurd (both_ways false refl can)
     can_still (Some Stream) before after can lives = lives
 
-    pub still_streams : can_stream (kind_of old name) (receive_phase old name) ≡ true → (answer : Poll (Option T)) → Receives answer →
+    pub still_streams : can_stream (kind_of old name) (receive_phase old name) ≡ true → (answer : Poll (Option T)) →
+        Receives answer →
         can_stream (kind_of new name) (receive_phase new name) ≡ true
     still_streams can answer now = ap (λ kind. can_stream kind (receive_phase new name)) now.1.1
         ∙ can_still (kind_of old name) (receive_phase old name) (receive_phase new name) can now.1.0

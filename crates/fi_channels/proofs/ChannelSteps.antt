@@ -262,7 +262,8 @@ module _ {T W : Type 0} (buffer : Bounded T) (waiters : Waiters T W) (is_open : 
             (
               ap may_be_named was,
               ap (λ (v : Waiters T W). v.receives) is
-                  ∙ ap (λ (live : map.FinMap nat_cmp (Future ReceiveKind W)). let after : Side ReceiveKind W = record waiters.receives { live = live } in after)
+                  ∙ ap (λ (live : map.FinMap nat_cmp (Future ReceiveKind W)). let after : Side ReceiveKind W =
+                  record waiters.receives { live = live } in after)
                   (sym (with_phase-same waiters.receives.live name Ended was)),
               ap (λ (v : Waiters T W). v.out) is,
             ),

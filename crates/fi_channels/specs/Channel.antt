@@ -278,7 +278,8 @@ module _ {T W : Type 0} where
   abbrev pub TakesNext : Option (T × Bounded T) → Bool → ChannelMachine T W → ℕ → W → Poll (Option T) → ChannelMachine T W →
       Type 0
   TakesNext (Some next) is_open old name waker answer new = (answer ≡ Ready (Some next.0))
-      × TwoSidedStep old (with_buffer old.own next.1) (Then (OnReceives (is_given (kind_of old name) name)) (completes_oldest old)) new
+      × TwoSidedStep old (with_buffer old.own next.1)
+      (Then (OnReceives (is_given (kind_of old name) name)) (completes_oldest old)) new
   TakesNext None true old name waker answer new = (answer ≡ Pending)
       × TwoSidedStep old old.own (OnReceives (Registers name waker)) new
   TakesNext None false old name waker answer new = (answer ≡ Ready None) × TwoSidedStep old old.own (OnReceives (Ends name)) new
