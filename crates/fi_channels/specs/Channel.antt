@@ -171,8 +171,8 @@ module _ {T : Type 0} where
   refilled buffer left None = popped buffer left
   refilled buffer left (Some value) = pushed (popped buffer left) value buffer.reserved
 
-  -- The value that is received next, and the buffer without it: the oldest of these items, whose place the value of the oldest
-  -- waiting send gets; without items that value itself; None if there is neither.
+  -- The value that is received next, and the buffer without it: the oldest of these items, whose place the value of the
+  -- oldest waiting send gets; without items that value itself; None if there is neither.
   abbrev pub next_value : Bounded T → List T → Option T → Option (T × Bounded T)
   next_value buffer (value ∷ left) waiting = Some (value, refilled buffer left waiting)
   next_value buffer [] (Some value) = Some (value, buffer)
@@ -273,8 +273,8 @@ module _ {T W : Type 0} where
   abbrev pub CancelsSend : ChannelMachine T W → ℕ → Option T → ChannelMachine T W → Type 0
   CancelsSend old name answer new = (answer ≡ value_of old name) × TwoSidedStep old old.own (OnSends (Removes name)) new
 
-  -- A poll of a fresh or told receive, where this can be received: it takes that; else it waits at an open channel, and ends at a
-  -- closed one.
+  -- A poll of a fresh or told receive, where this can be received: it takes that; else it waits at an open channel, and ends
+  -- at a closed one.
   abbrev pub TakesNext : Option (T × Bounded T) → Bool → ChannelMachine T W → ℕ → W → Poll (Option T) → ChannelMachine T W →
       Type 0
   TakesNext (Some next) is_open old name waker answer new = (answer ≡ Ready (Some next.0))

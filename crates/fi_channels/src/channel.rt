@@ -24,17 +24,16 @@ use std::marker::Model;
 /// A channel of many senders and receivers over a bounded buffer: what was sent first is received first.
 ///
 /// A send that finds the buffer full waits with its value; so with capacity 0 every send waits until a receive takes its
-/// value. The
-/// channel names the wakers to be woken and wakes nobody itself: whoever calls it takes them out by `next_wake`. Each call takes
-/// constant time (`close` for each future that waits) and, but for the makings and a send into a buffer that has to grow, no
-/// memory.
-/// Keeps `GenericChannel` of futures-intrusive's `channel`.
+/// value. The channel names the wakers to be woken and wakes nobody itself: whoever calls it takes them out by `next_wake`.
+/// Each call takes constant time (`close` for each future that waits) and, but for the makings and a send into a buffer that
+/// has to grow, no memory. Keeps `GenericChannel` of futures-intrusive's `channel`.
 #[derive(Drop)]
 pub struct ChannelState<T: Drop, B: RingBuf<Item = T>, W> {
     fields: ChannelFields<T, B, W>,
 }
 
-/// The channel for one thread over an array of `N` values: sends, receives and streams are polled with the channel lent to them.
+/// The channel for one thread over an array of `N` values: sends, receives and streams are polled with the channel lent to
+/// them.
 ///
 /// Keeps `LocalChannel` of futures-intrusive's `channel`.
 pub type LocalChannel<T, const N: usize, W> = ChannelState<T, ArrayBuf<T, N>, W>;
@@ -68,8 +67,7 @@ impl<T: Drop, B: RingBuf<Item = T>, W: Drop> ChannelState<T, B, W> {
     }
 
     /// An open channel over a buffer for `capacity` values. Some buffers ignore the number and have a capacity of their own.
-    /// Refused
-    /// only with `NoMemory`. Keeps `GenericChannel::with_capacity`.
+    /// Refused only with `NoMemory`. Keeps `GenericChannel::with_capacity`.
     pub fn with_capacity(alloc: Global, capacity: usize) -> Result<Self, Fault>
         ensures opened { IfOk result (λ made. made ≡ opened (empty (B.capacity_for capacity) made.own.buffer.reserved)) }
         ensures fault { IfErr result (λ fault. fault ≡ Fault.NoMemory) }
@@ -89,8 +87,7 @@ impl<T: Drop, B: RingBuf<Item = T>, W: Drop> ChannelState<T, B, W> {
     /// Sends a value at once, if the channel is open and its buffer has room, and tells the oldest receive that waits.
     ///
     /// Else the value comes back and nothing has changed: `Closed` if the channel is closed, else `Full` if there is no room
-    /// (with
-    /// capacity 0 always), else `NoMemory` if the buffer could not grow. Keeps `GenericChannel::try_send`.
+    /// (with capacity 0 always), else `NoMemory` if the buffer could not grow. Keeps `GenericChannel::try_send`.
     pub fn try_send(&mut self, value: T) -> Result<(), TrySendError<T>>
         ensures { TriesSend self.old value result self.new }
     {
@@ -119,10 +116,8 @@ impl<T: Drop, B: RingBuf<Item = T>, W: Drop> ChannelState<T, B, W> {
     /// A future that sends the value: it is ready once the value is stored, or was taken from it.
     ///
     /// It fails with `Closed` and the value on a closed channel, also one that closes while it waits, and with
-    /// `Fault(NoMemory)` if the
-    /// buffer could not grow; then it may be polled again. Its making is refused only for want of memory; then the value
-    /// comes back and
-    /// nothing has changed. Keeps `GenericChannel::send`.
+    /// `Fault(NoMemory)` if the buffer could not grow; then it may be polled again. Its making is refused only for want of
+    /// memory; then the value comes back and nothing has changed. Keeps `GenericChannel::send`.
     pub fn send(&mut self, value: T) -> Result<LocalSendFuture, NoRoom<T>>
         ensures made { IfOk result (λ future. MakesSend self.old value future.name self.new) }
         ensures fresh { IfOk result (λ future. future.has_ended ≡ false) }
@@ -135,8 +130,7 @@ impl<T: Drop, B: RingBuf<Item = T>, W: Drop> ChannelState<T, B, W> {
     }
 
     /// A future that receives one value, or None once the channel is closed and empty. Refused only with `NoMemory`; then
-    /// nothing has
-    /// changed. Keeps `GenericChannel::receive`.
+    /// nothing has changed. Keeps `GenericChannel::receive`.
     pub fn receive(&mut self) -> Result<LocalReceiveFuture, Fault>
         ensures made { IfOk result (λ future. MakesReceive self.old Single future.name self.new) }
         ensures fresh { IfOk result (λ future. future.has_ended ≡ false) }
@@ -148,8 +142,8 @@ impl<T: Drop, B: RingBuf<Item = T>, W: Drop> ChannelState<T, B, W> {
         Ok(LocalReceiveFuture::at(slot))
     }
 
-    /// A stream of the values: it receives one after another, and ends once the channel is closed and empty. Refused only with
-    /// `NoMemory`; then nothing has changed. Keeps `GenericChannel::stream`.
+    /// A stream of the values: it receives one after another, and ends once the channel is closed and empty. Refused only
+    /// with `NoMemory`; then nothing has changed. Keeps `GenericChannel::stream`.
     pub fn stream(&mut self) -> Result<LocalChannelStream, Fault>
         ensures made { IfOk result (λ future. MakesReceive self.old Stream future.name self.new) }
         ensures fresh { IfOk result (λ future. future.has_ended ≡ false) }
@@ -176,8 +170,7 @@ impl<T: Drop, B: RingBuf<Item = T>, W: Drop> ChannelState<T, B, W> {
     }
 
     /// Makes a send of this value under a slot that was not live. Refused only for want of memory; then the value comes back
-    /// and nothing
-    /// has changed.
+    /// and nothing has changed.
     pub fn claim_send(&mut self, value: T) -> Result<Slot, NoRoom<T>>
         ensures made { IfOk result (λ slot. MakesSend self.old value slot.0 self.new) }
         ensures refused { OnErr result (self.new ≡ self.old) }
@@ -212,8 +205,7 @@ impl<T: Drop, B: RingBuf<Item = T>, W: Drop> ChannelState<T, B, W> {
     }
 
     /// Polls the stream under this slot: ready with its next item, or with None once the channel is closed and empty, and
-    /// ever after;
-    /// else it is registered with this waker. `remove_receive_waiter` cancels it.
+    /// ever after; else it is registered with this waker. `remove_receive_waiter` cancels it.
     pub fn next_or_register(&mut self, slot: Slot, waker: W) -> (Poll<Option<T>>, Leftover<W>)
         requires { channel.can_stream (kind_of self.old slot.0) (receive_phase self.old slot.0) ≡ true }
         ensures polled { PollsNext self.old slot.0 waker result.0 self.new }

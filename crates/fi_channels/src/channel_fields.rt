@@ -240,8 +240,7 @@ impl<T: Drop, B: RingBuf<Item = T>, W: Drop> ChannelFields<T, B, W> {
     }
 
     /// Sends a value at once, if the channel is open and its buffer has room; tells the oldest receive. Else the value comes
-    /// back and
-    /// nothing has changed.
+    /// back and nothing has changed.
     pub fn try_send(&mut self, value: T) -> Result<(), TrySendError<T>>
         requires { IsSound (machine_of B.bounded self.old) }
         ensures { TriesSend (machine_of B.bounded self.old) value result (machine_of B.bounded self.new) }
@@ -260,8 +259,7 @@ impl<T: Drop, B: RingBuf<Item = T>, W: Drop> ChannelFields<T, B, W> {
     }
 
     /// Polls a send: its value is stored or waits with it, and the oldest receive is told; a closed channel hands it back.
-    /// Refused where
-    /// memory to store it was: then nothing has changed, and the send still owns its value.
+    /// Refused where memory to store it was: then nothing has changed, and the send still owns its value.
     pub fn send_or_register(&mut self, slot: Slot, waker: W) -> Sent<T, W>
         requires sound { IsSound (machine_of B.bounded self.old) }
         requires live { can_send (phase_of self.old.waiters.sends slot.0) ≡ true }

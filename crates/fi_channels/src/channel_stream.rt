@@ -19,8 +19,7 @@ pub type LocalChannelStream = LocalFutureOf<ChannelStreaming>;
 
 impl LocalFutureOf<ChannelStreaming> {
     /// Ready with the next value, or with None once the channel is closed and empty, and ever after; else the stream is
-    /// registered with
-    /// this waker. The caller lends the stream's own channel. Keeps `Stream::poll_next` of `ChannelStream`.
+    /// registered with this waker. The caller lends the stream's own channel. Keeps `Stream::poll_next` of `ChannelStream`.
     pub fn poll_next<T: Drop, B: RingBuf<Item = T>, W: Drop>(
         &mut self,
         channel: &mut ChannelState<T, B, W>,

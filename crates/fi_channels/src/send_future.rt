@@ -17,12 +17,10 @@ pub type LocalSendFuture = LocalFutureOf<ChannelSend>;
 
 impl LocalFutureOf<ChannelSend> {
     /// Ready once the value is stored or was taken; ready with the value where the channel is closed; else the send waits
-    /// with its
-    /// value, registered with this waker.
+    /// with its value, registered with this waker.
     ///
     /// The caller lends the send's own channel, and polls no send that has ended. `Ready(Err(SendFault::Fault(NoMemory)))`
-    /// says that
-    /// the buffer could not grow; then nothing has changed, and the send may be polled again.
+    /// says that the buffer could not grow; then nothing has changed, and the send may be polled again.
     pub fn poll<C: ChannelSendAccess>(
         &mut self,
         channel: &mut C,
