@@ -1,6 +1,7 @@
 //! The timer: each call by slot and by local future, and makings in every kind of state.
 
 mod makings;
+mod semaphore;
 
 use crate::{LocalTimerService, TimerState};
 use fi_parts::Slot;
