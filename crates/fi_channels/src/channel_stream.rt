@@ -8,7 +8,7 @@ use crate::local_future::LocalFutureOf;
 use fi_parts::buffer::RingBuf;
 use futures::task::Poll;
 
-/// To receive one value after another from a channel.
+/// What a stream waits for: the next value, and the one after it.
 pub struct ChannelStreaming;
 
 /// Receives the values of a local channel, one after another. It is spent by `cancel`, with its channel; it cannot just be

@@ -7,7 +7,7 @@ use crate::channel_errors::SendFault;
 use crate::local_future::LocalFutureOf;
 use futures::task::Poll;
 
-/// To send on a channel.
+/// What a send's future waits for: that its value is stored or taken.
 pub struct ChannelSend;
 
 /// Sends a value on a local channel. It is spent by `cancel`, with its channel; it cannot just be let go.

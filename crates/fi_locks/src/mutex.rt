@@ -31,7 +31,7 @@ pub struct MutexState<T, W> {
     fields: Fields<T, W>,
 }
 
-/// The mutex for one thread: futures are polled with the mutex lent to them.
+/// The mutex for one thread: futures are polled with the mutex lent to them. Keeps `LocalMutex` of futures-intrusive's `sync`.
 pub type LocalMutex<T, W> = MutexState<T, W>;
 
 impl<T, W> Model for MutexState<T, W> {

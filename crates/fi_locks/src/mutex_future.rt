@@ -76,7 +76,7 @@ impl LocalMutexLockFuture {
     }
 
     /// Ends the future, which leaves its mutex. If it was told, the oldest queued future is told in its place. The caller lends
-    /// the future's own mutex.
+    /// the future's own mutex. Keeps the drop of `GenericMutexLockFuture`.
     pub fn cancel<T: Drop, W: Drop>(self, mutex: &mut LocalMutex<T, W>)
         requires { is_some (phase_at mutex.old self.name) ≡ true }
         ensures cancelled { Cancels mutex.old self.name mutex.new }

@@ -28,25 +28,27 @@ struct Fields<W> {
     asked: Asked,
     // Of a fair semaphore: how many permits the told futures need together.
     promised: usize,
-    // Of a fair semaphore: the oldest future that waits and isn't told.
+    // Of a fair semaphore: the oldest future that waits and isn't told. An unfair one doesn't read it.
     untold: Option<Slot>,
     waits: Waits<usize, W>,
 }
 
 /// A semaphore: futures acquire permits, several at once, and give them back.
 ///
-/// A fair semaphore grants its permits in the order in which futures came: it tells the longest front of its queue whose needs
-/// together are free. An unfair one lets a caller that finds permits free pass those that wait.
+/// A fair semaphore tells its futures in the order of their first polls: the longest front of its queue whose needs together are
+/// free. An unfair one lets a caller that finds permits free pass those that wait; if its futures need different numbers of
+/// permits, one whose need is free can be left without a notice.
 ///
 /// It names the wakers to be woken and wakes nobody itself: whoever calls it takes them out by `next_wake`. Each call takes
 /// constant time, and constant time more for each future that it tells; only the makings of futures take memory. Keeps
-/// `Semaphore` of futures-intrusive's `sync`.
+/// `GenericSemaphore` of futures-intrusive's `sync`.
 #[derive(Drop)]
 pub struct SemaphoreState<W> {
     fields: Fields<W>,
 }
 
-/// The semaphore for one thread: futures are polled, and permits given back, with the semaphore lent to them.
+/// The semaphore for one thread: futures are polled, and permits given back, with the semaphore lent to them. Keeps
+/// `LocalSemaphore` of futures-intrusive's `sync`.
 pub type LocalSemaphore<W> = SemaphoreState<W>;
 
 impl<W> Model for SemaphoreState<W> {
@@ -64,7 +66,7 @@ impl<W> Model for SemaphoreState<W> {
 }
 
 impl<W: Drop> SemaphoreState<W> {
-    /// A semaphore with this many free permits, fair or unfair. It takes no memory yet. Keeps `Semaphore::new`.
+    /// A semaphore with this many free permits, fair or unfair. It takes no memory yet. Keeps `GenericSemaphore::new`.
     pub fn new(alloc: Global, is_fair: bool, permits: usize) -> Self
         ensures { result ≡ opened is_fair permits }
     {
@@ -91,7 +93,7 @@ impl<W: Drop> SemaphoreState<W> {
 
     /// A future that acquires this many permits. Refused only with `NoMemory`; then nothing has changed.
     ///
-    /// Keeps `Semaphore::acquire`.
+    /// Keeps `GenericSemaphore::acquire`.
     pub fn acquire(&mut self, permits: usize) -> Result<LocalSemaphoreAcquireFuture, Fault>
         ensures made { IfOk result (λ future. Makes self.old permits future.name self.new) }
         ensures fresh { IfOk result (λ future. future.has_ended ≡ false) }
@@ -103,9 +105,10 @@ impl<W: Drop> SemaphoreState<W> {
         Ok(LocalSemaphoreAcquireFuture::at(slot))
     }
 
-    /// Acquires this many permits if they are free and, in a fair semaphore, nobody waits; none at all are always granted.
+    /// Acquires this many permits if they are free and, in a fair semaphore, nobody waits; none at all are always granted. None if
+    /// they are not granted; then nothing has changed.
     ///
-    /// Keeps `Semaphore::try_acquire`.
+    /// Keeps `GenericSemaphore::try_acquire`.
     pub fn try_acquire(&mut self, permits: usize) -> Option<LocalSemaphoreReleaser>
         ensures tried { TriesAcquire self.old permits (is_some result) self.new }
         ensures granted { MatchOption result ⊤ (λ releaser. releaser ≡ permits) }
@@ -121,7 +124,7 @@ impl<W: Drop> SemaphoreState<W> {
     /// Adds free permits, and tells those who can be granted what they need then.
     ///
     /// Refused with `Overflow` if the permits, free and held, would be more than `usize::MAX`; then nothing has changed.
-    /// Keeps `Semaphore::release`, which does not check.
+    /// Keeps `GenericSemaphore::release`, which does not check.
     pub fn release(&mut self, permits: usize) -> Result<(), Fault>
         ensures released { IfOk result (λ _. Releases self.old permits self.new) }
         ensures refused { OnErr result (self.new ≡ self.old) }
@@ -130,7 +133,7 @@ impl<W: Drop> SemaphoreState<W> {
         self.fields.release(permits)
     }
 
-    /// How many permits are free. Keeps `Semaphore::permits`.
+    /// How many permits are free. Keeps `GenericSemaphore::permits`.
     pub fn permits(&self) -> usize
         ensures { result ≡ self.now.own.free }
     {
@@ -200,7 +203,7 @@ impl<W: Drop> SemaphoreState<W> {
     }
 
     /// Cancels the future under this slot, which is live, and gives back the waker that it had. A notice that it had not used
-    /// is passed on to those who wait.
+    /// is passed on to those who wait. If it waited in a fair semaphore, those behind it are told whose needs are free then.
     pub fn remove_waiter(&mut self, slot: Slot) -> Option<W>
         requires { is_some (phase_at self.old slot.0) ≡ true }
         ensures cancelled { Cancels self.old slot.0 self.new }

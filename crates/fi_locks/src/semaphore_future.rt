@@ -12,7 +12,7 @@ use std::mem;
 
 /// Acquires permits of a local semaphore. It is spent by `cancel`, with its semaphore; it cannot just be let go.
 ///
-/// Keeps `SemaphoreAcquireFuture` of futures-intrusive's `sync`.
+/// Keeps `GenericSemaphoreAcquireFuture` of futures-intrusive's `sync`.
 pub struct LocalSemaphoreAcquireFuture {
     slot: Slot,
     is_ended: bool,
@@ -28,7 +28,7 @@ impl Model for LocalSemaphoreAcquireFuture {
 
 /// Permits of a local semaphore that are held. They are spent by `give_back`, with their semaphore; they cannot just be let go.
 ///
-/// Keeps `SemaphoreReleaser` of futures-intrusive's `sync`.
+/// Keeps `GenericSemaphoreReleaser` of futures-intrusive's `sync`.
 pub struct LocalSemaphoreReleaser {
     permits: usize,
 }
@@ -91,8 +91,10 @@ impl LocalSemaphoreAcquireFuture {
         Poll::Ready(LocalSemaphoreReleaser::of(permits))
     }
 
-    /// Gives up: the future leaves its semaphore, and a notice that it had not used is passed on to those who wait. The caller
-    /// lends the future's own semaphore.
+    /// Gives up: the future leaves its semaphore, and a notice that it had not used is passed on to those who wait. If it waited
+    /// in a fair semaphore, those behind it are told whose needs are free then. The caller lends the future's own semaphore.
+    ///
+    /// Keeps the drop of `GenericSemaphoreAcquireFuture`.
     pub fn cancel<W: Drop>(self, semaphore: &mut LocalSemaphore<W>)
         requires { is_some (phase_at semaphore.old self.name) ≡ true }
         ensures cancelled { Cancels semaphore.old self.name semaphore.new }
@@ -120,7 +122,7 @@ impl LocalSemaphoreReleaser {
 
     /// Gives the permits back, and tells those who can be granted what they need then.
     ///
-    /// The caller lends the permits' own semaphore, which holds them. Keeps the drop of `SemaphoreReleaser`.
+    /// The caller lends the permits' own semaphore, which holds them. Keeps the drop of `GenericSemaphoreReleaser`.
     pub fn give_back<W: Drop>(self, semaphore: &mut LocalSemaphore<W>)
         requires { self ≤ semaphore.old.own.held }
         ensures { GivesBack semaphore.old self semaphore.new }
@@ -131,7 +133,7 @@ impl LocalSemaphoreReleaser {
 
     /// Leaves no permits here, and says how many there were: they are no longer held, and will not be given back.
     ///
-    /// The caller lends the permits' own semaphore, which holds them. Keeps `SemaphoreReleaser::disarm`.
+    /// The caller lends the permits' own semaphore, which holds them. Keeps `GenericSemaphoreReleaser::disarm`.
     pub fn disarm<W: Drop>(&mut self, semaphore: &mut LocalSemaphore<W>) -> usize
         requires { self.old ≤ semaphore.old.own.held }
         ensures disarmed { Disarms semaphore.old self.old semaphore.new }
