@@ -56,6 +56,11 @@ granted permits n = record permits { free = permits.free - n; held = permits.hel
 abbrev pub can_take : Permits → List ℕ → ℕ → Bool
 can_take permits queue n = nat_le n permits.free && (not permits.is_fair || (is_empty queue || n == 0))
 
+-- the permits that a poll granted are held
+abbrev pub AreHeld : Poll ℕ → ℕ → Type 0
+AreHeld (Ready permits) held = permits ≤ held
+AreHeld Pending held = ⊤
+
 module _ {W : Type 0} where
   abbrev pub opened : Bool → ℕ → SemaphoreMachine W
   opened is_fair permits = initial (record { is_fair = is_fair; free = permits; held = 0; asked = NoNeed })

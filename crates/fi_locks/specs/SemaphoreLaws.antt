@@ -27,7 +27,7 @@ use Rattle.fi_locks.specs.declared.asked.Asked.{Asked}
 use Rattle.fi_locks.specs.declared.asked.Asked.TheVariants.{NoNeed, OneNeed, MixedNeeds}
 use Rattle.fi_locks.specs.FrontLaws.{sum_without, not_empty}
 use Rattle.fi_locks.specs.Semaphore.{Permits, SemaphoreMachine, asked_after, granted, can_take, opened, need_of, can_be_polled, is_granted}
-use Rattle.fi_locks.specs.Semaphore.{Tells, StepsTelling, Makes, PollsAs, PollsNeeding, Polls, cancel_tells, Cancels, TriesAcquire, Releases}
+use Rattle.fi_locks.specs.Semaphore.{AreHeld, Tells, StepsTelling, Makes, PollsAs, PollsNeeding, Polls, cancel_tells, Cancels, TriesAcquire, Releases}
 use Rattle.fi_locks.specs.Semaphore.{GivesBack, Disarms, Wakes, is_acquire_phase, IsSound, OwesNoWakeFair, OwesNoWakeUnfair, OwesNoWakeIf, OwesNoWake}
 use Rattle.fi_locks.specs.SemaphoreSoundLaws.{known, rules, no_lack, at_own, Changes, same_need, other_need_inserted, other_need_removed}
 use Rattle.fi_locks.specs.SemaphoreSoundLaws.{told_waits, registered_waits, waiters_after, sound_phase, sound_permits, sound_inserted}
@@ -579,3 +579,37 @@ module _ {W : Type 0} where
   poll_holds old name waker answer new was did =
       poll_as old name waker new was (phase_at old name) (is_granted (phase_at old name) old (need_of old.waiting.side name)) answer refl
       refl did
+
+  -- what was granted is held
+  held_after : (permits : Permits) (need : ℕ) (answer : Poll ℕ) (new : SemaphoreMachine W) → answer ≡ Ready need →
+      new.own ≡ granted permits need → AreHeld answer new.own.held
+  held_after permits need answer new is own = rw (is, own) (omega arith)
+
+  held_as : (phase : Option (Phase W)) (granting : Bool) (need : ℕ) (old : SemaphoreMachine W) (name : ℕ) (waker : W)
+      (answer : Poll ℕ) (new : SemaphoreMachine W) → PollsAs phase granting need old name waker answer new →
+      AreHeld answer new.own.held
+  held_as (Some Fresh) true need old name waker answer new did = held_after old.own need answer new did.0 did.1.0
+  held_as (Some Fresh) false need old name waker answer new did = rw did.0 tt
+  held_as (Some (Registered before)) true need old name waker answer new did = held_after old.own need answer new did.0 did.1.0
+  held_as (Some (Registered before)) false need old name waker answer new did = rw did.0 tt
+  held_as (Some Told) true need old name waker answer new did = each old.own.is_fair did.1
+    where
+      each : (tells : Bool) → StepsTelling tells old (granted old.own need) (EndsPlaced name) new → AreHeld answer new.own.held
+      each true steps = held_after old.own need answer new did.0 steps.2.2.0
+      each false steps = held_after old.own need answer new did.0 steps.0
+  held_as (Some Told) false need old name waker answer new did = rw did.1 tt
+  held_as phase granting need old name waker answer new did = absurd did
+
+  pub polled_held : (old : SemaphoreMachine W) (name : ℕ) (waker : W) (answer : Poll ℕ) (new : SemaphoreMachine W) →
+      Polls old name waker answer new → AreHeld answer new.own.held
+  polled_held old name waker answer new did =
+      held_as (phase_at old name) (is_granted (phase_at old name) old (need_of old.waiting.side name))
+      (need_of old.waiting.side name) old name waker answer new did
+
+  -- a cancel leaves the held permits
+  pub cancelled_held : (old new : SemaphoreMachine W) (name : ℕ) → Cancels old name new → new.own.held ≡ old.own.held
+  cancelled_held old new name did = each (cancel_tells old.own.is_fair (phase_at old name)) did
+    where
+      each : (tells : Bool) → StepsTelling tells old old.own (Removes name) new → new.own.held ≡ old.own.held
+      each true steps = ap (λ (p : Permits). p.held) steps.2.2.0
+      each false steps = ap (λ (p : Permits). p.held) steps.0

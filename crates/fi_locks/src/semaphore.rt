@@ -7,7 +7,7 @@ ghost use Rattle.fi_parts.specs.Places.{is_told};
 ghost use Rattle.fi_parts.specs.Polled.{unused_after};
 ghost use Rattle.fi_parts.specs.Waiting.{phase_of, displaced, is_registered, is_queued, IsOrderedBy};
 ghost use Rattle.fi_parts.specs.declared.phase.Phase.TheVariants as phases;
-ghost use Rattle.fi_locks.specs.Semaphore.{opened, can_be_polled, need_of, can_take, granted, cancel_tells, Makes, Polls, Cancels, TriesAcquire, Releases, GivesBack, Disarms, Wakes, Tells, IsSound, OwesNoWake};
+ghost use Rattle.fi_locks.specs.Semaphore.{opened, can_be_polled, need_of, can_take, granted, cancel_tells, Makes, Polls, Cancels, TriesAcquire, Releases, GivesBack, Disarms, Wakes, Tells, AreHeld, IsSound, OwesNoWake};
 ghost use Rattle.fi_locks.specs.SemaphoreFields.{IsMarked};
 
 use crate::asked::Asked;
@@ -109,6 +109,7 @@ impl<W: Drop> SemaphoreState<W> {
     pub fn try_acquire(&mut self, permits: usize) -> Option<LocalSemaphoreReleaser>
         ensures tried { TriesAcquire self.old permits (is_some result) self.new }
         ensures granted { MatchOption result ⊤ (λ releaser. releaser ≡ permits) }
+        ensures held { MatchOption result ⊤ (λ releaser. releaser ≤ self.new.own.held) }
     {
         if self.try_acquire_sync(permits) {
             Some(LocalSemaphoreReleaser::of(permits))
@@ -191,6 +192,7 @@ impl<W: Drop> SemaphoreState<W> {
     pub fn acquire_or_register(&mut self, slot: Slot, waker: W) -> (Poll<usize>, Leftover<W>)
         requires { can_be_polled (phase_at self.old slot.0) ≡ true }
         ensures polled { Polls self.old slot.0 waker result.0 self.new }
+        ensures held { AreHeld result.0 self.new.own.held }
         ensures displaced { result.1.displaced ≡ displaced_at self.old slot.0 }
         ensures unused { result.1.unused ≡ unused_after result.0 waker }
     {
@@ -202,6 +204,7 @@ impl<W: Drop> SemaphoreState<W> {
     pub fn remove_waiter(&mut self, slot: Slot) -> Option<W>
         requires { is_some (phase_at self.old slot.0) ≡ true }
         ensures cancelled { Cancels self.old slot.0 self.new }
+        ensures held { self.new.own.held ≡ self.old.own.held }
         ensures displaced { result ≡ displaced_at self.old slot.0 }
     {
         self.fields.remove_waiter(slot)

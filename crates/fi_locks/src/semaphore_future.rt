@@ -2,7 +2,7 @@
 ghost use Rattle.std.specs.Prelude.{◌≡◌, ◌≤◌, true, false, is_some};
 ghost use Rattle.fi_parts.specs.Machine.{phase_at};
 ghost use Rattle.fi_parts.specs.Polled.{is_ready};
-ghost use Rattle.fi_locks.specs.Semaphore.{can_be_polled, Polls, Cancels, GivesBack, Disarms};
+ghost use Rattle.fi_locks.specs.Semaphore.{can_be_polled, Polls, Cancels, GivesBack, Disarms, AreHeld};
 
 use crate::semaphore::LocalSemaphore;
 use fi_parts::Slot;
@@ -77,6 +77,7 @@ impl LocalSemaphoreAcquireFuture {
     ) -> Poll<LocalSemaphoreReleaser>
         requires { can_be_polled (phase_at semaphore.old self.old.name) ≡ true }
         ensures polled { Polls semaphore.old self.old.name waker result semaphore.new }
+        ensures held { AreHeld result semaphore.new.own.held }
         ensures name { self.new.name ≡ self.old.name }
         ensures ended { self.new.has_ended ≡ is_ready result }
         ensures live { is_some (phase_at semaphore.new self.old.name) ≡ true }
@@ -94,7 +95,8 @@ impl LocalSemaphoreAcquireFuture {
     /// lends the future's own semaphore.
     pub fn cancel<W: Drop>(self, semaphore: &mut LocalSemaphore<W>)
         requires { is_some (phase_at semaphore.old self.name) ≡ true }
-        ensures { Cancels semaphore.old self.name semaphore.new }
+        ensures cancelled { Cancels semaphore.old self.name semaphore.new }
+        ensures held { semaphore.new.own.held ≡ semaphore.old.own.held }
     {
         let LocalSemaphoreAcquireFuture { slot, is_ended: _ } = self;
         semaphore.remove_waiter(slot);

@@ -3,6 +3,7 @@
 mod makings;
 mod mutex;
 mod mutex_reference;
+mod semaphore;
 
 use crate::{LocalTimerService, TimerState};
 use fi_parts::Slot;
