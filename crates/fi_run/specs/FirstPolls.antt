@@ -12,8 +12,8 @@ module _ {W : Type 0} where
   order_step (Leaves name) order = without name order
   order_step on_wakers order = order
 
-  -- The futures that were polled and neither ended nor cancelled since, in the order of their first polls; those that waited at first
-  -- come before.
+  -- The futures that were polled and neither ended nor cancelled since, in the order of their first polls; those that waited
+  -- at first come before.
   abbrev pub order_after : {E : Type 0} → (E → WakerEffect W) → List ℕ → List E → List ℕ
   order_after waker_effect first [] = first
   order_after waker_effect first (entry ∷ history) = order_step (waker_effect entry) (order_after waker_effect first history)

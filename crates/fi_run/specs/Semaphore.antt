@@ -4,12 +4,14 @@ use Rattle.futures.specs.declared.task.Poll.TheVariants as polled
 use Rattle.fi_parts.specs.declared.errors.Fault.{Fault}
 use Rattle.fi_parts.specs.declared.errors.Fault.TheVariants.{NoMemory, NoSlot, Overflow, NotHeld}
 use Rattle.fi_parts.specs.Machine.{phase_at}
-use Rattle.fi_locks.specs.Semaphore.{SemaphoreMachine, opened, can_be_polled, need_of, Makes, Polls, Cancels, TriesAcquire, Releases}
+use Rattle.fi_locks.specs.Semaphore.{SemaphoreMachine, opened, can_be_polled, need_of, Makes, Polls, Cancels}
+use Rattle.fi_locks.specs.Semaphore.{TriesAcquire, Releases}
 use Rattle.fi_locks.specs.Semaphore.{GivesBack, Disarms, Wakes}
 use Rattle.fi_run.specs.declared.answer.Answer.{Answer}
 use Rattle.fi_run.specs.declared.answer.Answer.TheVariants.{Made, Pending, Ready, Nothing, Done, Number, Woken, Refused}
 use Rattle.fi_run.specs.declared.semaphore.SemaphoreCall.{SemaphoreCall}
-use Rattle.fi_run.specs.declared.semaphore.SemaphoreCall.TheVariants.{Acquire, Poll, Cancel, TryAcquire, Release, GiveBack, Disarm}
+use Rattle.fi_run.specs.declared.semaphore.SemaphoreCall.TheVariants.{Acquire, Poll, Cancel, TryAcquire, Release}
+use Rattle.fi_run.specs.declared.semaphore.SemaphoreCall.TheVariants.{GiveBack, Disarm}
 use Rattle.fi_run.specs.declared.semaphore.SemaphoreCall.TheVariants.{Permits, Held, NextWake}
 
 module _ {W : Type 0} where

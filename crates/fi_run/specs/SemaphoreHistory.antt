@@ -52,8 +52,8 @@ module _ {W : Type 0} where
   abbrev pub effect_of : SemaphoreCall W × Answer ℕ W → WakerEffect W
   effect_of entry = on_wakers (subject entry.0) entry.1
 
-  -- The futures that were polled and neither granted nor cancelled since, in the order of their first polls. Those that were queued in
-  -- the first state come before, in their order there.
+  -- The futures that were polled and neither granted nor cancelled since, in the order of their first polls. Those that were
+  -- queued in the first state come before, in their order there.
   abbrev pub waiting_after : SemaphoreMachine W → List (SemaphoreCall W × Answer ℕ W) → List ℕ
   waiting_after first history = order_after effect_of first.waiting.side.queue history
 

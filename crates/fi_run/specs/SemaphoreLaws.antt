@@ -11,7 +11,8 @@ use Rattle.fi_locks.specs.SemaphoreSoundLaws.{rules}
 use Rattle.fi_run.specs.declared.answer.Answer.{Answer}
 use Rattle.fi_run.specs.declared.answer.Answer.TheVariants.{Made, Pending, Ready, Nothing, Done, Number, Woken, Refused}
 use Rattle.fi_run.specs.declared.semaphore.SemaphoreCall.{SemaphoreCall}
-use Rattle.fi_run.specs.declared.semaphore.SemaphoreCall.TheVariants.{Acquire, Poll, Cancel, TryAcquire, Release, GiveBack, Disarm}
+use Rattle.fi_run.specs.declared.semaphore.SemaphoreCall.TheVariants.{Acquire, Poll, Cancel, TryAcquire, Release}
+use Rattle.fi_run.specs.declared.semaphore.SemaphoreCall.TheVariants.{GiveBack, Disarm}
 use Rattle.fi_run.specs.declared.semaphore.SemaphoreCall.TheVariants.{Permits, Held, NextWake}
 use Rattle.fi_run.specs.FirstPolls.{order_step}
 use Rattle.fi_run.specs.Outgoing.{TakesOldest, machine_outgoing, pops_oldest}
@@ -69,7 +70,8 @@ module _ {W : Type 0} where
       IsSound old → OwesNoWake old → Step old call answer new → IsSound new × OwesNoWake new
   semaphore_keeps old call answer new sound no_wake did = holds_after old call answer new (sound, no_wake) did
 
-  pub semaphore_starts : (opening : ℕ × Bool) (state : SemaphoreMachine W) → Opens opening state → IsSound state × OwesNoWake state
+  pub semaphore_starts : (opening : ℕ × Bool) (state : SemaphoreMachine W) → Opens opening state →
+      IsSound state × OwesNoWake state
   semaphore_starts opening state opens =
       subst (λ (s : SemaphoreMachine W). IsSound s × OwesNoWake s) (sym opens.1) (laws.opened_holds opening.1 opening.0 opens.0)
 
@@ -98,11 +100,13 @@ module _ {W : Type 0} where
   moves old new call answer did = absurd did
 
   -- who waits after a step of a fair semaphore
-  queue_is : (old new : SemaphoreMachine W) → IsSound old → old.own.is_fair ≡ true → (call : SemaphoreCall W) (answer : Answer ℕ W) →
+  queue_is : (old new : SemaphoreMachine W) → IsSound old → old.own.is_fair ≡ true →
+      (call : SemaphoreCall W) (answer : Answer ℕ W) →
       Step old call answer new → order_step (on_wakers (subject call) answer) old.waiting.side.queue ≡ new.waiting.side.queue
   queue_is old new sound fair call (Refused fault) did = steps.unchanged_queue old new did.1
   queue_is old new sound fair (Acquire need) (Made slot) did = steps.made_queue old new sound fair need slot.0 did
-  queue_is old new sound fair (Poll slot waker) Pending did = steps.polled_queue old new sound fair slot.0 waker polled.Pending did
+  queue_is old new sound fair (Poll slot waker) Pending did =
+      steps.polled_queue old new sound fair slot.0 waker polled.Pending did
   queue_is old new sound fair (Poll slot waker) Ready did =
       steps.polled_queue old new sound fair slot.0 waker (polled.Ready (need_of old.waiting.side slot.0)) did
   queue_is old new sound fair (Cancel slot) Done did = steps.cancelled_queue old new sound fair slot.0 did
@@ -124,15 +128,16 @@ module _ {W : Type 0} where
     wakers = kept_at_first {E = SemaphoreCall W × Answer ℕ W} effect_of state.waiting;
   }
 
-  pub semaphore_history_preserved : (first : SemaphoreMachine W) (history : List (SemaphoreCall W × Answer ℕ W)) (old : SemaphoreMachine W)
-      (call : SemaphoreCall W) (answer : Answer ℕ W) (new : SemaphoreMachine W) →
+  pub semaphore_history_preserved : (first : SemaphoreMachine W) (history : List (SemaphoreCall W × Answer ℕ W))
+      (old : SemaphoreMachine W) (call : SemaphoreCall W) (answer : Answer ℕ W) (new : SemaphoreMachine W) →
       IsSound old → OwesNoWake old → HistoryHolds first history old → Step old call answer new →
       HistoryHolds first ((call, answer) ∷ history) new
   semaphore_history_preserved first history old call answer new sound no_wake was did =
       let moved = moves old new call answer did in
       record {
         permits = still_add_up (old.own.free + old.own.held) (new.own.free + new.own.held) (released_by call answer)
-            (disarmed_by call answer) (released history) (disarmed history) (first.own.free + first.own.held) was.permits moved.sum;
+            (disarmed_by call answer) (released history) (disarmed history) (first.own.free + first.own.held)
+            was.permits moved.sum;
         is_fair = moved.is_fair ∙ was.is_fair;
         waiting = λ fair. ap (order_step (on_wakers (subject call) answer)) (was.waiting fair)
             ∙ queue_is old new sound (was.is_fair ∙ fair) call answer did;
@@ -141,8 +146,9 @@ module _ {W : Type 0} where
       }
 
   -- In a state that owes no wake the told are a front of the queue.
-  pub are_told_in_order : (first : SemaphoreMachine W) (history : List (SemaphoreCall W × Answer ℕ W)) (state : SemaphoreMachine W) →
-      OwesNoWake state → HistoryHolds first history state → IsFair first → AreToldInOrder first history state
+  pub are_told_in_order : (first : SemaphoreMachine W) (history : List (SemaphoreCall W × Answer ℕ W))
+      (state : SemaphoreMachine W) → OwesNoWake state → HistoryHolds first history state → IsFair first →
+      AreToldInOrder first history state
   are_told_in_order first history state no_wake was fair =
       let owed = laws.owes_fair state (was.is_fair ∙ fair) no_wake in record {
         told = owed.told;

@@ -16,7 +16,8 @@ use Rattle.fi_parts.specs.WakerHistory.{gives}
 use Rattle.fi_parts.proofs.PairsWithin.{if_true, if_false}
 use Rattle.fi_parts.proofs.Slots.{without_absent}
 use Rattle.fi_locks.specs.Semaphore.{Permits, SemaphoreMachine, granted, need_of, is_granted, StepsTelling, Makes, PollsAs, Polls}
-use Rattle.fi_locks.specs.Semaphore.{cancel_tells, Cancels, TriesAcquire, Releases, GivesBack, Disarms, Wakes, IsSound, asked_after}
+use Rattle.fi_locks.specs.Semaphore.{cancel_tells, Cancels, TriesAcquire, Releases, GivesBack, Disarms, Wakes}
+use Rattle.fi_locks.specs.Semaphore.{IsSound, asked_after}
 use Rattle.fi_locks.specs.SemaphoreLaws.{taken_are_free, unqueued}
 use Rattle.fi_run.specs.FirstPolls.{order_step}
 
@@ -90,7 +91,8 @@ module _ {W : Type 0} where
         moves 0 n (record old.own { held = old.own.held - n }) did.1.0 refl (disarmed_sum old.own.free old.own.held n did.0)
 
     module _ (name : ℕ) (waker : W) where
-      polled_as : (phase : Option (Phase W)) (granting : Bool) (need : ℕ) (answer : Poll ℕ) → is_granted phase old need ≡ granting →
+      polled_as : (phase : Option (Phase W)) (granting : Bool) (need : ℕ) (answer : Poll ℕ) →
+          is_granted phase old need ≡ granting →
           PollsAs phase granting need old name waker answer new → Moves 0 0 old new
       polled_as (Some Fresh) true need answer takes did =
           grants need (taken_are_free old.own old.waiting.side.queue need takes) did.1.0
@@ -113,7 +115,8 @@ module _ {W : Type 0} where
       needed : (n need : ℕ) → Ready n ≡ Ready need → n ≡ need
       needed n need same = cc
 
-      ready_as : (phase : Option (Phase W)) (granting : Bool) (need n : ℕ) → PollsAs phase granting need old name waker (Ready n) new →
+      ready_as : (phase : Option (Phase W)) (granting : Bool) (need n : ℕ) →
+          PollsAs phase granting need old name waker (Ready n) new →
           n ≡ need
       ready_as (Some Fresh) true need n did = needed n need did.0
       ready_as (Some Fresh) false need n did = absurd (cc did.0)
@@ -145,7 +148,8 @@ module _ {W : Type 0} where
         sym (ap queue_in did.2.2.1.2 ∙ if_true permits.is_fair did.0.side.queue did.2.2.1.0 fair ∙ after did.0 did.1)
     telling_queue false permits effect queue fair after did = sym (after new.waiting did.1)
 
-    pub tried_queue : (n : ℕ) (granting : Bool) → TriesAcquire old n granting new → old.waiting.side.queue ≡ new.waiting.side.queue
+    pub tried_queue : (n : ℕ) (granting : Bool) → TriesAcquire old n granting new →
+        old.waiting.side.queue ≡ new.waiting.side.queue
     tried_queue n granting did = sym (ap queue_in did.1.1)
 
     pub disarmed_queue : (n : ℕ) → Disarms old n new → old.waiting.side.queue ≡ new.waiting.side.queue
@@ -164,8 +168,8 @@ module _ {W : Type 0} where
 
       pub cancelled_queue : (name : ℕ) → Cancels old name new → without name old.waiting.side.queue ≡ new.waiting.side.queue
       cancelled_queue name did =
-          telling_queue (cancel_tells old.own.is_fair (phase_at old name)) old.own (Removes name) (without name old.waiting.side.queue)
-          fair (λ mid taken. ap queue_in taken.1) did
+          telling_queue (cancel_tells old.own.is_fair (phase_at old name)) old.own (Removes name)
+          (without name old.waiting.side.queue) fair (λ mid taken. ap queue_in taken.1) did
 
       pub released_queue : (n : ℕ) → Releases old n new → old.waiting.side.queue ≡ new.waiting.side.queue
       released_queue n did =
