@@ -1,5 +1,6 @@
 pub mod Run
 pub mod WakerEffects
+pub mod FirstPolls
 pub mod Outgoing
 pub mod Event
 pub mod EventHistory
@@ -17,3 +18,7 @@ pub mod TimerLaws
 pub mod Mutex
 pub mod MutexHistory
 pub mod MutexLaws
+pub mod Semaphore
+pub mod SemaphoreHistory
+pub mod SemaphoreSteps
+pub mod SemaphoreLaws

@@ -6,6 +6,7 @@ mod event;
 mod mutex;
 mod oneshot;
 mod runs;
+mod semaphore;
 mod state;
 #[cfg(test)]
 mod tests;
@@ -16,5 +17,6 @@ pub use event::{EventCall, every_run_of_an_event};
 pub use mutex::{MutexCall, every_run_of_a_mutex};
 pub use oneshot::{OneshotCall, every_run_of_a_oneshot, every_run_of_a_oneshot_broadcast};
 pub use runs::{Primitive, every_run, run};
+pub use semaphore::{SemaphoreCall, every_run_of_a_semaphore};
 pub use state::{StateCall, every_run_of_a_state_broadcast};
 pub use timer::{TimerCall, every_run_of_a_timer};

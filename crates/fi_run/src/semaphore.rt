@@ -1,0 +1,545 @@
+//! The semaphore as a primitive.
+ghost use Rattle.std.specs.Prelude.{◌≡◌, ℕ, Bool, IsOk, IfOk, IfErr};
+ghost use Rattle.fi_locks.specs.Semaphore.{SemaphoreMachine, IsSound, OwesNoWake};
+ghost use Rattle.fi_run.specs.Semaphore.{Opens, Step};
+ghost use Rattle.fi_run.specs.SemaphoreHistory.{PermitsAddUp, AreToldInOrder, IsFair, WakersAreKept};
+ghost use Rattle.fi_run.specs.Run.{AfterEveryRun};
+ghost use Rattle.fi_run.specs.declared.answer.Answer.{Answer};
+ghost use Rattle.fi_run.specs.declared.semaphore.SemaphoreCall.{SemaphoreCall};
+ghost use Rattle.fi_run.specs.declared.semaphore.SemaphoreCall.TheVariants as calls;
+
+use crate::answer::Answer;
+use crate::runs::{Primitive, every_run};
+use fi_locks::SemaphoreState;
+use fi_parts::{Fault, Slot};
+use futures::task::Poll;
+use std::alloc::Global;
+
+/// A call on a semaphore.
+#[derive(Clone, Copy, Debug, PartialEq, Eq, Drop)]
+pub enum SemaphoreCall<W> {
+    /// Makes a future that acquires this many permits. Answers `Made`.
+    Acquire(usize),
+    /// Polls a future. Answers `Pending`, or `Ready`: the permits that it needs are held then.
+    Poll(Slot, W),
+    /// Cancels a future. Answers `Done`.
+    Cancel(Slot),
+    /// Acquires this many permits if they are there for the caller. Answers `Done`, `Nothing`.
+    TryAcquire(usize),
+    /// Adds this many free permits. Answers `Done`; `Overflow` if a `usize` could not count them all.
+    Release(usize),
+    /// Makes this many held permits free again. Answers `Done`; `NotHeld` if fewer are held.
+    GiveBack(usize),
+    /// Forgets this many held permits. Answers `Done`; `NotHeld` if fewer are held.
+    Disarm(usize),
+    /// Asks how many permits are free. Answers `Number`.
+    Permits,
+    /// Asks how many permits are held. Answers `Number`.
+    Held,
+    /// Takes out the oldest waker. Answers `Woken`.
+    NextWake,
+}
+
+impl<W: Drop> Primitive for SemaphoreState<W> {
+    ghost use Rattle.fi_locks.specs.Semaphore.{IsSound, OwesNoWake};
+    ghost use Rattle.fi_run.specs.Semaphore.{Opens, Step};
+    ghost use Rattle.fi_run.specs.SemaphoreHistory.{HistoryHolds};
+    ghost use Rattle.fi_run.specs.declared.answer.Answer.TheVariants.{Woken};
+    ghost use Rattle.fi_run.specs.declared.semaphore.SemaphoreCall.TheVariants.{NextWake};
+    ghost use Rattle.fi_run.specs.Outgoing.{machine_outgoing};
+    ghost use Rattle.fi_run.specs.SemaphoreLaws.{semaphore_starts, semaphore_keeps, semaphore_takes_oldest, semaphore_history_initial, semaphore_history_preserved};
+
+    type Opening = (usize, bool);
+
+    type Call = SemaphoreCall<W>;
+
+    type Answer = Answer<u64, W>;
+
+    type Waker = W;
+
+    ghost step = { Step };
+
+    ghost opens = { Opens };
+
+    ghost is_sound = { IsSound };
+
+    ghost owes_no_wake = { OwesNoWake };
+
+    ghost history_invariant = { HistoryHolds };
+
+    ghost outgoing = { machine_outgoing };
+
+    ghost take_waker = { NextWake };
+
+    ghost hands_out = { λ waker. Woken waker };
+
+    ghost starts = { semaphore_starts };
+
+    ghost keeps = { semaphore_keeps };
+
+    ghost history_initial = { semaphore_history_initial };
+
+    ghost takes_oldest = { semaphore_takes_oldest };
+
+    ghost history_preserved = { semaphore_history_preserved };
+
+    fn open(alloc: Global, opening: (usize, bool)) -> Result<Self, Fault>
+        ensures opened { IfOk result (λ state. Opens opening state) }
+        ensures fault { IfErr result (λ fault. fault ≡ Fault.NoMemory) }
+        // It takes no memory.
+        ensures succeeds { IsOk result }
+    {
+        let (permits, is_fair) = opening;
+        Ok(SemaphoreState::new(alloc, is_fair, permits))
+    }
+
+    #[inline(always)]
+    fn apply(&mut self, call: SemaphoreCall<W>) -> Answer<u64, W> {
+        match call {
+            SemaphoreCall::Acquire(permits) => match self.claim_acquire(permits) {
+                Ok(slot) => Answer::Made(slot),
+                Err(fault) => Answer::Refused(fault),
+            },
+            SemaphoreCall::Poll(slot, waker) => poll(self, slot, waker),
+            SemaphoreCall::Cancel(slot) => {
+                if !self.is_live(slot) {
+                    return Answer::Refused(Fault::NoSlot);
+                }
+                self.remove_waiter(slot);
+                Answer::Done
+            }
+            SemaphoreCall::TryAcquire(permits) => {
+                if self.try_acquire_sync(permits) {
+                    return Answer::Done;
+                }
+                Answer::Nothing
+            }
+            SemaphoreCall::Release(permits) => match self.release(permits) {
+                Ok(()) => Answer::Done,
+                Err(fault) => Answer::Refused(fault),
+            },
+            SemaphoreCall::GiveBack(permits) => give_back(self, permits),
+            SemaphoreCall::Disarm(permits) => disarm(self, permits),
+            SemaphoreCall::Permits => Answer::Number(self.permits()),
+            SemaphoreCall::Held => Answer::Number(self.held()),
+            SemaphoreCall::NextWake => Answer::Woken(self.next_wake()),
+        }
+    }
+
+    fn next_wake_call() -> SemaphoreCall<W> {
+        SemaphoreCall::NextWake
+    }
+
+    fn show(&self) {
+        SemaphoreState::show(self);
+    }
+}
+
+fn poll<W: Drop>(semaphore: &mut SemaphoreState<W>, slot: Slot, waker: W) -> Answer<u64, W>
+    ensures { Step semaphore.old (calls.Poll slot waker) result semaphore.new }
+{
+    if !semaphore.can_poll(slot) {
+        return Answer::Refused(Fault::NoSlot);
+    }
+    let (answer, _leftover) = semaphore.acquire_or_register(slot, waker);
+    match answer {
+        Poll::Ready(_) => Answer::Ready,
+        Poll::Pending => Answer::Pending,
+    }
+}
+
+fn give_back<W: Drop>(semaphore: &mut SemaphoreState<W>, permits: usize) -> Answer<u64, W>
+    ensures { Step semaphore.old (calls.GiveBack permits) result semaphore.new }
+{
+    if permits > semaphore.held() {
+        return Answer::Refused(Fault::NotHeld);
+    }
+    semaphore.give_back(permits);
+    Answer::Done
+}
+
+fn disarm<W: Drop>(semaphore: &mut SemaphoreState<W>, permits: usize) -> Answer<u64, W>
+    ensures { Step semaphore.old (calls.Disarm permits) result semaphore.new }
+{
+    if semaphore.held() < permits {
+        return Answer::Refused(Fault::NotHeld);
+    }
+    semaphore.disarm(permits);
+    Answer::Done
+}
+
+/// Every semaphore follows its promises, in every run from a sound state that owes no wake, so from an opening: its permits, free
+/// and held, are those that it had and those released, without those disarmed; of a fair one the told futures are the first of
+/// those that wait, in the order of first polls; a pending future's last waker is registered, stands in the outbox, or was handed
+/// out since; and no wake is owed.
+///
+/// A future that needs no permits never waits.
+pub fn every_run_of_a_semaphore<W: Drop>()
+    ensures opened { (permits : ℕ) (is_fair : Bool) (first : SemaphoreMachine W) → Opens (permits, is_fair) first → IsSound first × OwesNoWake first }
+    ensures permits { AfterEveryRun {S = SemaphoreMachine W} IsSound OwesNoWake Step (λ first history now. PermitsAddUp first history now) }
+    ensures in_order { AfterEveryRun {S = SemaphoreMachine W} IsSound OwesNoWake Step (λ first history now. IsFair first → AreToldInOrder first history now) }
+    ensures wakers { AfterEveryRun {S = SemaphoreMachine W} IsSound OwesNoWake Step (λ first history now. WakersAreKept first history now) }
+    ensures no_wake { AfterEveryRun {S = SemaphoreMachine W} IsSound OwesNoWake Step (λ first history now. IsSound now × OwesNoWake now) }
+{
+    every_run::<SemaphoreState<W>>();
+}
+
+#[cfg(test)]
+mod tests {
+    use super::*;
+    use crate::runs::run;
+    use std::test::Fail;
+
+    const A: Slot = Slot(0);
+
+    const B: Slot = Slot(1);
+
+    const C: Slot = Slot(2);
+
+    const D: Slot = Slot(3);
+
+    // A semaphore of this opening answers these calls so.
+    fn answers(
+        alloc: Global,
+        opening: (usize, bool),
+        calls: Vec<SemaphoreCall<u64>>,
+        wanted: &[Answer<u64, u64>],
+    ) -> Result<bool, Fail> {
+        let mut semaphore: SemaphoreState<u64> = SemaphoreState::open(alloc, opening)?;
+        let mut out = Vec::new(alloc);
+        run(&mut semaphore, calls, &mut out)?;
+        Primitive::show(&semaphore);
+        Ok(out.as_slice() == wanted)
+    }
+
+    #[test]
+    fn semaphore_fair_cancel(rt: HostRuntime) -> Result<(), Fail> {
+        let calls = vec![in rt.alloc();
+            SemaphoreCall::Acquire(5),
+            SemaphoreCall::Acquire(2),
+            SemaphoreCall::Poll(A, 1),
+            SemaphoreCall::Poll(B, 2),
+            SemaphoreCall::Cancel(A),
+            SemaphoreCall::NextWake,
+            SemaphoreCall::NextWake,
+            SemaphoreCall::Poll(B, 2),
+            SemaphoreCall::Permits,
+            SemaphoreCall::Held,
+        ]?;
+        let wanted = [
+            Answer::Made(A),
+            Answer::Made(B),
+            Answer::Pending,
+            Answer::Pending,
+            Answer::Done,
+            Answer::Woken(Some(2)),
+            Answer::Woken(None),
+            Answer::Ready,
+            Answer::Number(1),
+            Answer::Number(2),
+        ];
+        assert!(rt; answers(rt.alloc(), (3, true), calls, wanted.as_slice())?);
+        Ok(())
+    }
+
+    #[test]
+    fn semaphore_unfair_mixed(rt: HostRuntime) -> Result<(), Fail> {
+        let calls = vec![in rt.alloc();
+            SemaphoreCall::Acquire(3),
+            SemaphoreCall::Acquire(3),
+            SemaphoreCall::Acquire(1),
+            SemaphoreCall::Poll(A, 1),
+            SemaphoreCall::Poll(B, 2),
+            SemaphoreCall::Poll(C, 3),
+            SemaphoreCall::Release(4),
+            SemaphoreCall::NextWake,
+            SemaphoreCall::NextWake,
+            SemaphoreCall::Poll(B, 2),
+            SemaphoreCall::Permits,
+            SemaphoreCall::Poll(A, 1),
+            SemaphoreCall::NextWake,
+            SemaphoreCall::Poll(C, 3),
+            SemaphoreCall::Permits,
+        ]?;
+        let wanted = [
+            Answer::Made(A),
+            Answer::Made(B),
+            Answer::Made(C),
+            Answer::Pending,
+            Answer::Pending,
+            Answer::Pending,
+            Answer::Done,
+            Answer::Woken(Some(1)),
+            Answer::Woken(None),
+            Answer::Ready,
+            Answer::Number(1),
+            Answer::Pending,
+            Answer::Woken(None),
+            Answer::Ready,
+            Answer::Number(0),
+        ];
+        assert!(rt; answers(rt.alloc(), (0, false), calls, wanted.as_slice())?);
+        Ok(())
+    }
+
+    #[test]
+    fn semaphore_limits(rt: HostRuntime) -> Result<(), Fail> {
+        let calls = vec![in rt.alloc();
+            SemaphoreCall::TryAcquire(1),
+            SemaphoreCall::Release(1),
+            SemaphoreCall::Release(0),
+            SemaphoreCall::NextWake,
+            SemaphoreCall::GiveBack(1),
+            SemaphoreCall::NextWake,
+            SemaphoreCall::Permits,
+            SemaphoreCall::GiveBack(1),
+        ]?;
+        let wanted = [
+            Answer::Done,
+            Answer::Refused(Fault::Overflow),
+            Answer::Done,
+            Answer::Woken(None),
+            Answer::Done,
+            Answer::Woken(None),
+            Answer::Number(usize::MAX),
+            Answer::Refused(Fault::NotHeld),
+        ];
+        assert!(rt; answers(rt.alloc(), (usize::MAX, false), calls, wanted.as_slice())?);
+        Ok(())
+    }
+
+    #[test]
+    fn semaphore_disarm(rt: HostRuntime) -> Result<(), Fail> {
+        let calls = vec![in rt.alloc();
+            SemaphoreCall::TryAcquire(2),
+            SemaphoreCall::Disarm(2),
+            SemaphoreCall::NextWake,
+            SemaphoreCall::Held,
+            SemaphoreCall::GiveBack(1),
+            SemaphoreCall::Disarm(1),
+            SemaphoreCall::Release(2),
+            SemaphoreCall::NextWake,
+            SemaphoreCall::Permits,
+        ]?;
+        let wanted = [
+            Answer::Done,
+            Answer::Done,
+            Answer::Woken(None),
+            Answer::Number(0),
+            Answer::Refused(Fault::NotHeld),
+            Answer::Refused(Fault::NotHeld),
+            Answer::Done,
+            Answer::Woken(None),
+            Answer::Number(2),
+        ];
+        assert!(rt; answers(rt.alloc(), (2, false), calls, wanted.as_slice())?);
+        Ok(())
+    }
+
+    #[test]
+    fn semaphore_zero_permits(rt: HostRuntime) -> Result<(), Fail> {
+        let calls = vec![in rt.alloc();
+            SemaphoreCall::Acquire(2),
+            SemaphoreCall::Poll(A, 1),
+            SemaphoreCall::Acquire(0),
+            SemaphoreCall::Poll(B, 2),
+            SemaphoreCall::TryAcquire(0),
+            SemaphoreCall::TryAcquire(1),
+            SemaphoreCall::Release(1),
+            SemaphoreCall::NextWake,
+            SemaphoreCall::NextWake,
+            SemaphoreCall::TryAcquire(1),
+            SemaphoreCall::Poll(A, 1),
+            SemaphoreCall::Permits,
+            SemaphoreCall::Held,
+        ]?;
+        let wanted = [
+            Answer::Made(A),
+            Answer::Pending,
+            Answer::Made(B),
+            Answer::Ready,
+            Answer::Done,
+            Answer::Nothing,
+            Answer::Done,
+            Answer::Woken(Some(1)),
+            Answer::Woken(None),
+            Answer::Nothing,
+            Answer::Ready,
+            Answer::Number(0),
+            Answer::Number(2),
+        ];
+        assert!(rt; answers(rt.alloc(), (1, true), calls, wanted.as_slice())?);
+        Ok(())
+    }
+
+    #[test]
+    fn semaphore_fair_round_after_cancel(rt: HostRuntime) -> Result<(), Fail> {
+        let calls = vec![in rt.alloc();
+            SemaphoreCall::Acquire(3),
+            SemaphoreCall::Acquire(3),
+            SemaphoreCall::Acquire(1),
+            SemaphoreCall::Poll(A, 1),
+            SemaphoreCall::Poll(B, 2),
+            SemaphoreCall::Poll(C, 3),
+            SemaphoreCall::Cancel(A),
+            SemaphoreCall::NextWake,
+            SemaphoreCall::Cancel(B),
+            SemaphoreCall::NextWake,
+            SemaphoreCall::NextWake,
+            SemaphoreCall::Cancel(C),
+            SemaphoreCall::NextWake,
+            SemaphoreCall::Permits,
+        ]?;
+        let wanted = [
+            Answer::Made(A),
+            Answer::Made(B),
+            Answer::Made(C),
+            Answer::Pending,
+            Answer::Pending,
+            Answer::Pending,
+            Answer::Done,
+            Answer::Woken(None),
+            Answer::Done,
+            Answer::Woken(Some(3)),
+            Answer::Woken(None),
+            Answer::Done,
+            Answer::Woken(None),
+            Answer::Number(2),
+        ];
+        assert!(rt; answers(rt.alloc(), (2, true), calls, wanted.as_slice())?);
+        Ok(())
+    }
+
+    #[test]
+    fn semaphore_tells_several(rt: HostRuntime) -> Result<(), Fail> {
+        let calls = vec![in rt.alloc();
+            SemaphoreCall::Acquire(1),
+            SemaphoreCall::Acquire(2),
+            SemaphoreCall::Acquire(2),
+            SemaphoreCall::Acquire(1),
+            SemaphoreCall::Poll(A, 1),
+            SemaphoreCall::Poll(B, 2),
+            SemaphoreCall::Poll(C, 3),
+            SemaphoreCall::Poll(D, 4),
+            SemaphoreCall::Release(4),
+            SemaphoreCall::NextWake,
+            SemaphoreCall::NextWake,
+            SemaphoreCall::NextWake,
+            SemaphoreCall::Poll(C, 3),
+            SemaphoreCall::Poll(B, 2),
+            SemaphoreCall::Permits,
+            SemaphoreCall::Cancel(A),
+            SemaphoreCall::NextWake,
+            SemaphoreCall::NextWake,
+            SemaphoreCall::Poll(C, 3),
+            SemaphoreCall::Permits,
+            SemaphoreCall::GiveBack(2),
+            SemaphoreCall::NextWake,
+            SemaphoreCall::NextWake,
+            SemaphoreCall::Poll(D, 4),
+            SemaphoreCall::Permits,
+            SemaphoreCall::Held,
+        ]?;
+        let wanted = [
+            Answer::Made(A),
+            Answer::Made(B),
+            Answer::Made(C),
+            Answer::Made(D),
+            Answer::Pending,
+            Answer::Pending,
+            Answer::Pending,
+            Answer::Pending,
+            Answer::Done,
+            Answer::Woken(Some(1)),
+            Answer::Woken(Some(2)),
+            Answer::Woken(None),
+            Answer::Pending,
+            Answer::Ready,
+            Answer::Number(2),
+            Answer::Done,
+            Answer::Woken(Some(3)),
+            Answer::Woken(None),
+            Answer::Ready,
+            Answer::Number(0),
+            Answer::Done,
+            Answer::Woken(Some(4)),
+            Answer::Woken(None),
+            Answer::Ready,
+            Answer::Number(1),
+            Answer::Number(3),
+        ];
+        assert!(rt; answers(rt.alloc(), (0, true), calls, wanted.as_slice())?);
+        Ok(())
+    }
+
+    #[test]
+    fn semaphore_told_stays_first(rt: HostRuntime) -> Result<(), Fail> {
+        let calls = vec![in rt.alloc();
+            SemaphoreCall::Acquire(2),
+            SemaphoreCall::Poll(A, 1),
+            SemaphoreCall::Release(2),
+            SemaphoreCall::NextWake,
+            SemaphoreCall::NextWake,
+            SemaphoreCall::Acquire(1),
+            SemaphoreCall::Poll(B, 2),
+            SemaphoreCall::Release(1),
+            SemaphoreCall::NextWake,
+            SemaphoreCall::NextWake,
+            SemaphoreCall::Poll(B, 2),
+            SemaphoreCall::Poll(A, 1),
+            SemaphoreCall::Permits,
+            SemaphoreCall::Held,
+        ]?;
+        let wanted = [
+            Answer::Made(A),
+            Answer::Pending,
+            Answer::Done,
+            Answer::Woken(Some(1)),
+            Answer::Woken(None),
+            Answer::Made(B),
+            Answer::Pending,
+            Answer::Done,
+            Answer::Woken(Some(2)),
+            Answer::Woken(None),
+            Answer::Ready,
+            Answer::Ready,
+            Answer::Number(1),
+            Answer::Number(3),
+        ];
+        assert!(rt; answers(rt.alloc(), (1, true), calls, wanted.as_slice())?);
+        Ok(())
+    }
+
+    #[test]
+    fn what_is_refused(rt: HostRuntime) -> Result<(), Fail> {
+        let calls = vec![in rt.alloc();
+            SemaphoreCall::Poll(A, 1),
+            SemaphoreCall::Cancel(A),
+            SemaphoreCall::Acquire(1),
+            SemaphoreCall::Poll(A, 1),
+            SemaphoreCall::Poll(A, 1),
+            SemaphoreCall::Cancel(A),
+            SemaphoreCall::NextWake,
+            SemaphoreCall::GiveBack(2),
+            SemaphoreCall::GiveBack(1),
+            SemaphoreCall::NextWake,
+            SemaphoreCall::NextWake,
+        ]?;
+        let wanted = [
+            Answer::Refused(Fault::NoSlot),
+            Answer::Refused(Fault::NoSlot),
+            Answer::Made(A),
+            Answer::Ready,
+            Answer::Refused(Fault::NoSlot),
+            Answer::Done,
+            Answer::Woken(None),
+            Answer::Refused(Fault::NotHeld),
+            Answer::Done,
+            Answer::Woken(None),
+            Answer::Woken(None),
+        ];
+        assert!(rt; answers(rt.alloc(), (1, true), calls, wanted.as_slice())?);
+        every_run_of_a_semaphore::<u64>();
+        Ok(())
+    }
+}
