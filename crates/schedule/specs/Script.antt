@@ -46,9 +46,10 @@ OfPrimitive StateBroadcast P =
     (spoken state.Opens (state.Step is_same never_fails) machine_outgoing state_language)
 OfPrimitive Timer P = P (TimerMachine ℕ) (Unit {0}) (TimerCall ℕ) (spoken timer.Opens timer.Step machine_outgoing timer_language)
 
--- The first line is the primitive's name, and what stands after it for the opening.
+-- The first line is the primitive's name, and what stands after it for the opening, which is one that scripts can name.
 abbrev pub IsFirst : {S O C : Type 0} → Named → Spoken S O C → List ℕ → O → Type 0
-IsFirst named primitive line opening = line ≡ joined (name_of named) (primitive.language.opening_text opening)
+IsFirst named primitive line opening = primitive.language.openings.is_nameable opening
+    × (line ≡ joined (name_of named) (primitive.language.openings.text opening))
 
 -- The first line of a script is that of an opening, and the primitive answered all other lines with this text.
 pub record AnswersScript (script text : List ℕ) : Type 0 where

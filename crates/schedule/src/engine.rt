@@ -3,7 +3,7 @@ ghost use Rattle.std.specs.Prelude.{◌≡◌, ℕ, List, [], Option, Some, true
 ghost use Rattle.schedule.specs.Answered.{AnswersLine, AnswersRest, AnswersFront, RefusesLine, IfBad};
 ghost use Rattle.schedule.specs.Asked.{Requests, Asks, Performs};
 ghost use Rattle.fi_parts.specs.Order.{head_or};
-ghost use Rattle.schedule.specs.Language.{spoken};
+ghost use Rattle.schedule.specs.Language.{spoken, AsksFor};
 ghost use Rattle.schedule.specs.Lines.{IsNoCall, IsBad, LabelsAfter, row_of};
 ghost use Rattle.schedule.specs.Script.{AnswersScript, RefusesScript, Turns, IfFault};
 ghost use Rattle.schedule.specs.Spelled.{IsLabelOf};
@@ -104,12 +104,12 @@ fn answer_calls<P: Scripted, W: Write>(
 ) -> Result<(), ScriptFault>
     ensures answered { OnOk result (Tells W.contents output.old output.new
         (AnswersRest (spoken P.opens P.step P.outgoing P.Scripted.language)
-        (λ opening. option_copied words.entry ≡ P.Scripted.language.opening_text opening)
+        (AsksFor P.Scripted.language.openings (option_copied words.entry))
         (lines_left lines.entry))) }
     ensures bad { IfErr result (IfBad (λ number.
         Tells W.contents output.old output.new (RefusesLine
         (spoken P.opens P.step P.outgoing P.Scripted.language)
-        (λ opening. option_copied words.entry ≡ P.Scripted.language.opening_text opening)
+        (AsksFor P.Scripted.language.openings (option_copied words.entry))
         (lines_left lines.entry) number))) }
     ensures same_writer { SameWriter output.old output.new }
 {
