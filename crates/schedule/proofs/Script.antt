@@ -8,10 +8,10 @@ use Rattle.schedule.specs.Lines.{joined}
 use Rattle.schedule.specs.Names.{name_of, IsNoName}
 use Rattle.schedule.specs.Outputs.{GoesOn, Tells, on_its_way}
 use Rattle.schedule.specs.Script.{OfPrimitive, IsFirst, IsNoFirst, AnswersScript, RefusesScript}
-use Rattle.schedule.specs.Tables.{event_text}
+use Rattle.schedule.specs.Tables.{event_text, fair_openings}
 use Rattle.schedule.specs.declared.fault.ScriptFault.{ScriptFault}
 use Rattle.schedule.specs.declared.named.Named.{Named}
-use Rattle.schedule.specs.declared.named.Named.TheVariants.{Event, Oneshot, OneshotBroadcast, StateBroadcast, Timer}
+use Rattle.schedule.specs.declared.named.Named.TheVariants.{Event, Oneshot, OneshotBroadcast, StateBroadcast, Timer, Mutex}
 use Rattle.schedule.specs.declared.output.Output.{Output}
 use Rattle.schedule.proofs.Answered.{if_bad_more}
 use Rattle.schedule.proofs.Bytes.{appends_none}
@@ -67,6 +67,7 @@ on_primitive Oneshot P Q more holds = more _ _ _ _ holds
 on_primitive OneshotBroadcast P Q more holds = more _ _ _ _ holds
 on_primitive StateBroadcast P Q more holds = more _ _ _ _ holds
 on_primitive Timer P Q more holds = more _ _ _ _ holds
+on_primitive Mutex P Q more holds = more _ _ _ _ holds
 
 -- The words after the name ask for this opening.
 abbrev pub Asked : Option (List ℕ) → {S O C : Type 0} → Spoken S O C → O → Type 0
@@ -94,6 +95,8 @@ at_line words rest number text StateBroadcast (inl it) = inl it
 at_line words rest number text StateBroadcast (inr it) = inr it
 at_line words rest number text Timer (inl it) = inl it
 at_line words rest number text Timer (inr it) = inr it
+at_line words rest number text Mutex (inl it) = inl it
+at_line words rest number text Mutex (inr it) = inr it
 
 module _ (first name : List ℕ) (words : Option (List ℕ)) (cut : IsCut 32 first name words) where
   parts : (named : Named) (text : Option (List ℕ)) → first ≡ joined (name_of named) text → (name ≡ name_of named)
@@ -107,6 +110,7 @@ module _ (first name : List ℕ) (words : Option (List ℕ)) (cut : IsCut 32 fir
   no_name none OneshotBroadcast = λ opening is. none OneshotBroadcast (parts OneshotBroadcast None is.1).0
   no_name none StateBroadcast = λ opening is. none StateBroadcast (parts StateBroadcast None is.1).0
   no_name none Timer = λ opening is. none Timer (parts Timer None is.1).0
+  no_name none Mutex = λ opening is. none Mutex (parts Mutex (fair_openings.text opening) is.1).0
 
   module _ (named : Named) (known : name ≡ name_of named) where
     is_first : {S O C : Type 0} (primitive : Spoken S O C) (opening : O) → Asked words primitive opening
@@ -130,6 +134,8 @@ module _ (first name : List ℕ) (words : Option (List ℕ)) (cut : IsCut 32 fir
         λ opening is. let it = parts StateBroadcast None is.1 in of_other StateBroadcast it.0 nothing opening (is.0, it.1)
     no_opening nothing Timer =
         λ opening is. let it = parts Timer None is.1 in of_other Timer it.0 nothing opening (is.0, it.1)
+    no_opening nothing Mutex = λ opening is.
+        let it = parts Mutex (fair_openings.text opening) is.1 in of_other Mutex it.0 nothing opening (is.0, it.1)
 
 module _ {W : Type 0} (contents : W → Option (List ℕ)) (script first name : List ℕ) (rest words : Option (List ℕ))
     (line_cut : IsCut 10 script first rest) (cut : IsCut 32 first name words) (shown left : Output W) where

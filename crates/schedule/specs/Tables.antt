@@ -1,8 +1,11 @@
 -- The lines of each primitive, and the calls that they ask for.
-use Rattle.std.specs.Prelude.{⊤, ℕ, ◌*◌, ◌/◌, ◌%◌, Bool, true, false, List, Option, None, Some, codes}
+use Rattle.std.specs.Prelude.{⊤, ℕ, ◌<◌, ◌*◌, ◌/◌, ◌%◌, ◌^◌, Bool, true, false, List, Option, None, Some, codes}
+use Rattle.std.specs.Fmt.{decimal}
 use Rattle.std.specs.declared.time.Duration.{Duration}
 use Rattle.fi_run.specs.declared.event.EventCall.{EventCall}
 use Rattle.fi_run.specs.declared.event.EventCall.TheVariants as event
+use Rattle.fi_run.specs.declared.mutex.MutexCall.{MutexCall}
+use Rattle.fi_run.specs.declared.mutex.MutexCall.TheVariants as mutex
 use Rattle.fi_run.specs.declared.oneshot.OneshotCall.{OneshotCall}
 use Rattle.fi_run.specs.declared.oneshot.OneshotCall.TheVariants as oneshot
 use Rattle.fi_run.specs.declared.state.StateCall.{StateCall}
@@ -10,6 +13,7 @@ use Rattle.fi_run.specs.declared.state.StateCall.TheVariants as state
 use Rattle.fi_run.specs.declared.timer.TimerCall.{TimerCall}
 use Rattle.fi_run.specs.declared.timer.TimerCall.TheVariants as timer
 use Rattle.schedule.specs.Language.{Openings, Language}
+use Rattle.schedule.specs.Lines.{joined}
 use Rattle.schedule.specs.declared.numbers.Numbers.TheVariants.{Absent, One, Two}
 use Rattle.schedule.specs.declared.row.Row.{Row}
 use Rattle.schedule.specs.declared.row.Row.TheVariants.{Plain, Make, Poll, Cancel}
@@ -80,3 +84,28 @@ timer_call row = None
 
 abbrev pub timer_language : Language (Unit {0}) (TimerCall ℕ)
 timer_language = record { openings = only_opening; call_of = timer_call }
+
+-- ---- fair and unfair primitives
+abbrev pub fairness_text : Bool → List ℕ
+fairness_text true = codes "fair"
+fairness_text false = codes "unfair"
+
+-- A number of 64 bits, and whether it is fair: the word comes first, then the number in plain decimal.
+abbrev pub fair_openings : Openings (ℕ × Bool)
+fair_openings = record {
+  is_nameable = λ opening. opening.0 < 2 ^ 64;
+  text = λ opening. Some (joined (fairness_text opening.1) (Some (decimal opening.0)));
+}
+
+-- ---- the mutex
+abbrev pub mutex_call : Row → Option (MutexCall ℕ ℕ)
+mutex_call (Make verb.Lock Absent) = Some mutex.Lock
+mutex_call (Poll slot (One waker)) = Some (mutex.Poll slot waker)
+mutex_call (Cancel slot Absent) = Some (mutex.Cancel slot)
+mutex_call (Plain verb.TryLock Absent) = Some mutex.TryLock
+mutex_call (Plain verb.Unlock (One value)) = Some (mutex.Unlock value)
+mutex_call (Plain verb.IsLocked Absent) = Some mutex.IsLocked
+mutex_call row = None
+
+abbrev pub mutex_language : Language (ℕ × Bool) (MutexCall ℕ ℕ)
+mutex_language = record { openings = fair_openings; call_of = mutex_call }

@@ -23,7 +23,7 @@ use crate::scripted::Scripted;
 use crate::texts::{put_waker, write_answer};
 use crate::words::{Lines, Words, after_hold, split_at_first};
 use fi_channels::{EventState, OneshotBroadcastState, OneshotState, StateBroadcastState};
-use fi_locks::TimerState;
+use fi_locks::{MutexState, TimerState};
 use fi_parts::Slot;
 use fi_run::Answer;
 use std::alloc::Global;
@@ -91,6 +91,7 @@ fn answer_script<W: Write>(
             answer_calls::<StateBroadcastState<u64, u64>, W>(alloc, words, lines, output)
         }
         Some(Named::Timer) => answer_calls::<TimerState<u64>, W>(alloc, words, lines, output),
+        Some(Named::Mutex) => answer_calls::<MutexState<u64, u64>, W>(alloc, words, lines, output),
         None => Err(ScriptFault::BadLine(1)),
     }
 }
