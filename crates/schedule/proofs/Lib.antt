@@ -2,6 +2,7 @@ pub mod Numerals
 pub mod Labels
 pub mod Bytes
 pub mod Cuts
+pub mod FairOpenings
 pub mod Numbered
 pub mod Answered
 pub mod Reading

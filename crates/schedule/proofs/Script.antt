@@ -3,15 +3,15 @@ use Rattle.std.specs.Prelude.{◌≡◌, ◌⊎◌, ℕ, List, [], Option, None,
 use Rattle.std.proofs.Common.{refl, sym, ◌∙◌, subst, ap, inl, inr}
 use Rattle.schedule.specs.Answered.{AnswersRest, AnswersFront, RefusesLine, IfBad}
 use Rattle.schedule.specs.Cuts.{IsCut}
-use Rattle.schedule.specs.Language.{Spoken}
+use Rattle.schedule.specs.Language.{Spoken, AsksFor, AsksForNone}
 use Rattle.schedule.specs.Lines.{joined}
 use Rattle.schedule.specs.Names.{name_of, IsNoName}
 use Rattle.schedule.specs.Outputs.{GoesOn, Tells, on_its_way}
 use Rattle.schedule.specs.Script.{OfPrimitive, IsFirst, IsNoFirst, AnswersScript, RefusesScript}
-use Rattle.schedule.specs.Tables.{event_opening}
+use Rattle.schedule.specs.Tables.{event_text, fair_openings}
 use Rattle.schedule.specs.declared.fault.ScriptFault.{ScriptFault}
 use Rattle.schedule.specs.declared.named.Named.{Named}
-use Rattle.schedule.specs.declared.named.Named.TheVariants.{Event, Oneshot, OneshotBroadcast, StateBroadcast, Timer}
+use Rattle.schedule.specs.declared.named.Named.TheVariants.{Event, Oneshot, OneshotBroadcast, StateBroadcast, Timer, Mutex}
 use Rattle.schedule.specs.declared.output.Output.{Output}
 use Rattle.schedule.proofs.Answered.{if_bad_more}
 use Rattle.schedule.proofs.Bytes.{appends_none}
@@ -67,22 +67,23 @@ on_primitive Oneshot P Q more holds = more _ _ _ _ holds
 on_primitive OneshotBroadcast P Q more holds = more _ _ _ _ holds
 on_primitive StateBroadcast P Q more holds = more _ _ _ _ holds
 on_primitive Timer P Q more holds = more _ _ _ _ holds
+on_primitive Mutex P Q more holds = more _ _ _ _ holds
 
 -- The words after the name ask for this opening.
-abbrev pub AsksFor : Option (List ℕ) → {S O C : Type 0} → Spoken S O C → O → Type 0
-AsksFor words primitive opening = words ≡ primitive.language.opening_text opening
+abbrev pub Asked : Option (List ℕ) → {S O C : Type 0} → Spoken S O C → O → Type 0
+Asked words primitive = AsksFor primitive.language.openings words
 
 -- No opening of the primitive of this name is asked for.
 abbrev pub OpensNothing : Option (List ℕ) → Named → Type 0
-OpensNothing words named = OfPrimitive named (λ S O C primitive. (opening : O) → AsksFor words primitive opening → ⊥)
+OpensNothing words named = OfPrimitive named (λ S O C primitive. AsksForNone primitive.language.openings words)
 
 abbrev pub FrontOf : Option (List ℕ) → Option (List ℕ) → ℕ → List ℕ → Named → Type 0
 FrontOf words rest number text named =
-    OfPrimitive named (λ S O C primitive. AnswersFront primitive (AsksFor words primitive) rest number text)
+    OfPrimitive named (λ S O C primitive. AnswersFront primitive (Asked words primitive) rest number text)
 
 -- where a line was refused
 at_line : (words rest : Option (List ℕ)) (number : ℕ) (text : List ℕ) (named : Named)
-    → OfPrimitive named (λ S O C primitive. RefusesLine primitive (AsksFor words primitive) rest number text)
+    → OfPrimitive named (λ S O C primitive. RefusesLine primitive (Asked words primitive) rest number text)
     → ((number ≡ 1) × (text ≡ []) × OpensNothing words named) ⊎ FrontOf words rest number text named
 at_line words rest number text Event (inl it) = inl it
 at_line words rest number text Event (inr it) = inr it
@@ -94,6 +95,8 @@ at_line words rest number text StateBroadcast (inl it) = inl it
 at_line words rest number text StateBroadcast (inr it) = inr it
 at_line words rest number text Timer (inl it) = inl it
 at_line words rest number text Timer (inr it) = inr it
+at_line words rest number text Mutex (inl it) = inl it
+at_line words rest number text Mutex (inr it) = inr it
 
 module _ (first name : List ℕ) (words : Option (List ℕ)) (cut : IsCut 32 first name words) where
   parts : (named : Named) (text : Option (List ℕ)) → first ≡ joined (name_of named) text → (name ≡ name_of named)
@@ -102,32 +105,37 @@ module _ (first name : List ℕ) (words : Option (List ℕ)) (cut : IsCut 32 fir
       one_place 32 name (name_of named) words text first cut (cut_of first (name_of named) text is (name_lacks named))
 
   no_name : IsNoName name → IsNoFirst first
-  no_name none Event = λ opening is. none Event (parts Event (event_opening opening) is).0
-  no_name none Oneshot = λ opening is. none Oneshot (parts Oneshot None is).0
-  no_name none OneshotBroadcast = λ opening is. none OneshotBroadcast (parts OneshotBroadcast None is).0
-  no_name none StateBroadcast = λ opening is. none StateBroadcast (parts StateBroadcast None is).0
-  no_name none Timer = λ opening is. none Timer (parts Timer None is).0
+  no_name none Event = λ opening is. none Event (parts Event (event_text opening) is.1).0
+  no_name none Oneshot = λ opening is. none Oneshot (parts Oneshot None is.1).0
+  no_name none OneshotBroadcast = λ opening is. none OneshotBroadcast (parts OneshotBroadcast None is.1).0
+  no_name none StateBroadcast = λ opening is. none StateBroadcast (parts StateBroadcast None is.1).0
+  no_name none Timer = λ opening is. none Timer (parts Timer None is.1).0
+  no_name none Mutex = λ opening is. none Mutex (parts Mutex (fair_openings.text opening) is.1).0
 
   module _ (named : Named) (known : name ≡ name_of named) where
-    is_first : {S O C : Type 0} (primitive : Spoken S O C) (opening : O) → AsksFor words primitive opening
+    is_first : {S O C : Type 0} (primitive : Spoken S O C) (opening : O) → Asked words primitive opening
         → IsFirst named primitive first opening
-    is_first primitive opening asks =
-        of_cut first name words cut ∙ ap (λ n. joined n words) known ∙ ap (λ w. joined (name_of named) w) asks
+    is_first primitive opening asks = (
+      asks.0,
+      of_cut first name words cut ∙ ap (λ n. joined n words) known ∙ ap (λ w. joined (name_of named) w) asks.1,
+    )
 
     of_other : (other : Named) → name ≡ name_of other → OpensNothing words named → OpensNothing words other
     of_other other is nothing = subst (OpensNothing words) (same_name named other (sym known ∙ is)) nothing
 
     no_opening : OpensNothing words named → IsNoFirst first
     no_opening nothing Event =
-        λ opening is. let it = parts Event (event_opening opening) is in of_other Event it.0 nothing opening it.1
+        λ opening is. let it = parts Event (event_text opening) is.1 in of_other Event it.0 nothing opening (is.0, it.1)
     no_opening nothing Oneshot =
-        λ opening is. let it = parts Oneshot None is in of_other Oneshot it.0 nothing opening it.1
+        λ opening is. let it = parts Oneshot None is.1 in of_other Oneshot it.0 nothing opening (is.0, it.1)
     no_opening nothing OneshotBroadcast =
-        λ opening is. let it = parts OneshotBroadcast None is in of_other OneshotBroadcast it.0 nothing opening it.1
+        λ opening is. let it = parts OneshotBroadcast None is.1 in of_other OneshotBroadcast it.0 nothing opening (is.0, it.1)
     no_opening nothing StateBroadcast =
-        λ opening is. let it = parts StateBroadcast None is in of_other StateBroadcast it.0 nothing opening it.1
+        λ opening is. let it = parts StateBroadcast None is.1 in of_other StateBroadcast it.0 nothing opening (is.0, it.1)
     no_opening nothing Timer =
-        λ opening is. let it = parts Timer None is in of_other Timer it.0 nothing opening it.1
+        λ opening is. let it = parts Timer None is.1 in of_other Timer it.0 nothing opening (is.0, it.1)
+    no_opening nothing Mutex = λ opening is.
+        let it = parts Mutex (fair_openings.text opening) is.1 in of_other Mutex it.0 nothing opening (is.0, it.1)
 
 module _ {W : Type 0} (contents : W → Option (List ℕ)) (script first name : List ℕ) (rest words : Option (List ℕ))
     (line_cut : IsCut 10 script first rest) (cut : IsCut 32 first name words) (shown left : Output W) where
@@ -147,7 +155,7 @@ module _ {W : Type 0} (contents : W → Option (List ℕ)) (script first name : 
   module _ (named : Named) (known : name ≡ name_of named) where
     pub script_answered : {A E : Type 0} (r : Result A E)
         → OnOk r (Tells contents shown left (λ text. OfPrimitive named
-        (λ S O C primitive. AnswersRest primitive (AsksFor words primitive) rest text)))
+        (λ S O C primitive. AnswersRest primitive (Asked words primitive) rest text)))
         → OnOk r (Tells contents shown left (AnswersScript script))
     script_answered (Ok x) told = (
       told.0,
@@ -165,7 +173,7 @@ module _ {W : Type 0} (contents : W → Option (List ℕ)) (script first name : 
     script_answered (Err e) told = tt
 
     refused : (number : ℕ) (text : List ℕ)
-        → OfPrimitive named (λ S O C primitive. RefusesLine primitive (AsksFor words primitive) rest number text)
+        → OfPrimitive named (λ S O C primitive. RefusesLine primitive (Asked words primitive) rest number text)
         → RefusesScript number script text
     refused number text told = elim (at_line words rest number text named told) [
       | inl it ↦ record {
@@ -190,7 +198,7 @@ module _ {W : Type 0} (contents : W → Option (List ℕ)) (script first name : 
 
     pub script_refused : {A : Type 0} (r : Result A ScriptFault)
         → IfErr r (IfBad (λ number. Tells contents shown left
-        (λ text. OfPrimitive named (λ S O C primitive. RefusesLine primitive (AsksFor words primitive) rest number
+        (λ text. OfPrimitive named (λ S O C primitive. RefusesLine primitive (Asked words primitive) rest number
         text))))
         → IfErr r (IfBad (λ number. Tells contents shown left (RefusesScript number script)))
     script_refused (Ok x) told = tt

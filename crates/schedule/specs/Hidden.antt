@@ -1,11 +1,12 @@
 -- No line of a script asks for the oldest waker.
 use Rattle.std.specs.Prelude.{◌≢◌, Some}
-use Rattle.schedule.specs.Tables.{event_call, oneshot_call, state_call, timer_call}
+use Rattle.schedule.specs.Tables.{event_call, mutex_call, oneshot_call, state_call, timer_call}
 use Rattle.schedule.specs.declared.numbers.Numbers.TheVariants.{Absent, One, Two}
 use Rattle.schedule.specs.declared.row.Row.{Row}
 use Rattle.schedule.specs.declared.row.Row.TheVariants.{Plain, Make, Poll, Cancel}
 use Rattle.schedule.specs.declared.verb.Verb.TheVariants as verb
 use Rattle.fi_run.specs.declared.event.EventCall.TheVariants as event_calls
+use Rattle.fi_run.specs.declared.mutex.MutexCall.TheVariants as mutex_calls
 use Rattle.fi_run.specs.declared.oneshot.OneshotCall.TheVariants as oneshot_calls
 use Rattle.fi_run.specs.declared.state.StateCall.TheVariants as state_calls
 use Rattle.fi_run.specs.declared.timer.TimerCall.TheVariants as timer_calls
@@ -44,3 +45,12 @@ timer_hides (Cancel slot Absent) e = cc
 timer_hides (Plain verb.Check (One now)) e = cc
 timer_hides (Plain verb.Next Absent) e = cc
 timer_hides row e = cc
+
+pub mutex_hides : (row : Row) → mutex_call row ≢ Some mutex_calls.NextWake
+mutex_hides (Make verb.Lock Absent) e = cc
+mutex_hides (Poll slot (One waker)) e = cc
+mutex_hides (Cancel slot Absent) e = cc
+mutex_hides (Plain verb.TryLock Absent) e = cc
+mutex_hides (Plain verb.Unlock (One value)) e = cc
+mutex_hides (Plain verb.IsLocked Absent) e = cc
+mutex_hides row e = cc

@@ -1,13 +1,28 @@
 -- How scripts speak of a primitive.
-use Rattle.std.specs.Prelude.{ℕ, List, Option}
+use Rattle.std.specs.Prelude.{◌≡◌, ℕ, List, Option}
 use Rattle.fi_run.specs.Outgoing.{Outgoing}
 use Rattle.fi_run.specs.declared.answer.Answer.{Answer}
 use Rattle.schedule.specs.declared.row.Row.{Row}
 
--- The words of its openings, and the calls of its lines.
-pub record Language (O C : Type 0) : Type 0 where
-  -- what stands after its name for an opening
-  pub opening_text : O → Option (List ℕ)
+-- The words of its openings.
+pub record Openings (O : Type 0) : Type 1 where
+  -- which of them scripts can name
+  pub is_nameable : O → Type 0
+  -- what stands after its name for such an opening
+  pub text : O → Option (List ℕ)
+
+module _ {O : Type 0} (openings : Openings O) where
+  -- The words after its name, if any stand there, ask for this opening.
+  abbrev pub AsksFor : Option (List ℕ) → O → Type 0
+  AsksFor words opening = openings.is_nameable opening × (words ≡ openings.text opening)
+
+  -- They ask for none.
+  abbrev pub AsksForNone : Option (List ℕ) → Type 0
+  AsksForNone words = (opening : O) → AsksFor words opening → ⊥
+
+-- Its openings, and the calls of its lines.
+pub record Language (O C : Type 0) : Type 1 where
+  pub openings : Openings O
   -- the call that a line asks for
   pub call_of : Row → Option C
 

@@ -4,26 +4,29 @@ use Rattle.std.specs.Io.KnownBytes.{Appends}
 use Rattle.fi_channels.specs.Event.{EventMachine}
 use Rattle.fi_channels.specs.Oneshot.{OneshotMachine, taking, cloning}
 use Rattle.fi_channels.specs.StateBroadcast.{StateMachine}
+use Rattle.fi_locks.specs.Mutex.{MutexMachine}
 use Rattle.fi_locks.specs.Timer.{TimerMachine}
 use Rattle.fi_run.specs.Event as event
+use Rattle.fi_run.specs.Mutex as mutex
 use Rattle.fi_run.specs.Oneshot as oneshot
 use Rattle.fi_run.specs.Outgoing.{machine_outgoing}
 use Rattle.fi_run.specs.State as state
 use Rattle.fi_run.specs.Timer as timer
 use Rattle.fi_run.specs.declared.event.EventCall.{EventCall}
+use Rattle.fi_run.specs.declared.mutex.MutexCall.{MutexCall}
 use Rattle.fi_run.specs.declared.oneshot.OneshotCall.{OneshotCall}
 use Rattle.fi_run.specs.declared.state.StateCall.{StateCall}
 use Rattle.fi_run.specs.declared.timer.TimerCall.{TimerCall}
 use Rattle.schedule.specs.declared.fault.ScriptFault.{ScriptFault}
 use Rattle.schedule.specs.declared.fault.ScriptFault.TheVariants.{Read, Write, BadLine, NoMemory}
 use Rattle.schedule.specs.declared.named.Named.{Named}
-use Rattle.schedule.specs.declared.named.Named.TheVariants.{Event, Oneshot, OneshotBroadcast, StateBroadcast, Timer}
+use Rattle.schedule.specs.declared.named.Named.TheVariants.{Event, Oneshot, OneshotBroadcast, StateBroadcast, Timer, Mutex}
 use Rattle.schedule.specs.Names.{name_of}
 use Rattle.schedule.specs.Answered.{AnswersRest, AnswersFront}
 use Rattle.schedule.specs.Cuts.{IsCut}
 use Rattle.schedule.specs.Language.{Spoken, spoken}
 use Rattle.schedule.specs.Lines.{joined}
-use Rattle.schedule.specs.Tables.{event_language, oneshot_language, state_language, timer_language}
+use Rattle.schedule.specs.Tables.{event_language, mutex_language, oneshot_language, state_language, timer_language}
 
 -- a number's clone is the number, and can't fail
 abbrev pub is_same : ℕ → ℕ → Type 0
@@ -45,10 +48,13 @@ OfPrimitive StateBroadcast P =
     P (StateMachine ℕ ℕ) (Unit {0}) (StateCall ℕ ℕ)
     (spoken state.Opens (state.Step is_same never_fails) machine_outgoing state_language)
 OfPrimitive Timer P = P (TimerMachine ℕ) (Unit {0}) (TimerCall ℕ) (spoken timer.Opens timer.Step machine_outgoing timer_language)
+OfPrimitive Mutex P =
+    P (MutexMachine ℕ ℕ) (ℕ × Bool) (MutexCall ℕ ℕ) (spoken mutex.Opens mutex.Step machine_outgoing mutex_language)
 
--- The first line is the primitive's name, and what stands after it for the opening.
+-- The first line is the primitive's name, and what stands after it for the opening, which is one that scripts can name.
 abbrev pub IsFirst : {S O C : Type 0} → Named → Spoken S O C → List ℕ → O → Type 0
-IsFirst named primitive line opening = line ≡ joined (name_of named) (primitive.language.opening_text opening)
+IsFirst named primitive line opening = primitive.language.openings.is_nameable opening
+    × (line ≡ joined (name_of named) (primitive.language.openings.text opening))
 
 -- The first line of a script is that of an opening, and the primitive answered all other lines with this text.
 pub record AnswersScript (script text : List ℕ) : Type 0 where

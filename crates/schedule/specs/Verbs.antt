@@ -1,8 +1,8 @@
 -- The verbs of script lines.
 use Rattle.std.specs.Prelude.{◌≢◌, ℕ, List, codes}
 use Rattle.schedule.specs.declared.verb.Verb.{Verb}
-use Rattle.schedule.specs.declared.verb.Verb.TheVariants.{Cancel, Check, Close, Deadline, Delay, IsSet, Next, Poll}
-use Rattle.schedule.specs.declared.verb.Verb.TheVariants.{Receive, Reset, Send, Set, TryReceive, Wait}
+use Rattle.schedule.specs.declared.verb.Verb.TheVariants.{Cancel, Check, Close, Deadline, Delay, IsLocked, IsSet, Lock, Next, Poll}
+use Rattle.schedule.specs.declared.verb.Verb.TheVariants.{Receive, Reset, Send, Set, TryLock, TryReceive, Unlock, Wait}
 
 abbrev pub verb_text : Verb → List ℕ
 verb_text Cancel = codes "cancel"
@@ -10,14 +10,18 @@ verb_text Check = codes "check"
 verb_text Close = codes "close"
 verb_text Deadline = codes "deadline"
 verb_text Delay = codes "delay"
+verb_text IsLocked = codes "is-locked"
 verb_text IsSet = codes "is-set"
+verb_text Lock = codes "lock"
 verb_text Next = codes "next"
 verb_text Poll = codes "poll"
 verb_text Receive = codes "receive"
 verb_text Reset = codes "reset"
 verb_text Send = codes "send"
 verb_text Set = codes "set"
+verb_text TryLock = codes "try-lock"
 verb_text TryReceive = codes "try-receive"
+verb_text Unlock = codes "unlock"
 verb_text Wait = codes "wait"
 
 -- no verb is spelled so

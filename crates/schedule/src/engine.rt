@@ -3,7 +3,7 @@ ghost use Rattle.std.specs.Prelude.{◌≡◌, ℕ, List, [], Option, Some, true
 ghost use Rattle.schedule.specs.Answered.{AnswersLine, AnswersRest, AnswersFront, RefusesLine, IfBad};
 ghost use Rattle.schedule.specs.Asked.{Requests, Asks, Performs};
 ghost use Rattle.fi_parts.specs.Order.{head_or};
-ghost use Rattle.schedule.specs.Language.{spoken};
+ghost use Rattle.schedule.specs.Language.{spoken, AsksFor};
 ghost use Rattle.schedule.specs.Lines.{IsNoCall, IsBad, LabelsAfter, row_of};
 ghost use Rattle.schedule.specs.Script.{AnswersScript, RefusesScript, Turns, IfFault};
 ghost use Rattle.schedule.specs.Spelled.{IsLabelOf};
@@ -23,7 +23,7 @@ use crate::scripted::Scripted;
 use crate::texts::{put_waker, write_answer};
 use crate::words::{Lines, Words, after_hold, split_at_first};
 use fi_channels::{EventState, OneshotBroadcastState, OneshotState, StateBroadcastState};
-use fi_locks::TimerState;
+use fi_locks::{MutexState, TimerState};
 use fi_parts::Slot;
 use fi_run::Answer;
 use std::alloc::Global;
@@ -91,6 +91,7 @@ fn answer_script<W: Write>(
             answer_calls::<StateBroadcastState<u64, u64>, W>(alloc, words, lines, output)
         }
         Some(Named::Timer) => answer_calls::<TimerState<u64>, W>(alloc, words, lines, output),
+        Some(Named::Mutex) => answer_calls::<MutexState<u64, u64>, W>(alloc, words, lines, output),
         None => Err(ScriptFault::BadLine(1)),
     }
 }
@@ -104,12 +105,12 @@ fn answer_calls<P: Scripted, W: Write>(
 ) -> Result<(), ScriptFault>
     ensures answered { OnOk result (Tells W.contents output.old output.new
         (AnswersRest (spoken P.opens P.step P.outgoing P.Scripted.language)
-        (λ opening. option_copied words.entry ≡ P.Scripted.language.opening_text opening)
+        (AsksFor P.Scripted.language.openings (option_copied words.entry))
         (lines_left lines.entry))) }
     ensures bad { IfErr result (IfBad (λ number.
         Tells W.contents output.old output.new (RefusesLine
         (spoken P.opens P.step P.outgoing P.Scripted.language)
-        (λ opening. option_copied words.entry ≡ P.Scripted.language.opening_text opening)
+        (AsksFor P.Scripted.language.openings (option_copied words.entry))
         (lines_left lines.entry) number))) }
     ensures same_writer { SameWriter output.old output.new }
 {

@@ -3,10 +3,12 @@
 
 mod engine;
 mod event;
+mod fairness;
 mod fault;
 mod input;
 mod label;
 mod labelled;
+mod mutex;
 mod named;
 mod number;
 mod numbers;

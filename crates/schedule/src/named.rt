@@ -10,6 +10,7 @@ pub enum Named {
     OneshotBroadcast,
     StateBroadcast,
     Timer,
+    Mutex,
 }
 
 impl Named {
@@ -27,6 +28,8 @@ impl Named {
             Some(Named::StateBroadcast)
         } else if word == b"timer".as_slice() {
             Some(Named::Timer)
+        } else if word == b"mutex".as_slice() {
+            Some(Named::Mutex)
         } else {
             None
         }

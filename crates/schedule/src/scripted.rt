@@ -3,7 +3,7 @@
 ghost use Rattle.std.specs.Prelude.{◌≡◌, ◌≢◌, ℕ, Option, Some, MatchOption, option_copied};
 ghost use Rattle.fi_run.specs.declared.answer.Answer.TheVariants.{Woken};
 ghost use Rattle.schedule.specs.declared.row.Row.{Row};
-ghost use Rattle.schedule.specs.Language.{Language};
+ghost use Rattle.schedule.specs.Language.{Language, AsksFor, AsksForNone};
 ghost use Rattle.schedule.specs.Tables.{only_opening};
 
 use crate::row::Row;
@@ -16,9 +16,8 @@ pub trait Scripted: Primitive<Answer = Answer<u64, u64>, Waker = u64> + Drop {
 
     /// The opening that the words after the primitive's name ask for; `None` if they ask for none.
     fn opening(words: Option<&[u8]>) -> Option<Self::Opening>
-        ensures { MatchOption result
-            ((opening : Self.Opening) → option_copied words.entry ≢ language.opening_text opening)
-            (λ opening. option_copied words.entry ≡ language.opening_text opening) };
+        ensures { MatchOption result (AsksForNone language.openings (option_copied words.entry))
+            (AsksFor language.openings (option_copied words.entry)) };
 
     /// The call that a line asks for; `None` if it asks for none of this primitive's.
     fn call(row: Row) -> Option<Self::Call>
@@ -33,9 +32,8 @@ pub trait Scripted: Primitive<Answer = Answer<u64, u64>, Waker = u64> + Drop {
 
 /// The opening of a primitive that has no other, after whose name no word stands.
 pub fn opening_without_words(words: Option<&[u8]>) -> Option<()>
-    ensures { MatchOption result
-        ((opening : Unit {0}) → option_copied words.entry ≢ only_opening opening)
-        (λ opening. option_copied words.entry ≡ only_opening opening) }
+    ensures { MatchOption result (AsksForNone only_opening (option_copied words.entry))
+        (AsksFor only_opening (option_copied words.entry)) }
 {
     match words {
         None => Some(()),

@@ -12,6 +12,7 @@ mod channels;
 mod edges;
 mod event;
 mod faults;
+mod mutex;
 mod program;
 mod timer;
 

@@ -10,14 +10,18 @@ pub enum Verb {
     Close,
     Deadline,
     Delay,
+    IsLocked,
     IsSet,
+    Lock,
     Next,
     Poll,
     Receive,
     Reset,
     Send,
     Set,
+    TryLock,
     TryReceive,
+    Unlock,
     Wait,
 }
 
@@ -41,6 +45,10 @@ impl Verb {
             b"delay" => Some(Verb::Delay),
             b"check" => Some(Verb::Check),
             b"next" => Some(Verb::Next),
+            b"lock" => Some(Verb::Lock),
+            b"try-lock" => Some(Verb::TryLock),
+            b"unlock" => Some(Verb::Unlock),
+            b"is-locked" => Some(Verb::IsLocked),
             _ => None,
         }
     }

@@ -78,6 +78,25 @@ timer
 timers
 Timer
 hold timer
+mutex
+mutex\u{20}
+mutex 7
+mutex fair
+mutex fair\u{20}
+mutex fair x
+mutex fair 07
+mutex fair -7
+mutex fair  7
+mutex fair 7\u{20}
+mutex fair 7 7
+mutex fair 18446744073709551616
+mutex fairly 1
+mutex Fair 1
+mutex fa 1
+mutex unfair
+mutex unfair 18446744073709551616
+mutexes fair 1
+hold mutex fair 7
 latch
 set
 wakes";
@@ -116,7 +135,11 @@ check 1
 next
 deadline a 1
 delay a 1 1
-timer";
+timer
+try-lock
+unlock 5
+is-locked
+mutex fair 7";
 
 #[test]
 fn bad_calls(rt: HostRuntime) -> Result<(), Fail> {

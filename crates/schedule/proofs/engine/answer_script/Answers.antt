@@ -1,5 +1,5 @@
 use Rattle.std.specs.Prelude.{option_copied}
-use Rattle.schedule.specs.declared.named.Named.TheVariants.{Event, Oneshot, OneshotBroadcast, StateBroadcast, Timer}
+use Rattle.schedule.specs.declared.named.Named.TheVariants.{Event, Oneshot, OneshotBroadcast, StateBroadcast, Timer, Mutex}
 use Rattle.schedule.proofs.Script.{script_answered, script_refused, refused_first}
 use Rattle.schedule.proofs.engine.answer_script.Goals as goal
 
@@ -88,6 +88,24 @@ returns-in-Some-Timer-clause-bad g c =
     c.answer_calls-in-Some-Timer.new.output Timer
     (rw c.in-Some-Timer.field-0-is at c.in-Some-Timer.ensures)
     c.answer_calls-in-Some-Timer.result c.answer_calls-in-Some-Timer.ensures.bad
+
+pub returns-in-Some-Mutex-clause-answered : goal.returns-in-Some-Mutex-clause-answered
+returns-in-Some-Mutex-clause-answered g c =
+    script_answered g.W.Write.contents c.args.script.now c.split_at_first.result.0.now c.split_at_first-2.result.0.now
+    (option_copied c.after-lines.result.rest) (option_copied c.split_at_first-2.result.1)
+    (rw c.after-lines.ensures c.split_at_first.ensures) c.split_at_first-2.ensures c.args.output.now
+    c.answer_calls-in-Some-Mutex.new.output Mutex
+    (rw c.in-Some-Mutex.field-0-is at c.in-Some-Mutex.ensures)
+    c.answer_calls-in-Some-Mutex.result c.answer_calls-in-Some-Mutex.ensures.answered
+
+pub returns-in-Some-Mutex-clause-bad : goal.returns-in-Some-Mutex-clause-bad
+returns-in-Some-Mutex-clause-bad g c =
+    script_refused g.W.Write.contents c.args.script.now c.split_at_first.result.0.now c.split_at_first-2.result.0.now
+    (option_copied c.after-lines.result.rest) (option_copied c.split_at_first-2.result.1)
+    (rw c.after-lines.ensures c.split_at_first.ensures) c.split_at_first-2.ensures c.args.output.now
+    c.answer_calls-in-Some-Mutex.new.output Mutex
+    (rw c.in-Some-Mutex.field-0-is at c.in-Some-Mutex.ensures)
+    c.answer_calls-in-Some-Mutex.result c.answer_calls-in-Some-Mutex.ensures.bad
 
 pub returns-in-None-clause-bad : goal.returns-in-None-clause-bad
 returns-in-None-clause-bad g c =
