@@ -5,14 +5,17 @@ use Rattle.fi_parts.specs.Oldest.{pop_oldest, complete_oldest, pair_of_oldest}
 use Rattle.fi_parts.specs.Pairs.{without_pair}
 use Rattle.fi_channels.specs.TwoSidesModel.{TwoSidesModel, no_waiters, notify_sends, notify_receives, AreBothSound}
 use Rattle.fi_channels.specs.Waiter.{same_waiter, of_sends, of_receives, sends_in, receives_in}
-use Rattle.fi_parts.specs.Waiting.{Side, phase_of, is_registered, may_be_named, made, exchange, registered, stays, with_phase, forgotten, emptied, named_all, AreSound}
+use Rattle.fi_parts.specs.Waiting.{Side, phase_of, is_registered, may_be_named, made, exchange}
+use Rattle.fi_parts.specs.Waiting.{registered, stays, with_phase, forgotten, emptied, named_all, AreSound}
 use Rattle.fi_parts.specs.declared.phase.Phase.{Phase}
 use Rattle.fi_parts.specs.declared.phase.Phase.TheVariants.{Fresh, Registered, Complete}
 use Rattle.fi_channels.specs.declared.two_sides.Waiter.{Waiter}
 use Rattle.fi_channels.specs.declared.two_sides.Waiter.TheVariants.{Send, Receive}
 use Rattle.fi_parts.proofs.Oldest.{sound-exchange, sound-pop_oldest, sound-complete_oldest}
-use Rattle.fi_channels.proofs.Sides.{sends-without, sends-without_receive, receives-without, receives-without_send, sends-and_sends, sends-and_receives, receives-and_sends, receives-and_receives}
-use Rattle.fi_parts.proofs.Sound.{sound-empty, sound-made, sound-without_pair, sound-drop, sound-forgotten, sound-set_phase, sound-registered, sound-stays, sound-emptied}
+use Rattle.fi_channels.proofs.Sides.{sends-without, sends-without_receive, receives-without, receives-without_send}
+use Rattle.fi_channels.proofs.Sides.{sends-and_sends, sends-and_receives, receives-and_sends, receives-and_receives}
+use Rattle.fi_parts.proofs.Sound.{sound-empty, sound-made, sound-without_pair, sound-drop}
+use Rattle.fi_parts.proofs.Sound.{sound-forgotten, sound-set_phase, sound-registered, sound-stays, sound-emptied}
 
 module _ {D W : Type 0} (allowed : Option (Phase W) → Bool) (side : Side D W) where
   -- one waker was handed out, of this side or of the other

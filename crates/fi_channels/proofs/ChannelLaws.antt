@@ -183,7 +183,7 @@ module _ {T W : Type 0} where
   completing_allowed waiting [] = tt
   completing_allowed waiting (name ∷ others) = refl
 
-  completes : (queue : List ℕ) (side new : Side (Option T) W) (out after : List (Waiter × W)) → side.queue ≡ queue →
+  pub completes : (queue : List ℕ) (side new : Side (Option T) W) (out after : List (Waiter × W)) → side.queue ≡ queue →
       TakesOn Send same_waiter (completes_first None queue) side out new after → new ≡ complete_first None side queue
   completes [] side new out after is did = did.0
   completes (name ∷ others) side new out after is did =

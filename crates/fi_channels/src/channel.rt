@@ -134,7 +134,8 @@ impl<T: Drop, B: RingBuf<Item = T>, W: Drop> ChannelState<T, B, W> {
     pub fn receive(&mut self) -> Result<LocalReceiveFuture, Fault>
         ensures made { IfOk result (λ future. MakesReceive self.old Single future.name self.new) }
         ensures fresh { IfOk result (λ future. future.has_ended ≡ false) }
-        ensures pollable { IfOk result (λ future. channel.can_receive (kind_of self.new future.name) (receive_phase self.new future.name) ≡ true) }
+        ensures pollable { IfOk result
+            (λ future. channel.can_receive (kind_of self.new future.name) (receive_phase self.new future.name) ≡ true) }
         ensures refused { OnErr result (self.new ≡ self.old) }
         ensures fault { IfErr result (λ fault. fault ≡ Fault.NoMemory) }
     {
@@ -147,7 +148,8 @@ impl<T: Drop, B: RingBuf<Item = T>, W: Drop> ChannelState<T, B, W> {
     pub fn stream(&mut self) -> Result<LocalChannelStream, Fault>
         ensures made { IfOk result (λ future. MakesReceive self.old Stream future.name self.new) }
         ensures fresh { IfOk result (λ future. future.has_ended ≡ false) }
-        ensures pollable { IfOk result (λ future. channel.can_stream (kind_of self.new future.name) (receive_phase self.new future.name) ≡ true) }
+        ensures pollable { IfOk result
+            (λ future. channel.can_stream (kind_of self.new future.name) (receive_phase self.new future.name) ≡ true) }
         ensures refused { OnErr result (self.new ≡ self.old) }
         ensures fault { IfErr result (λ fault. fault ≡ Fault.NoMemory) }
     {
@@ -230,6 +232,8 @@ impl<T: Drop, B: RingBuf<Item = T>, W: Drop> ChannelSendAccess for ChannelState<
 
     ghost is_sending = { λ state name. is_some (channel.send_phase state name) };
 
+    ghost waker_of = { channel.displaced_send };
+
     ghost sends = { channel.PollsSend };
 
     ghost withdraws = { channel.CancelsSend };
@@ -274,6 +278,8 @@ impl<T: Drop, B: RingBuf<Item = T>, W: Drop> ChannelReceiveAccess for ChannelSta
 
     ghost is_receiving = { λ state name. is_some (channel.receive_phase state name) };
 
+    ghost waker_of = { channel.displaced_receive };
+
     // A poll is never refused.
     ghost receives = { λ old name waker answer new. Answered (channel.PollsReceive old name waker) (λ fault state. ⊥) answer new };
 
@@ -290,7 +296,7 @@ impl<T: Drop, B: RingBuf<Item = T>, W: Drop> ChannelReceiveAccess for ChannelSta
     fn receive_or_register(&mut self, slot: Slot, waker: W) -> Received<T, W>
         requires { channel.can_receive (kind_of self.old slot.0) (receive_phase self.old slot.0) ≡ true }
         ensures polled { Answered (PollsReceive self.old slot.0 waker) (λ fault state. ⊥) result.0 self.new }
-        ensures displaced { result.1.displaced ≡ displaced_receive self.old slot.0 }
+        ensures displaced { result.1.displaced ≡ displaced_by result.0 (displaced_receive self.old slot.0) }
         ensures unused { result.1.unused ≡ unused_after result.0 waker }
         ensures live { is_some (receive_phase self.new slot.0) ≡ true }
     {

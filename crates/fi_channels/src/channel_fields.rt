@@ -59,7 +59,8 @@ impl<T: Drop, B: RingBuf<Item = T>, W: Drop> ChannelFields<T, B, W> {
 
     /// An open channel over an empty buffer for so many values. Refused only with `NoMemory`.
     pub fn with_capacity(alloc: Global, capacity: usize) -> Result<Self, Fault>
-        ensures opened { IfOk result (λ made. machine_of B.bounded made ≡ opened (empty (B.capacity_for capacity) (B.bounded made.buffer).reserved)) }
+        ensures opened { IfOk result (λ made. machine_of B.bounded made ≡ opened
+            (empty (B.capacity_for capacity) (B.bounded made.buffer).reserved)) }
         ensures fits { IfOk result (λ made. Fits (B.bounded made.buffer)) }
         ensures fault { IfErr result (λ fault. fault ≡ Fault.NoMemory) }
     {

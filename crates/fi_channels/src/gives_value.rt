@@ -20,9 +20,11 @@ pub trait GivesValue<T> {
 }
 
 /// The first receive that comes takes the value, and the channel is spent.
+#[derive(Debug)]
 pub struct TakesValue;
 
 /// Each receive gets a clone of the value, and the channel keeps it.
+#[derive(Debug)]
 pub struct ClonesValue;
 
 impl<T: Drop> GivesValue<T> for TakesValue {

@@ -1,9 +1,11 @@
 //! Two sides of waiting futures, sends and receives, over one outbox: the wakers of both stand there in one order.
-ghost use Rattle.std.specs.Prelude.{◌≡◌, ℕ, ◌++◌, ◌∷◌, List, [], Some, None, true, false, Option, IfOk, OnErr, IfErr, IsSome, MatchOption, length, drop, option_copied};
+ghost use Rattle.std.specs.Prelude.{◌≡◌, ℕ, ◌++◌, ◌∷◌, List, [], Some, None, true, false, Option, IfOk};
+ghost use Rattle.std.specs.Prelude.{OnErr, IfErr, IsSome, MatchOption, length, drop, option_copied};
 ghost use Rattle.std.specs.FinMap as map;
 ghost use Rattle.fi_parts.specs.Order.{holds};
 ghost use Rattle.fi_parts.specs.Noticed.{phase_after};
-ghost use Rattle.fi_parts.specs.Waiting.{with_phase, exchange, phase_of, IsLive, IsOrdered, is_registered, made, registered, forgotten, pair, asks_of, waker_in, waker_or};
+ghost use Rattle.fi_parts.specs.Waiting.{with_phase, exchange, phase_of, IsLive, IsOrdered, is_registered};
+ghost use Rattle.fi_parts.specs.Waiting.{made, registered, forgotten, pair, asks_of, waker_in, waker_or};
 ghost use Rattle.fi_channels.specs.declared.two_sides.Waiter.TheVariants.{Send, Receive};
 ghost use Rattle.fi_parts.specs.NamedPairs.{has_by, waker_by, without_by, first_waker};
 ghost use Rattle.fi_parts.specs.Oldest.{pop_oldest, pair_of_oldest, asks_of_oldest, complete_oldest};
@@ -118,8 +120,12 @@ impl<D: Drop, E: Drop, W: Drop> TwoSides<D, E, W> {
     pub fn remove_send(&mut self, slot: Slot) -> (D, Option<W>)
         requires { IsLive self.old.sends slot.0 }
         ensures asked { asks_of self.old.sends slot.0 ≡ Some result.0 }
-        ensures waker { MatchOption (phase_of self.old.sends slot.0) ⊥ (λ before. result.1 ≡ waker_or before (waker_by same_waiter (Send slot.0) self.old.out)) }
-        ensures removed { self.new ≡ record self.old { sends = forgotten self.old.sends slot.0; out = without_by same_waiter (Send slot.0) self.old.out } }
+        ensures waker { MatchOption (phase_of self.old.sends slot.0) ⊥
+            (λ before. result.1 ≡ waker_or before (waker_by same_waiter (Send slot.0) self.old.out)) }
+        ensures removed { self.new ≡ record self.old {
+          sends = forgotten self.old.sends slot.0;
+          out = without_by same_waiter (Send slot.0) self.old.out;
+        } }
     {
         let named = self.take_out_send(slot);
         let entry = self.sends.remove(slot);
@@ -131,7 +137,8 @@ impl<D: Drop, E: Drop, W: Drop> TwoSides<D, E, W> {
     // Takes the oldest send out of the queue; None if the queue is empty.
     fn leave_oldest_send(&mut self) -> Option<Slot>
         ensures { MatchOption result ((self.old.sends.queue ≡ []) × (self.new ≡ self.old))
-            (λ slot. (others : List ℕ) × (self.old.sends.queue ≡ slot.0 ∷ others) × (self.new ≡ record self.old { sends = record self.old.sends { queue = others } })) }
+            (λ slot. (others : List ℕ) × (self.old.sends.queue ≡ slot.0 ∷ others)
+            × (self.new ≡ record self.old { sends = record self.old.sends { queue = others } })) }
     {
         let slot = self.sends.leave_oldest()?;
         Some(slot)
@@ -141,7 +148,10 @@ impl<D: Drop, E: Drop, W: Drop> TwoSides<D, E, W> {
     fn notice_send(&mut self, slot: Slot, phase: Phase<W>)
         requires registered { is_registered (phase_of self.old.sends slot.0) ≡ true }
         requires no_pair { has_by same_waiter (Send slot.0) self.old.out ≡ false }
-        ensures { self.new ≡ record self.old { sends = record self.old.sends { live = with_phase self.old.sends.live slot.0 phase }; out = self.old.out ++ of_sends (pair self.old.sends slot.0) } }
+        ensures { self.new ≡ record self.old {
+          sends = record self.old.sends { live = with_phase self.old.sends.live slot.0 phase };
+          out = self.old.out ++ of_sends (pair self.old.sends slot.0);
+        } }
     {
         let ticket = self.sends.ticket(slot);
         let waker = self.sends.set_phase(slot, phase);
@@ -173,7 +183,10 @@ impl<D: Drop, E: Drop, W: Drop> TwoSides<D, E, W> {
     pub fn complete_oldest_send(&mut self, left: D) -> Option<D>
         requires { IsOrdered self.old.sends (sends_in self.old.out) }
         ensures asked { result ≡ asks_of_oldest self.old.sends }
-        ensures rest { self.new ≡ record self.old { sends = complete_oldest left self.old.sends; out = self.old.out ++ of_sends (pair_of_oldest self.old.sends) } }
+        ensures rest { self.new ≡ record self.old {
+          sends = complete_oldest left self.old.sends;
+          out = self.old.out ++ of_sends (pair_of_oldest self.old.sends);
+        } }
     {
         let slot = self.leave_oldest_send()?;
         let asked = self.exchange_send(slot, left);
@@ -234,7 +247,9 @@ impl<D: Drop, E: Drop, W: Drop> TwoSides<D, E, W> {
     pub fn set_receive_phase(&mut self, slot: Slot, phase: Phase<W>) -> Option<W>
         requires { IsLive self.old.receives slot.0 }
         ensures waker { MatchOption (phase_of self.old.receives slot.0) ⊥ (λ before. result ≡ waker_in before) }
-        ensures rest { self.new ≡ record self.old { receives = record self.old.receives { live = with_phase self.old.receives.live slot.0 phase } } }
+        ensures rest { self.new ≡ record self.old {
+          receives = record self.old.receives { live = with_phase self.old.receives.live slot.0 phase };
+        } }
     {
         self.receives.set_phase(slot, phase)
     }
@@ -243,8 +258,12 @@ impl<D: Drop, E: Drop, W: Drop> TwoSides<D, E, W> {
     pub fn remove_receive(&mut self, slot: Slot) -> (E, Option<W>)
         requires { IsLive self.old.receives slot.0 }
         ensures asked { asks_of self.old.receives slot.0 ≡ Some result.0 }
-        ensures waker { MatchOption (phase_of self.old.receives slot.0) ⊥ (λ before. result.1 ≡ waker_or before (waker_by same_waiter (Receive slot.0) self.old.out)) }
-        ensures removed { self.new ≡ record self.old { receives = forgotten self.old.receives slot.0; out = without_by same_waiter (Receive slot.0) self.old.out } }
+        ensures waker { MatchOption (phase_of self.old.receives slot.0) ⊥
+            (λ before. result.1 ≡ waker_or before (waker_by same_waiter (Receive slot.0) self.old.out)) }
+        ensures removed { self.new ≡ record self.old {
+          receives = forgotten self.old.receives slot.0;
+          out = without_by same_waiter (Receive slot.0) self.old.out;
+        } }
     {
         let named = self.take_out_receive(slot);
         let entry = self.receives.remove(slot);
@@ -256,7 +275,8 @@ impl<D: Drop, E: Drop, W: Drop> TwoSides<D, E, W> {
     // Takes the oldest receive out of the queue; None if the queue is empty.
     fn leave_oldest_receive(&mut self) -> Option<Slot>
         ensures { MatchOption result ((self.old.receives.queue ≡ []) × (self.new ≡ self.old))
-            (λ slot. (others : List ℕ) × (self.old.receives.queue ≡ slot.0 ∷ others) × (self.new ≡ record self.old { receives = record self.old.receives { queue = others } })) }
+            (λ slot. (others : List ℕ) × (self.old.receives.queue ≡ slot.0 ∷ others)
+            × (self.new ≡ record self.old { receives = record self.old.receives { queue = others } })) }
     {
         let slot = self.receives.leave_oldest()?;
         Some(slot)
@@ -266,7 +286,10 @@ impl<D: Drop, E: Drop, W: Drop> TwoSides<D, E, W> {
     fn notice_receive(&mut self, slot: Slot, phase: Phase<W>)
         requires registered { is_registered (phase_of self.old.receives slot.0) ≡ true }
         requires no_pair { has_by same_waiter (Receive slot.0) self.old.out ≡ false }
-        ensures { self.new ≡ record self.old { receives = record self.old.receives { live = with_phase self.old.receives.live slot.0 phase }; out = self.old.out ++ of_receives (pair self.old.receives slot.0) } }
+        ensures { self.new ≡ record self.old {
+          receives = record self.old.receives { live = with_phase self.old.receives.live slot.0 phase };
+          out = self.old.out ++ of_receives (pair self.old.receives slot.0);
+        } }
     {
         let ticket = self.receives.ticket(slot);
         let waker = self.receives.set_phase(slot, phase);
@@ -287,7 +310,10 @@ impl<D: Drop, E: Drop, W: Drop> TwoSides<D, E, W> {
     /// Takes the oldest receive out of the queue, tells it and names it, if one is queued.
     pub fn tell_oldest_receive(&mut self)
         requires { IsOrdered self.old.receives (receives_in self.old.out) }
-        ensures { self.new ≡ record self.old { receives = pop_oldest Phase.Told self.old.receives; out = self.old.out ++ of_receives (pair_of_oldest self.old.receives) } }
+        ensures { self.new ≡ record self.old {
+          receives = pop_oldest Phase.Told self.old.receives;
+          out = self.old.out ++ of_receives (pair_of_oldest self.old.receives);
+        } }
     {
         if let Some(slot) = self.leave_oldest_receive() {
             self.notice_receive(slot, Phase::Told);

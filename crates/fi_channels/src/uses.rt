@@ -2,5 +2,6 @@
 //! also its waker.
 
 mod answer;
+mod pipeline;
 mod settings;
 mod shutdown;

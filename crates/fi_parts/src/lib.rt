@@ -6,6 +6,7 @@ mod blocks;
 pub mod buffer;
 mod clocks;
 mod deadlines;
+mod debug;
 mod drain;
 mod errors;
 mod heap;

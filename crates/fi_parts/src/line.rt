@@ -19,7 +19,7 @@ use std::marker::Model;
 use std::mem;
 
 /// A future, and its ticket in the outbox.
-#[derive(Drop)]
+#[derive(Debug, Drop)]
 pub struct Entry<D, W> {
     pub ticket: Ticket,
     pub future: Future<D, W>,

@@ -1,6 +1,8 @@
 //! Each public call once, at a concrete type, and the worked cases of lists.
 ghost use Rattle.std.specs.Prelude.{◌≡◌, ◌∷◌, IfOk};
 
+mod debug;
+
 use crate::{ChannelSendError, CloseStatus, Fault, LinkedList, NoRoom, Outbox, Slot, StateId};
 use std::alloc::Global;
 use std::rc::Rc;

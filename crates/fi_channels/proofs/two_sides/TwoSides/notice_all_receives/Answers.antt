@@ -2,7 +2,8 @@ use Rattle.std.proofs.Common.{sym, ap, ◌∙◌}
 use Rattle.fi_parts.specs.Noticed.{phase_after}
 use Rattle.fi_channels.specs.TwoSidesModel.{notify_receives}
 use Rattle.fi_parts.proofs.Waiting.{notices}
-use Rattle.fi_channels.proofs.OldestReceive.{receive-next, notify_receives-step, notify_receives-none, receive-ordered, receive-waits, receive-unpaired}
+use Rattle.fi_channels.proofs.OldestReceive.{receive-next, notify_receives-step, notify_receives-none}
+use Rattle.fi_channels.proofs.OldestReceive.{receive-ordered, receive-waits, receive-unpaired}
 use Rattle.fi_channels.proofs.two_sides.TwoSides.notice_all_receives.Goals as goal
 
 pub notice_receive-requires-clause-registered : goal.notice_receive-requires-clause-registered
