@@ -1,5 +1,6 @@
 -- The calls on a semaphore keep the marks of its queue.
-use Rattle.std.proofs.Common.{◌≡◌, ◌≢◌, ℕ, ◌+◌, ◌-◌, ◌≤◌, ◌⊎◌, Bool, true, false, eqb, nat_le, List, [], ◌∷◌, ◌++◌, Option, Some, None, MatchOption, sum_by}
+use Rattle.std.proofs.Common.{◌≡◌, ◌≢◌, ℕ, ◌+◌, ◌-◌, ◌≤◌, ◌⊎◌, Bool, true, false, eqb, nat_le}
+use Rattle.std.proofs.Common.{List, [], ◌∷◌, ◌++◌, Option, Some, None, MatchOption, sum_by}
 use Rattle.std.proofs.Common.{refl, sym, ap, subst, ◌∙◌, inl, inr, arith}
 use Rattle.std.specs.Option.{option_or}
 use Rattle.std.specs.Ordering.{nat_cmp}
@@ -28,7 +29,8 @@ use Rattle.fi_locks.specs.ToldFutures.{IsToldFront}
 use Rattle.fi_locks.specs.ToldFuturesLaws.{front_still, front_without, front_registered, same_told}
 
 -- who was first stays so where one goes to the end, and that one is first of an empty list
-first_with : (first : Option Slot) (slot : Slot) (rest : List ℕ) → IsFirst first rest → IsFirst (option_or first (Some slot)) (rest ++ slot.0 ∷ [])
+first_with : (first : Option Slot) (slot : Slot) (rest : List ℕ) → IsFirst first rest →
+    IsFirst (option_or first (Some slot)) (rest ++ slot.0 ∷ [])
 first_with None slot rest is = ([], ap (λ xs. xs ++ slot.0 ∷ []) is)
 first_with (Some first) slot rest is = (is.0 ++ slot.0 ∷ [], ap (λ xs. xs ++ slot.0 ∷ []) is.1)
 
@@ -237,7 +239,8 @@ module _ {W : Type 0} where
     -- a told one of a fair semaphore is granted what it needs
     pub marks_told_ended : old.own.is_fair ≡ true → phase_at old name ≡ Some Told →
         MarksIf old.own.is_fair old.own.free promised untold_slot old.waiting.side → TakesEffect (EndsPlaced name) old.waiting new →
-        MarksIf old.own.is_fair (old.own.free - need_of old.waiting.side name) (promised - need_of old.waiting.side name) untold_slot new.side
+        MarksIf old.own.is_fair (old.own.free - need_of old.waiting.side name) (promised - need_of old.waiting.side name)
+        untold_slot new.side
     marks_told_ended fair stood was taken =
         let side = old.waiting.side in
         let marks = marks_fair old.own.is_fair old.own.free promised untold_slot side fair was in
@@ -296,7 +299,8 @@ module _ {W : Type 0} where
         (marks_without_first old.own.free old.own.free promised untold_slot old.waiting.side name sound.waiters.ordered.once marks slot next
         is same off younger)
 
-pub marks_opened : (W : Type 0) (is_fair : Bool) (permits : ℕ) → MarksIf is_fair permits 0 None (opened {W = W} is_fair permits).waiting.side
+pub marks_opened : (W : Type 0) (is_fair : Bool) (permits : ℕ) →
+    MarksIf is_fair permits 0 None (opened {W = W} is_fair permits).waiting.side
 marks_opened W true permits = record {
   told = [];
   rest = [];

@@ -1,5 +1,6 @@
 -- How far a telling round has come, as it walks the queue.
-use Rattle.std.proofs.Common.{◌≡◌, ◌≢◌, ℕ, ◌+◌, ◌-◌, ◌≤◌, ◌<◌, Bool, true, false, eqb, cond, if◌then◌else◌, List, [], ◌∷◌, ◌++◌, length, sum_by}
+use Rattle.std.proofs.Common.{◌≡◌, ◌≢◌, ℕ, ◌+◌, ◌-◌, ◌≤◌, ◌<◌, Bool, true, false, eqb}
+use Rattle.std.proofs.Common.{cond, if◌then◌else◌, List, [], ◌∷◌, ◌++◌, length, sum_by}
 use Rattle.std.proofs.Common.{Option, Some, None, MatchOption, append_assoc, refl, sym, ap, subst, ◌∙◌, arith}
 use Rattle.std.specs.Prelude.{unwrap_or}
 use Rattle.std.proofs.lemmas.Bool.{both_ways, cond-true, cond-false, eq-eqb, ne_eqb, or_left, or_right}
@@ -14,7 +15,8 @@ use Rattle.fi_parts.specs.declared.phase.Phase.TheVariants.{Told}
 use Rattle.fi_parts.specs.Machine.{phase_at}
 use Rattle.fi_parts.specs.Order.{holds, Apart}
 use Rattle.fi_parts.specs.Places.{is_told, queued_rule}
-use Rattle.fi_parts.specs.Waiting.{Side, Waiting, phase_in, phase_of, is_queued, with_phase, with_phases, pair_of, named, IsOrderedBy, told_one, front_told}
+use Rattle.fi_parts.specs.Waiting.{Side, Waiting, phase_in, phase_of, is_queued, with_phase}
+use Rattle.fi_parts.specs.Waiting.{with_phases, pair_of, named, IsOrderedBy, told_one, front_told}
 use Rattle.fi_parts.proofs.Slots.{eqb_same, holds-append}
 use Rattle.fi_parts.proofs.Told.{with_phase-same, front_told-step, front_told-none}
 use Rattle.fi_parts.proofs.Notified.{ordered-notified, may_notify-front}
@@ -234,7 +236,8 @@ module _ {W : Type 0} (old : SemaphoreMachine W) (now : Waiting ℕ W) (availabl
       let marks = marks_fair old.own.is_fair old.own.free promised untold old.waiting.side fair was in
       let fits : sum_by (need_of old.waiting.side) marks.told ≤ old.own.free = omega (arith, marks.sums, marks.fits) in
       let new : SemaphoreMachine W = at_now old now in
-      let front : IsToldFront now.side w.front w.rest = front_is_told old new marks.told marks.rest sound fair marks.front fits walk_tells in
+      let front : IsToldFront now.side w.front w.rest = front_is_told old new marks.told marks.rest sound fair marks.front
+      fits walk_tells in
       let needs : sum_by (need_of now.side) w.front ≡ sum_by (need_of old.waiting.side) w.front =
       front_needs old new marks.told marks.rest sound fair marks.front fits walk_tells in
       subst (λ b. MarksIf b old.own.free (old.own.free - available) next now.side) (sym fair) (record {

@@ -1,3 +1,5 @@
+pub mod Live
+pub mod LiveLaws
 pub mod Timer
 pub mod TimerLaws
 pub mod TimerFields

@@ -147,10 +147,6 @@ module _ {T W : Type 0} where
   abbrev pub Wakes : MutexMachine T W → Option W → MutexMachine T W → Type 0
   Wakes old answer new = StepsTo old old.own (PopsOldest answer) new
 
-  -- whoever lived lives still
-  abbrev pub AllStayLive : MutexMachine T W → MutexMachine T W → Type 0
-  AllStayLive old new = (name : ℕ) → is_some (phase_at old name) ≡ true → is_some (phase_at new name) ≡ true
-
   -- The queue holds the registered futures, and in a fair mutex the told ones; out is in order; no future is complete.
   abbrev pub IsSound : MutexMachine T W → Type 0
   IsSound mutex = HasSoundWaitersBy (is_queued mutex.own.is_fair) is_lock_phase mutex

@@ -20,7 +20,7 @@ use Rattle.fi_parts.specs.Places.{is_told, queued_rule}
 use Rattle.fi_parts.specs.WakerHistory.{WakerEffect, gives}
 use Rattle.fi_parts.specs.WakerHistory.WakerEffect.{Leaves, NoEffect}
 use Rattle.fi_parts.specs.Waiting.{Side, Waiting, phase_in, phase_of, is_queued}
-use Rattle.fi_parts.proofs.Effects.{untold, untold_if_leaving, effect_after, effect_sound, still_lives}
+use Rattle.fi_parts.proofs.Effects.{untold, untold_if_leaving, effect_after, effect_sound}
 use Rattle.fi_parts.proofs.Machines.{initial_holds, line_preserves, line, unchanged, inserts, removes, pops, ends_placed}
 use Rattle.fi_parts.proofs.Machines.{registers, stays, added, phases_after}
 use Rattle.fi_parts.proofs.Notified.{AllBecome}
@@ -30,7 +30,7 @@ use Rattle.fi_locks.specs.Mutex.{is_free, queue_of, opened}
 use Rattle.fi_locks.specs.Mutex.{for_newcomer, for_registered, Makes, GrantsOr, PollsAs, Polls, CancelsAs, Cancels, TriesFor}
 use Rattle.fi_locks.specs.Mutex.{TriesLock}
 use Rattle.fi_locks.specs.Mutex.{UnlocksFrom, Unlocks, Wakes, IsSound, OwesNoWakeAs, OwesNoWake, IsLockedIfReady}
-use Rattle.fi_locks.specs.Mutex.{IsLockedIfGiven, AllStayLive}
+use Rattle.fi_locks.specs.Mutex.{IsLockedIfGiven}
 
 -- The oldest of a queue.
 
@@ -414,13 +414,6 @@ module _ {T W : Type 0} where
 
     pub cancel_keeps_own : (name : ℕ) → Cancels old name new → new.own ≡ old.own
     cancel_keeps_own name did = own_as name (phase_at old name) did
-
-    pub stay_live : MutexLine NoEffect old new → IsSound old → AllStayLive old new
-    stay_live did sound name lives =
-        let l = did.line in
-        still_lives (queued_rule old.own.is_fair) is_lock_phase known l.effect old.waiting new.waiting l.allows sound l.steps.1
-        (effect_after (queued_rule old.own.is_fair) is_lock_phase known l.effect old.waiting new.waiting l.allows sound l.steps.1)
-        l.effect_is name lives
 
     module _ (was : IsWell old) where
       fairness : (own : MutexData T) → own.is_fair ≡ old.own.is_fair → new.own ≡ own → new.own.is_fair ≡ old.own.is_fair

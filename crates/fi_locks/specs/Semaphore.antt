@@ -6,7 +6,8 @@ use Rattle.futures.specs.declared.task.Poll.TheVariants.{Ready, Pending}
 use Rattle.fi_parts.specs.declared.phase.Phase.{Phase}
 use Rattle.fi_parts.specs.declared.phase.Phase.TheVariants.{Fresh, Registered, Told, Complete}
 use Rattle.fi_parts.specs.Effects.{WaiterEffect, TakesEffect}
-use Rattle.fi_parts.specs.Effects.WaiterEffect.{NoChange, Inserts, Registers, KeepsWaiting, Ends, EndsPlaced, Removes, NotifiesFront, PopsOldest}
+use Rattle.fi_parts.specs.Effects.WaiterEffect.{NoChange, Inserts, Registers, KeepsWaiting, Ends}
+use Rattle.fi_parts.specs.Effects.WaiterEffect.{EndsPlaced, Removes, NotifiesFront, PopsOldest}
 use Rattle.fi_parts.specs.Machine.{Machine, phase_at, initial, StepsTo, HasSoundWaitersBy}
 use Rattle.fi_parts.specs.Places.{is_told}
 use Rattle.fi_parts.specs.Waiting.{Side, Waiting, phase_of, asks_of, is_queued, is_registered}

@@ -1,5 +1,6 @@
 -- Each call on a semaphore is a line of its table, and keeps a semaphore sound that owes no wake.
-use Rattle.std.specs.Prelude.{◌≡◌, ◌≢◌, ◌+◌, ◌-◌, ◌*◌, ◌^◌, ◌<◌, ◌≤◌, ◌==◌, ◌&&◌, ◌||◌, ◌⊎◌, ℕ, zero, suc, nat_le, nat_lt, not, Bool, true, false}
+use Rattle.std.specs.Prelude.{◌≡◌, ◌≢◌, ◌+◌, ◌-◌, ◌*◌, ◌^◌, ◌<◌, ◌≤◌, ◌==◌, ◌&&◌, ◌||◌, ◌⊎◌}
+use Rattle.std.specs.Prelude.{ℕ, zero, suc, nat_le, nat_lt, not, Bool, true, false}
 use Rattle.std.specs.Prelude.{if◌then◌else◌, Option, Some, None, List, [], ◌∷◌, ◌++◌, length, sum_by, refl}
 use Rattle.std.proofs.Common.{ap, subst, sym, ◌∙◌, inl, inr, arith}
 use Rattle.std.proofs.lemmas.Bool.{both_ways, cases_eq, leb-true, leb-false, le-leb, ltb-false, and_parts, and_cases, and_from}
@@ -11,7 +12,8 @@ use Rattle.futures.specs.declared.task.Poll.TheVariants.{Ready, Pending}
 use Rattle.fi_parts.specs.declared.phase.Phase.{Phase}
 use Rattle.fi_parts.specs.declared.phase.Phase.TheVariants.{Fresh, Registered, Told, Complete, Ended}
 use Rattle.fi_parts.specs.Effects.{WaiterEffect, TakesEffect}
-use Rattle.fi_parts.specs.Effects.WaiterEffect.{NoChange, Inserts, Registers, KeepsWaiting, Ends, EndsPlaced, Removes, NotifiesFront, PopsOldest}
+use Rattle.fi_parts.specs.Effects.WaiterEffect.{NoChange, Inserts, Registers, KeepsWaiting, Ends}
+use Rattle.fi_parts.specs.Effects.WaiterEffect.{EndsPlaced, Removes, NotifiesFront, PopsOldest}
 use Rattle.fi_parts.specs.Effects.WaiterEffect.{AndThen}
 use Rattle.fi_parts.specs.Machine.{phase_at, AllowsEffect, LacksAfter, StepsTo, Line, PollLine, poll_effect, waker_effect}
 use Rattle.fi_parts.specs.Order.{holds, Apart, without}
@@ -27,12 +29,15 @@ use Rattle.fi_locks.specs.declared.asked.Asked.{Asked}
 use Rattle.fi_locks.specs.declared.asked.Asked.TheVariants.{NoNeed, OneNeed, MixedNeeds}
 use Rattle.fi_locks.specs.FrontLaws.{sum_without, not_empty}
 use Rattle.fi_locks.specs.Semaphore.{Permits, SemaphoreMachine, asked_after, granted, can_take, opened, need_of, can_be_polled, is_granted}
-use Rattle.fi_locks.specs.Semaphore.{AreHeld, Tells, StepsTelling, Makes, PollsAs, PollsNeeding, Polls, cancel_tells, Cancels, TriesAcquire, Releases}
-use Rattle.fi_locks.specs.Semaphore.{GivesBack, Disarms, Wakes, is_acquire_phase, IsSound, OwesNoWakeFair, OwesNoWakeUnfair, OwesNoWakeIf, OwesNoWake}
+use Rattle.fi_locks.specs.Semaphore.{AreHeld, Tells, StepsTelling, Makes, PollsAs, PollsNeeding}
+use Rattle.fi_locks.specs.Semaphore.{Polls, cancel_tells, Cancels, TriesAcquire, Releases}
+use Rattle.fi_locks.specs.Semaphore.{GivesBack, Disarms, Wakes, is_acquire_phase, IsSound}
+use Rattle.fi_locks.specs.Semaphore.{OwesNoWakeFair, OwesNoWakeUnfair, OwesNoWakeIf, OwesNoWake}
 use Rattle.fi_locks.specs.SemaphoreSoundLaws.{known, rules, no_lack, at_own, Changes, same_need, other_need_inserted, other_need_removed}
 use Rattle.fi_locks.specs.SemaphoreSoundLaws.{told_waits, registered_waits, waiters_after, sound_phase, sound_permits, sound_inserted}
 use Rattle.fi_locks.specs.SemaphoreSoundLaws.{counted_still, after, sound_ended, sound_removed, sound_tells, sound_opened}
-use Rattle.fi_locks.specs.SemaphoreFairLaws.{taken_fairly, fair_still, fair_empty, fair_changed, fair_registered, fair_tells, told_fits, less_told}
+use Rattle.fi_locks.specs.SemaphoreFairLaws.{taken_fairly, fair_still, fair_empty, fair_changed}
+use Rattle.fi_locks.specs.SemaphoreFairLaws.{fair_registered, fair_tells, told_fits, less_told}
 use Rattle.fi_locks.specs.SemaphoreUnfairLaws.{one_need, none_waits, told_unqueued, unfair_still, still_registered, unfair_told_granted}
 use Rattle.fi_locks.specs.SemaphoreUnfairLaws.{unfair_registered, unfair_tells}
 use Rattle.fi_locks.specs.ToldFutures.{AreTold, IsToldFront}
@@ -134,7 +139,8 @@ module _ {W : Type 0} where
       (did.2.2.0, (did.0, did.1, did.2.2.1)) (allows, λ mid taken. (refl, sym fair), refl) (λ asks. tt)
   telling_line false permits effect old new fair allows lack did = line (rules old.own.is_fair) permits effect old new did allows lack
 
-  pub inserted : (old new : SemaphoreMachine W) (name need : ℕ) → Makes old need name new → Line (rules old.own.is_fair) (Leaves name) old new
+  pub inserted : (old new : SemaphoreMachine W) (name need : ℕ) → Makes old need name new →
+      Line (rules old.own.is_fair) (Leaves name) old new
   inserted old new name need did =
       line (rules old.own.is_fair) (record old.own { asked = asked_after old.own.asked need }) (Inserts name need) old new did tt
       (λ asks lack. tt)
@@ -512,7 +518,8 @@ module _ {W : Type 0} where
         (λ at. was.0.needs name (ap (is_queued true) stood)) in
         let told = same_told old.waiting.side new.waiting.side name (Some (Registered waker)) b refl (ap is_told stood) in
         to_new old.own new did.0 (holds_by old old.own new.waiting was.1 sound refl refl
-        (λ fair owed. fair_still old.waiting.side new.waiting.side old.own.free owed (queue_to new.waiting _ did.1.1) told (λ q at. needs q))
+        (λ fair owed. fair_still old.waiting.side new.waiting.side old.own.free owed (queue_to new.waiting _ did.1.1) told
+        (λ q at. needs q))
         (λ only unfair one owed. unfair_still old.waiting.side new.waiting.side old.own.free old.own.free only owed (omega arith) told
         (still_registered old.waiting.side new.waiting.side name (Some (Registered waker)) b (λ h. ap is_registered stood))))
 
@@ -611,5 +618,14 @@ module _ {W : Type 0} where
   cancelled_held old new name did = each (cancel_tells old.own.is_fair (phase_at old name)) did
     where
       each : (tells : Bool) → StepsTelling tells old old.own (Removes name) new → new.own.held ≡ old.own.held
+      each true steps = ap (λ (p : Permits). p.held) steps.2.2.0
+      each false steps = ap (λ (p : Permits). p.held) steps.0
+
+  -- so does a release
+  pub released_held : (old new : SemaphoreMachine W) (n : ℕ) → Releases old n new → new.own.held ≡ old.own.held
+  released_held old new n did = each (nat_lt 0 n) did.1
+    where
+      each : (tells : Bool) → StepsTelling tells old (record old.own { free = old.own.free + n }) NoChange new →
+          new.own.held ≡ old.own.held
       each true steps = ap (λ (p : Permits). p.held) steps.2.2.0
       each false steps = ap (λ (p : Permits). p.held) steps.0

@@ -21,7 +21,8 @@ use Rattle.fi_parts.proofs.Slots.{holds-append}
 use Rattle.fi_parts.proofs.Waiting.{Becomes}
 use Rattle.fi_locks.specs.declared.asked.Asked.{Asked}
 use Rattle.fi_locks.specs.declared.asked.Asked.TheVariants.{NoNeed, OneNeed, MixedNeeds}
-use Rattle.fi_locks.specs.Semaphore.{Permits, SemaphoreMachine, asked_after, IsAmong, granted, opened, need_of, is_acquire_phase, IsSound, Tells}
+use Rattle.fi_locks.specs.Semaphore.{Permits, SemaphoreMachine, asked_after, IsAmong, granted}
+use Rattle.fi_locks.specs.Semaphore.{opened, need_of, is_acquire_phase, IsSound, Tells}
 
 among_zero : (asked : Asked) → IsAmong asked 0
 among_zero NoNeed = refl
@@ -114,7 +115,8 @@ module _ {W : Type 0} where
   pub need_inserted : (name need : ℕ) (old new : Waiting ℕ W) → TakesEffect (Inserts name need) old new → need_of new.side name ≡ need
   need_inserted name need old new taken =
       need_from new.side name (Some need)
-      (asks_after (Inserts name need) old new taken name ∙ if_true (name == name) (Some need) (asks_of old.side name) (eq-eqb name name refl))
+      (asks_after (Inserts name need) old new taken name ∙ if_true (name == name) (Some need) (asks_of old.side name)
+      (eq-eqb name name refl))
 
   pub other_need_inserted : (name need : ℕ) (old new : Waiting ℕ W) → TakesEffect (Inserts name need) old new → (q : ℕ) → q ≢ name →
       need_of new.side q ≡ need_of old.side q
@@ -149,7 +151,8 @@ module _ {W : Type 0} where
 
   -- One name changed.
   pub sound_one : (old : SemaphoreMachine W) (permits : Permits) (new : Waiting ℕ W) (name : ℕ) (phase : Option (Phase W)) →
-      IsSound old → permits.is_fair ≡ old.own.is_fair → HasSoundWaitersBy (is_queued old.own.is_fair) is_acquire_phase (at_own old.own new) →
+      IsSound old → permits.is_fair ≡ old.own.is_fair →
+      HasSoundWaitersBy (is_queued old.own.is_fair) is_acquire_phase (at_own old.own new) →
       permits.free + permits.held < 2 ^ 64 → Changes old.waiting.side new.side name phase →
       ((q : ℕ) → IsAmong permits.asked (need_of old.waiting.side q)) → IsAmong permits.asked (need_of new.side name) →
       (is_queued true phase ≡ true → 0 < need_of new.side name) → IsSound (at_own permits new)
@@ -222,7 +225,8 @@ module _ {W : Type 0} where
   tells_front old front = NotifiesFront old.own.is_fair front
 
   -- the phases after a round
-  pub told_now : (old new : SemaphoreMachine W) → IsSound old → (did : Tells old new) → AllBecome old.waiting.side new.waiting.side did.0 Told
+  pub told_now : (old new : SemaphoreMachine W) → IsSound old → (did : Tells old new) →
+      AllBecome old.waiting.side new.waiting.side did.0 Told
   told_now old new was did =
       phases_after (rules old.own.is_fair) old.own (tells_front old did.0) old new was.waiters (refl, refl) did.2
 

@@ -3,6 +3,7 @@
 #![tactic(auto)]
 
 mod asked;
+mod debug;
 mod mutex;
 mod mutex_future;
 mod mutex_guard;

@@ -3,7 +3,9 @@ ghost use Rattle.std.specs.Prelude.{◌≡◌, true, false, Option, Some, None, 
 ghost use Rattle.fi_parts.specs.Machine.{phase_at, displaced_at};
 ghost use Rattle.fi_parts.specs.Polled.{unused_after};
 ghost use Rattle.fi_parts.specs.Waiting.{phase_of, displaced};
-ghost use Rattle.fi_locks.specs.Mutex.{opened, is_free, can_be_polled, Makes, Polls, Cancels, TriesLock, Unlocks, Wakes, IsLockedIfReady, IsLockedIfGiven, AllStayLive, IsSound, OwesNoWake};
+ghost use Rattle.fi_locks.specs.Mutex.{opened, is_free, can_be_polled, Makes, Polls, Cancels, TriesLock};
+ghost use Rattle.fi_locks.specs.Mutex.{Unlocks, Wakes, IsLockedIfReady, IsLockedIfGiven, IsSound, OwesNoWake};
+ghost use Rattle.fi_locks.specs.Live.{AllStayLive};
 
 use crate::mutex_future::LocalMutexLockFuture;
 use crate::mutex_guard::LocalMutexGuard;
@@ -90,6 +92,7 @@ impl<T: Drop, W: Drop> MutexState<T, W> {
     pub fn try_lock(&mut self) -> Option<LocalMutexGuard<T>>
         ensures tried { TriesLock self.old result self.new }
         ensures locked { IsLockedIfGiven result self.new }
+        ensures live { AllStayLive self.old self.new }
     {
         match self.try_take() {
             Some(value) => Some(LocalMutexGuard::of(value)),
@@ -101,6 +104,7 @@ impl<T: Drop, W: Drop> MutexState<T, W> {
     pub fn try_take(&mut self) -> Option<T>
         ensures tried { TriesLock self.old result self.new }
         ensures locked { IsLockedIfGiven result self.new }
+        ensures live { AllStayLive self.old self.new }
     {
         self.fields.try_take()
     }
@@ -125,7 +129,8 @@ impl<T: Drop, W: Drop> MutexState<T, W> {
 
     /// Takes out the oldest waker that was named to be woken; None where none is left.
     pub fn next_wake(&mut self) -> Option<W>
-        ensures { Wakes self.old result self.new }
+        ensures woken { Wakes self.old result self.new }
+        ensures live { AllStayLive self.old self.new }
     {
         self.fields.locks.next_wake()
     }
@@ -173,6 +178,7 @@ impl<T: Drop, W: Drop> MutexState<T, W> {
         ensures displaced { result.1.displaced ≡ displaced_at self.old slot.0 }
         ensures unused { result.1.unused ≡ unused_after result.0 waker }
         ensures locked { IsLockedIfReady result.0 self.new }
+        ensures live { is_some (phase_at self.new slot.0) ≡ true }
     {
         self.fields.try_wait(slot, waker)
     }

@@ -1,7 +1,8 @@
 //! What a local mutex gives to whoever locks it.
 ghost use Rattle.std.specs.Prelude.{◌≡◌, false, Ok};
 ghost use Rattle.std.specs.Borrow.{Lends, sem};
-ghost use Rattle.fi_locks.specs.Mutex.{is_free, Unlocks, AllStayLive};
+ghost use Rattle.fi_locks.specs.Live.{AllStayLive};
+ghost use Rattle.fi_locks.specs.Mutex.{is_free, Unlocks};
 
 use crate::mutex::LocalMutex;
 use std::marker::Model;

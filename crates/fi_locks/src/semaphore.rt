@@ -1,5 +1,6 @@
 //! A semaphore.
-ghost use Rattle.std.specs.Prelude.{◌≡◌, ◌≤◌, ◌<◌, ◌+◌, ◌-◌, ◌^◌, ℕ, Bool, true, false, Option, Some, None, IfOk, IfErr, OnErr, MatchOption, is_some, length, ⊤};
+ghost use Rattle.std.specs.Prelude.{◌≡◌, ◌≤◌, ◌<◌, ◌+◌, ◌-◌, ◌^◌, ℕ, Bool, true, false, Option, Some};
+ghost use Rattle.std.specs.Prelude.{None, IfOk, IfErr, OnErr, MatchOption, is_some, length, ⊤};
 ghost use Rattle.fi_parts.specs.Effects.{TakesEffect};
 ghost use Rattle.fi_parts.specs.Effects.WaiterEffect.{EndsPlaced};
 ghost use Rattle.fi_parts.specs.Machine.{phase_at, displaced_at};
@@ -7,7 +8,10 @@ ghost use Rattle.fi_parts.specs.Places.{is_told};
 ghost use Rattle.fi_parts.specs.Polled.{unused_after};
 ghost use Rattle.fi_parts.specs.Waiting.{phase_of, displaced, is_registered, is_queued, IsOrderedBy};
 ghost use Rattle.fi_parts.specs.declared.phase.Phase.TheVariants as phases;
-ghost use Rattle.fi_locks.specs.Semaphore.{opened, can_be_polled, need_of, can_take, granted, cancel_tells, Makes, Polls, Cancels, TriesAcquire, Releases, GivesBack, Disarms, Wakes, Tells, AreHeld, IsSound, OwesNoWake};
+ghost use Rattle.fi_locks.specs.Semaphore.{opened, can_be_polled, need_of, can_take, granted};
+ghost use Rattle.fi_locks.specs.Semaphore.{cancel_tells, Makes, Polls, Cancels, TriesAcquire, Releases};
+ghost use Rattle.fi_locks.specs.Semaphore.{GivesBack, Disarms, Wakes, Tells, AreHeld, IsSound, OwesNoWake};
+ghost use Rattle.fi_locks.specs.Live.{AllStayLive};
 ghost use Rattle.fi_locks.specs.SemaphoreFields.{IsMarked};
 
 use crate::asked::Asked;
@@ -113,6 +117,7 @@ impl<W: Drop> SemaphoreState<W> {
         ensures tried { TriesAcquire self.old permits (is_some result) self.new }
         ensures granted { MatchOption result ⊤ (λ releaser. releaser ≡ permits) }
         ensures held { MatchOption result ⊤ (λ releaser. releaser ≤ self.new.own.held) }
+        ensures live { AllStayLive self.old self.new }
     {
         if self.try_acquire_sync(permits) {
             Some(LocalSemaphoreReleaser::of(permits))
@@ -129,6 +134,8 @@ impl<W: Drop> SemaphoreState<W> {
         ensures released { IfOk result (λ _. Releases self.old permits self.new) }
         ensures refused { OnErr result (self.new ≡ self.old) }
         ensures fault { IfErr result (λ fault. (fault ≡ Fault.Overflow) × (2 ^ 64 ≤ self.old.own.free + self.old.own.held + permits)) }
+        ensures held { self.new.own.held ≡ self.old.own.held }
+        ensures live { AllStayLive self.old self.new }
     {
         self.fields.release(permits)
     }
@@ -149,7 +156,8 @@ impl<W: Drop> SemaphoreState<W> {
 
     /// Takes out the oldest waker that was named to be woken; None where none is left.
     pub fn next_wake(&mut self) -> Option<W>
-        ensures { Wakes self.old result self.new }
+        ensures woken { Wakes self.old result self.new }
+        ensures live { AllStayLive self.old self.new }
     {
         self.fields.next_wake()
     }
@@ -198,6 +206,7 @@ impl<W: Drop> SemaphoreState<W> {
         ensures held { AreHeld result.0 self.new.own.held }
         ensures displaced { result.1.displaced ≡ displaced_at self.old slot.0 }
         ensures unused { result.1.unused ≡ unused_after result.0 waker }
+        ensures live { is_some (phase_at self.new slot.0) ≡ true }
     {
         self.fields.acquire_or_register(slot, waker)
     }
@@ -216,7 +225,8 @@ impl<W: Drop> SemaphoreState<W> {
     /// Acquires this many permits as `try_acquire` does, and says whether it did. They are then held until `give_back` or
     /// `disarm` is called with them.
     pub fn try_acquire_sync(&mut self, permits: usize) -> bool
-        ensures { TriesAcquire self.old permits result self.new }
+        ensures tried { TriesAcquire self.old permits result self.new }
+        ensures live { AllStayLive self.old self.new }
     {
         self.fields.try_acquire(permits)
     }
@@ -226,7 +236,8 @@ impl<W: Drop> SemaphoreState<W> {
     /// The caller has seen that they are held (`held`).
     pub fn give_back(&mut self, permits: usize)
         requires { permits ≤ self.old.own.held }
-        ensures { GivesBack self.old permits self.new }
+        ensures given_back { GivesBack self.old permits self.new }
+        ensures live { AllStayLive self.old self.new }
     {
         self.fields.give_back(permits);
     }
@@ -236,7 +247,8 @@ impl<W: Drop> SemaphoreState<W> {
     /// The caller has seen that they are held (`held`).
     pub fn disarm(&mut self, permits: usize)
         requires { permits ≤ self.old.own.held }
-        ensures { Disarms self.old permits self.new }
+        ensures disarmed { Disarms self.old permits self.new }
+        ensures live { AllStayLive self.old self.new }
     {
         self.fields.disarm(permits);
     }

@@ -2,6 +2,7 @@
 ghost use Rattle.std.specs.Prelude.{◌≡◌, ◌≤◌, true, false, is_some};
 ghost use Rattle.fi_parts.specs.Machine.{phase_at};
 ghost use Rattle.fi_parts.specs.Polled.{is_ready};
+ghost use Rattle.fi_locks.specs.Live.{AllStayLive};
 ghost use Rattle.fi_locks.specs.Semaphore.{can_be_polled, Polls, Cancels, GivesBack, Disarms, AreHeld};
 
 use crate::semaphore::LocalSemaphore;
@@ -82,7 +83,6 @@ impl LocalSemaphoreAcquireFuture {
         ensures ended { self.new.has_ended ≡ is_ready result }
         ensures live { is_some (phase_at semaphore.new self.old.name) ≡ true }
     {
-        semaphore.show();
         let (answer, _leftover) = semaphore.acquire_or_register(self.slot, waker);
         self.is_ended = answer.is_ready();
         let Poll::Ready(permits) = answer else {
@@ -125,7 +125,8 @@ impl LocalSemaphoreReleaser {
     /// The caller lends the permits' own semaphore, which holds them. Keeps the drop of `GenericSemaphoreReleaser`.
     pub fn give_back<W: Drop>(self, semaphore: &mut LocalSemaphore<W>)
         requires { self ≤ semaphore.old.own.held }
-        ensures { GivesBack semaphore.old self semaphore.new }
+        ensures given_back { GivesBack semaphore.old self semaphore.new }
+        ensures live { AllStayLive semaphore.old semaphore.new }
     {
         let LocalSemaphoreReleaser { permits } = self;
         semaphore.give_back(permits);
@@ -139,6 +140,7 @@ impl LocalSemaphoreReleaser {
         ensures disarmed { Disarms semaphore.old self.old semaphore.new }
         ensures count { result ≡ self.old }
         ensures none_left { self.new ≡ 0 }
+        ensures live { AllStayLive semaphore.old semaphore.new }
     {
         let permits = mem::replace(&mut self.permits, 0);
         semaphore.disarm(permits);

@@ -1,9 +1,12 @@
 //! The timer: each call by slot and by local future, and makings in every kind of state.
 
+mod debug;
 mod makings;
 mod mutex;
 mod mutex_reference;
+mod reference;
 mod semaphore;
+mod semaphore_reference;
 
 use crate::{LocalTimerService, TimerState};
 use fi_parts::Slot;
@@ -23,6 +26,18 @@ fn a_local_timer_future(rt: HostRuntime) -> Result<(), Fail> {
     assert!(rt; !was_ended);
     assert_eq!(rt; answer, Poll::Ready(()));
     assert!(rt; is_ended);
+    Ok(())
+}
+
+#[test]
+fn a_timer_future_is_told_and_leaves(rt: HostRuntime) -> Result<(), Fail> {
+    let mut timer: LocalTimerService<u64> = LocalTimerService::new(rt.alloc());
+    let mut future = timer.deadline(10).ok().ok_or("room")?;
+    let answer = future.poll(&mut timer, 9, 1);
+    timer.check_expirations(10);
+    let woken = timer.next_wake();
+    future.cancel(&mut timer);
+    assert_eq!(rt; (answer, woken), (Poll::Pending, Some(1)));
     Ok(())
 }
 

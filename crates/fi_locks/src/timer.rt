@@ -5,6 +5,7 @@ ghost use Rattle.fi_parts.specs.Waiting.{phase_of, displaced};
 ghost use Rattle.fi_parts.specs.Machine.{phase_at, displaced_at};
 ghost use Rattle.fi_parts.specs.Deadlines.{IsNextExpiry};
 ghost use Rattle.fi_parts.specs.Polled.{unused_after};
+ghost use Rattle.fi_locks.specs.Live.{AllStayLive};
 ghost use Rattle.fi_locks.specs.Timer.{opened, expiry_after, can_be_polled, Makes, Polls, Cancels, Checks, Wakes, IsSound, OwesNoWake};
 
 use crate::timer_future::LocalTimerFuture;
@@ -109,14 +110,16 @@ impl<W: Drop> TimerState<W> {
     ///
     /// Keeps `GenericTimerService::check_expirations`.
     pub fn check_expirations(&mut self, now: u64)
-        ensures { Checks self.old now self.new }
+        ensures checked { Checks self.old now self.new }
+        ensures live { AllStayLive self.old self.new }
     {
         self.fields.check_expirations(now);
     }
 
     /// Takes out the oldest waker that was named to be woken; None where none is left.
     pub fn next_wake(&mut self) -> Option<W>
-        ensures { Wakes self.old result self.new }
+        ensures woken { Wakes self.old result self.new }
+        ensures live { AllStayLive self.old self.new }
     {
         self.fields.deadlines.next_wake()
     }
@@ -173,6 +176,7 @@ impl<W: Drop> TimerState<W> {
         ensures polled { Polls self.old slot.0 now waker result.0 self.new }
         ensures displaced { result.1.displaced ≡ displaced_at self.old slot.0 }
         ensures unused { result.1.unused ≡ unused_after result.0 waker }
+        ensures live { is_some (phase_at self.new slot.0) ≡ true }
     {
         self.fields.try_wait(slot, now, waker)
     }

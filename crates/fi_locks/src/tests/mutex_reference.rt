@@ -1,28 +1,18 @@
 //! A plain mutex, written with vectors, answers drawn lists of calls as the state does and wakes the same wakers.
-ghost use Rattle.std.specs.Prelude.{◌<◌};
 
+use super::reference::{Draws, PlainWaiters, Stage};
 use crate::MutexState;
 use fi_parts::Slot;
 use futures::task::Poll;
 use std::alloc::Global;
 use std::test::Fail;
 
-#[derive(Clone, Copy, Debug, PartialEq, Eq)]
-enum Stage {
-    Unpolled,
-    Waiting(u64),
-    Told,
-    Over,
-}
-
-// A mutex as its rules read: its live futures, those who are queued, the oldest first, and who is to be woken.
+// A mutex as its rules read.
 #[derive(Drop)]
 struct PlainMutex {
     is_fair: bool,
     value: Option<u64>,
-    futures: Vec<(Slot, Stage)>,
-    queue: Vec<Slot>,
-    to_wake: Vec<(Slot, u64)>,
+    waiters: PlainWaiters,
 }
 
 impl PlainMutex {
@@ -30,53 +20,19 @@ impl PlainMutex {
         PlainMutex {
             is_fair,
             value: Some(value),
-            futures: Vec::new(alloc),
-            queue: Vec::new(alloc),
-            to_wake: Vec::new(alloc),
+            waiters: PlainWaiters::new(alloc),
         }
-    }
-
-    fn stage(&self, slot: Slot) -> Option<Stage> {
-        for (name, stage) in self.futures.iter() {
-            if *name == slot {
-                return Some(*stage);
-            }
-        }
-        None
-    }
-
-    fn set_stage(&mut self, slot: Slot, stage: Stage) {
-        for future in self.futures.iter_mut() {
-            if future.0 == slot {
-                future.1 = stage;
-            }
-        }
-    }
-
-    fn leave(&mut self, slot: Slot) {
-        self.queue.retain(|name| *name != slot);
-    }
-
-    fn take_pair(&mut self, slot: Slot) {
-        self.to_wake.retain(|pair| pair.0 != slot);
     }
 
     fn tell_oldest(&mut self) -> Result<(), Fail> {
-        let Some(oldest) = self.queue.first().copied() else {
-            return Ok(());
-        };
-        if let Some(Stage::Waiting(waker)) = self.stage(oldest) {
-            self.to_wake.push((oldest, waker))?;
+        match self.waiters.queue.first().copied() {
+            Some(oldest) => self.waiters.tell(oldest, self.is_fair),
+            None => Ok(()),
         }
-        self.set_stage(oldest, Stage::Told);
-        if !self.is_fair {
-            self.leave(oldest);
-        }
-        Ok(())
     }
 
     fn try_lock(&mut self) -> Option<u64> {
-        if self.is_fair && !self.queue.is_empty() {
+        if self.is_fair && !self.waiters.queue.is_empty() {
             return None;
         }
         self.value.take()
@@ -93,59 +49,27 @@ impl PlainMutex {
 
     // None where the future may not be polled.
     fn poll(&mut self, slot: Slot, waker: u64) -> Result<Option<Poll<u64>>, Fail> {
-        let given = match self.stage(slot) {
+        let given = match self.waiters.stage(slot) {
             None | Some(Stage::Over) => return Ok(None),
             Some(Stage::Unpolled) => self.try_lock(),
             Some(Stage::Waiting(_)) if self.is_fair => None,
             Some(Stage::Waiting(_) | Stage::Told) => self.value.take(),
         };
-        self.take_pair(slot);
         if let Some(value) = given {
-            self.leave(slot);
-            self.set_stage(slot, Stage::Over);
+            self.waiters.end(slot);
             return Ok(Some(Poll::Ready(value)));
         }
-        if !self.queue.contains(&slot) {
-            self.queue.push(slot)?;
-        }
-        self.set_stage(slot, Stage::Waiting(waker));
+        self.waiters.wait(slot, waker)?;
         Ok(Some(Poll::Pending))
     }
 
     fn cancel(&mut self, slot: Slot) -> Result<(), Fail> {
-        let was_told = self.stage(slot) == Some(Stage::Told);
-        self.futures.retain(|future| future.0 != slot);
-        self.take_pair(slot);
-        self.leave(slot);
+        let was_told = self.waiters.stage(slot) == Some(Stage::Told);
+        self.waiters.remove(slot);
         if was_told {
             self.tell_oldest()?;
         }
         Ok(())
-    }
-
-    fn next_wake(&mut self) -> Option<u64> {
-        let (slot, waker) = self.to_wake.first().copied()?;
-        self.take_pair(slot);
-        Some(waker)
-    }
-}
-
-// Draws numbers: the same ones in each run.
-#[derive(Drop)]
-struct Draws {
-    state: u64,
-}
-
-impl Draws {
-    fn below(&mut self, limit: u64) -> u64
-        requires { 0 < limit }
-        ensures { result < limit }
-    {
-        self.state = self
-            .state
-            .wrapping_mul(6_364_136_223_846_793_005)
-            .wrapping_add(1_442_695_040_888_963_407);
-        (self.state >> 33) % limit
     }
 }
 
@@ -166,9 +90,7 @@ impl Both {
 
     fn make(&mut self) -> Result<bool, Fail> {
         let slot = self.mutex.claim_lock().ok().ok_or("room")?;
-        let was_free = self.plain.stage(slot).is_none();
-        self.plain.futures.push((slot, Stage::Unpolled))?;
-        Ok(was_free)
+        self.plain.waiters.make(slot, 1)
     }
 
     fn poll(&mut self, slot: Slot, waker: u64) -> Result<bool, Fail> {
@@ -185,7 +107,7 @@ impl Both {
         if is_live {
             self.mutex.remove_waiter(slot);
         }
-        let is_same = is_live == self.plain.stage(slot).is_some();
+        let is_same = is_live == self.plain.waiters.stage(slot).is_some();
         self.plain.cancel(slot)?;
         Ok(is_same)
     }
@@ -198,9 +120,13 @@ impl Both {
         Ok(self.mutex.unlock(value).err() == self.plain.unlock(value)?)
     }
 
+    fn next_wake(&mut self) -> bool {
+        self.mutex.next_wake() == self.plain.waiters.next_wake()
+    }
+
     fn is_same(&self) -> bool {
         self.mutex.is_locked() == self.plain.value.is_none()
-            && self.mutex.wake_count() == self.plain.to_wake.len()
+            && self.mutex.wake_count() == self.plain.waiters.to_wake.len()
     }
 }
 
@@ -214,7 +140,7 @@ fn drawn_call(both: &mut Both, draws: &mut Draws) -> Result<bool, Fail> {
         8 | 9 => both.cancel(slot)?,
         10 => both.try_lock(),
         11..=13 => both.unlock(number)?,
-        _ => both.mutex.next_wake() == both.plain.next_wake(),
+        _ => both.next_wake(),
     };
     Ok(answers_are_same && both.is_same())
 }
@@ -222,7 +148,7 @@ fn drawn_call(both: &mut Both, draws: &mut Draws) -> Result<bool, Fail> {
 #[test]
 fn a_plain_mutex_agrees(rt: HostRuntime) -> Result<(), Fail> {
     let mut draws = Draws { state: 1 };
-    for round in 0..200_u64 {
+    for round in 0..2_000_u64 {
         let mut both = Both::new(rt.alloc(), round % 2 == 0);
         for _ in 0..60 {
             assert!(rt; drawn_call(&mut both, &mut draws)?);

@@ -1,5 +1,5 @@
 use Rattle.fi_locks.specs.MutexFields.{machine_of}
-use Rattle.fi_locks.specs.MutexLaws.{stays_well, polled, locks_if_ready}
+use Rattle.fi_locks.specs.MutexLaws.{stays_well, polled, poll_line, locks_if_ready}
 use Rattle.fi_locks.proofs.mutex.MutexState.try_wait.Goals as goal
 
 pub invariant_of-self : goal.invariant_of-self
@@ -12,3 +12,9 @@ invariant_of-self g c =
 pub returns-clause-locked : goal.returns-clause-locked
 returns-clause-locked g c =
     locks_if_ready (machine_of c.self.inside.fields) c.args.slot.0 c.args.waker c.try_wait.result.0 _ c.try_wait.ensures.polled
+
+pub returns-clause-live : goal.returns-clause-live
+returns-clause-live g c =
+    let old = machine_of c.self.inside.fields in
+    let new = machine_of c.try_wait.new.self in
+    (poll_line old c.args.slot.0 c.args.waker c.try_wait.result.0 new c.try_wait.ensures.polled).lives

@@ -16,7 +16,8 @@ returns-then-not-can_take-clause-marked g c =
     let taken : TakesEffect (Registers name c.args.waker) c.args.self.now.waits c.register.new.self = (
       ap may_be_named c.requires.fresh,
       c.register.ensures
-          ∙ ap (λ (v : Waiting ℕ g.row.W.Denot). let w : Waiting ℕ g.row.W.Denot = record { side = registered v.side name c.args.waker; out = v.out } in w)
+          ∙ ap (λ (v : Waiting ℕ g.row.W.Denot).
+          let w : Waiting ℕ g.row.W.Denot = record { side = registered v.side name c.args.waker; out = v.out } in w)
           c.take_out-named.ensures.rest,
     ) in
     rw c.or-self.ensures

@@ -27,7 +27,8 @@ returns-then-first-slot-clause-marked g c =
     let old = c.args.self.now in
     unmark_first (machine_of old) c.args.slot.0 old.promised old.untold c.requires.sound c.if-not-self.false c.requires.marked
     c.in-Some.first c.younger-self.result c.in-Some.is c.if-first-slot.true (sym c.is_told.ensures ∙ c.if-is_told.false)
-    (λ front rest is. c.younger-self.ensures.next front rest (subst (λ (n : ℕ). old.waits.side.queue ≡ front ++ n ∷ rest) c.if-first-slot.true is))
+    (λ front rest is. c.younger-self.ensures.next front rest
+    (subst (λ (n : ℕ). old.waits.side.queue ≡ front ++ n ∷ rest) c.if-first-slot.true is))
 
 pub returns-else-first-slot-clause-marked : goal.returns-else-first-slot-clause-marked
 returns-else-first-slot-clause-marked g c =

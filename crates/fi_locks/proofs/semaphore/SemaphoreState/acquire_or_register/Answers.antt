@@ -1,10 +1,11 @@
 use Rattle.fi_locks.specs.SemaphoreFields.{machine_of}
-use Rattle.fi_locks.specs.SemaphoreLaws.{poll_holds, polled_held}
+use Rattle.fi_locks.specs.SemaphoreLaws.{poll_holds, polled, polled_held}
 use Rattle.fi_locks.proofs.semaphore.SemaphoreState.acquire_or_register.Goals as goal
 
 pub invariant_of-self : goal.invariant_of-self
 invariant_of-self g c = (
-  poll_holds (machine_of c.self.inside.fields) c.args.slot.0 c.args.waker c.acquire_or_register.result.0 (machine_of c.acquire_or_register.new.self) c.self.invariant.0 c.acquire_or_register.ensures.polled,
+  poll_holds (machine_of c.self.inside.fields) c.args.slot.0 c.args.waker c.acquire_or_register.result.0
+      (machine_of c.acquire_or_register.new.self) c.self.invariant.0 c.acquire_or_register.ensures.polled,
   c.acquire_or_register.ensures.marked,
 )
 
@@ -12,3 +13,10 @@ pub returns-clause-held : goal.returns-clause-held
 returns-clause-held g c =
     polled_held (machine_of c.self.inside.fields) c.args.slot.0 c.args.waker c.acquire_or_register.result.0
     (machine_of c.acquire_or_register.new.self) c.acquire_or_register.ensures.polled
+
+pub returns-clause-live : goal.returns-clause-live
+returns-clause-live g c =
+    let old = machine_of c.self.inside.fields in
+    let new = machine_of c.acquire_or_register.new.self in
+    (polled old c.args.slot.0 c.args.waker c.acquire_or_register.result.0 new c.self.invariant.0.0
+    c.acquire_or_register.ensures.polled).lives

@@ -1,5 +1,7 @@
+use Rattle.fi_locks.specs.LiveLaws.{stay_live}
 use Rattle.fi_locks.specs.SemaphoreFields.{machine_of}
-use Rattle.fi_locks.specs.SemaphoreLaws.{disarm_holds}
+use Rattle.fi_locks.specs.SemaphoreLaws.{disarmed, disarm_holds}
+use Rattle.fi_locks.specs.SemaphoreSoundLaws.{rules}
 use Rattle.fi_locks.proofs.semaphore.SemaphoreState.disarm.Goals as goal
 
 pub invariant_of-self : goal.invariant_of-self
@@ -7,3 +9,10 @@ invariant_of-self g c = (
   disarm_holds (machine_of c.self.inside.fields) (machine_of c.disarm.new.self) c.args.permits c.self.invariant.0 c.disarm.ensures.disarmed,
   c.disarm.ensures.marked,
 )
+
+pub returns-clause-live : goal.returns-clause-live
+returns-clause-live g c =
+    let old = machine_of c.self.inside.fields in
+    let new = machine_of c.disarm.new.self in
+    rw (← c.self.view_is)
+    (stay_live old new (rules old.own.is_fair) (disarmed old new c.args.permits c.disarm.ensures.disarmed) c.self.invariant.0.0.waiters)

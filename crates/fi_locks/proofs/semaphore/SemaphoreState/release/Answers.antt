@@ -1,7 +1,11 @@
+use Rattle.std.specs.Prelude.{◌≡◌, refl}
 use Rattle.std.proofs.Common.{sym, subst}
 use Rattle.fi_parts.proofs.Results.{either}
+use Rattle.fi_locks.specs.Live.{AllStayLive}
+use Rattle.fi_locks.specs.LiveLaws.{stay_live}
 use Rattle.fi_locks.specs.SemaphoreFields.{machine_of}
-use Rattle.fi_locks.specs.SemaphoreLaws.{Holds, release_holds}
+use Rattle.fi_locks.specs.SemaphoreLaws.{Holds, released, released_held, release_holds}
+use Rattle.fi_locks.specs.SemaphoreSoundLaws.{rules}
 use Rattle.fi_locks.proofs.semaphore.SemaphoreState.release.Goals as goal
 
 pub invariant_of-self : goal.invariant_of-self
@@ -12,3 +16,21 @@ invariant_of-self g c =
           (λ done did. release_holds old new c.args.permits c.self.invariant.0 did) (λ same. subst Holds (sym same) c.self.invariant.0),
       c.release.ensures.marked,
     )
+
+pub returns-clause-live : goal.returns-clause-live
+returns-clause-live g c =
+    let old = machine_of c.self.inside.fields in
+    let new = machine_of c.release.new.self in
+    rw (← c.self.view_is)
+    (either c.release.result _ _ (AllStayLive old new) c.release.ensures.released c.release.ensures.refused
+    (λ done did. stay_live old new (rules old.own.is_fair) (released old new c.args.permits did) c.self.invariant.0.0.waiters)
+    (λ same. subst (λ m. AllStayLive old m) (sym same) (λ name lives. lives)))
+
+pub returns-clause-held : goal.returns-clause-held
+returns-clause-held g c =
+    let old = machine_of c.self.inside.fields in
+    let new = machine_of c.release.new.self in
+    rw (← c.self.view_is)
+    (either c.release.result _ _ (new.own.held ≡ old.own.held) c.release.ensures.released c.release.ensures.refused
+    (λ done did. released_held old new c.args.permits did)
+    (λ same. subst (λ m. m.own.held ≡ old.own.held) (sym same) refl))

@@ -1,9 +1,20 @@
+use Rattle.fi_locks.specs.LiveLaws.{stay_live}
 use Rattle.fi_locks.specs.SemaphoreFields.{machine_of}
-use Rattle.fi_locks.specs.SemaphoreLaws.{try_holds}
+use Rattle.fi_locks.specs.SemaphoreLaws.{tried, try_holds}
+use Rattle.fi_locks.specs.SemaphoreSoundLaws.{rules}
 use Rattle.fi_locks.proofs.semaphore.SemaphoreState.try_acquire_sync.Goals as goal
 
 pub invariant_of-self : goal.invariant_of-self
 invariant_of-self g c = (
-  try_holds (machine_of c.self.inside.fields) (machine_of c.try_acquire.new.self) c.args.permits c.try_acquire.result c.self.invariant.0 c.try_acquire.ensures.tried,
+  try_holds (machine_of c.self.inside.fields) (machine_of c.try_acquire.new.self) c.args.permits c.try_acquire.result
+      c.self.invariant.0 c.try_acquire.ensures.tried,
   c.try_acquire.ensures.marked,
 )
+
+pub returns-clause-live : goal.returns-clause-live
+returns-clause-live g c =
+    let old = machine_of c.self.inside.fields in
+    let new = machine_of c.try_acquire.new.self in
+    rw (← c.self.view_is)
+    (stay_live old new (rules old.own.is_fair)
+    (tried old new c.args.permits c.try_acquire.result c.try_acquire.ensures.tried) c.self.invariant.0.0.waiters)

@@ -6,3 +6,7 @@ pub invariant_of-self : goal.invariant_of-self
 invariant_of-self g c =
     line_preserves rules _ _ (polled _ c.args.slot.0 c.args.now c.args.waker c.try_wait.result.0 _ c.try_wait.ensures.polled).line
     c.self.invariant
+
+pub returns-clause-live : goal.returns-clause-live
+returns-clause-live g c =
+    (polled _ c.args.slot.0 c.args.now c.args.waker c.try_wait.result.0 _ c.try_wait.ensures.polled).lives
