@@ -22,3 +22,12 @@ pub mod Semaphore
 pub mod SemaphoreHistory
 pub mod SemaphoreSteps
 pub mod SemaphoreLaws
+pub mod Journal
+pub mod Desk
+pub mod Channel
+pub mod ChannelValues
+pub mod ChannelHistory
+pub mod ChannelOrder
+pub mod ChannelSteps
+pub mod ChannelStreams
+pub mod ChannelLaws

@@ -1,15 +1,16 @@
 -- What a history of a semaphore says. A history is a list of calls with their answers, the newest first, since some first state.
-use Rattle.std.specs.Prelude.{◌≡◌, ◌+◌, ℕ, true, List, [], ◌∷◌, ◌++◌}
+use Rattle.std.specs.Prelude.{◌≡◌, ◌+◌, ◌⊎◌, ⊤, ℕ, true, List, [], ◌∷◌, ◌++◌}
 use Rattle.fi_parts.specs.Machine.{phase_at}
 use Rattle.fi_parts.specs.Order.{holds}
 use Rattle.fi_parts.specs.Places.{is_told}
 use Rattle.fi_parts.specs.WakerHistory.{WakerEffect, KeepsWakers}
-use Rattle.fi_locks.specs.Semaphore.{SemaphoreMachine}
+use Rattle.fi_locks.specs.Semaphore.{SemaphoreMachine, need_of}
 use Rattle.fi_run.specs.declared.answer.Answer.{Answer}
-use Rattle.fi_run.specs.declared.answer.Answer.TheVariants.{Done}
+use Rattle.fi_run.specs.declared.answer.Answer.TheVariants.{Ready, Done, Refused}
 use Rattle.fi_run.specs.declared.semaphore.SemaphoreCall.{SemaphoreCall}
-use Rattle.fi_run.specs.declared.semaphore.SemaphoreCall.TheVariants.{Poll, Cancel, Release, Disarm}
+use Rattle.fi_run.specs.declared.semaphore.SemaphoreCall.TheVariants.{Poll, Cancel, TryAcquire, Release, Disarm}
 use Rattle.fi_run.specs.FirstPolls.{order_after}
+use Rattle.fi_run.specs.Semaphore.{Step}
 use Rattle.fi_run.specs.WakerEffects.{Subject, on_wakers}
 use Rattle.fi_run.specs.WakerEffects.Subject.{Polling, Cancelling, Other}
 
@@ -64,6 +65,20 @@ module _ {W : Type 0} where
     pub rest : List ℕ
     pub first_told : waiting_after first history ≡ told ++ rest
     pub all : (name : ℕ) → is_told (phase_at state name) ≡ holds name told
+
+  -- A call in this state with its answer, while these wait: a grant is to a future that was told, or nobody waits, or no permits are
+  -- asked for.
+  abbrev pub IsInTurn : List ℕ → SemaphoreMachine W → SemaphoreCall W → Answer ℕ W → Type 0
+  IsInTurn waiting state call (Refused fault) = ⊤
+  IsInTurn waiting state (Poll slot waker) Ready =
+      (is_told (phase_at state slot.0) ≡ true) ⊎ ((waiting ≡ []) ⊎ (need_of state.waiting.side slot.0 ≡ 0))
+  IsInTurn waiting state (TryAcquire n) Done = (waiting ≡ []) ⊎ (n ≡ 0)
+  IsInTurn waiting state call answer = ⊤
+
+  -- Whichever call comes next: a newcomer that asks for permits is granted them only if nobody waits.
+  abbrev pub NewcomersComeLast : SemaphoreMachine W → List (SemaphoreCall W × Answer ℕ W) → SemaphoreMachine W → Type 0
+  NewcomersComeLast first history state = (call : SemaphoreCall W) (answer : Answer ℕ W) (next : SemaphoreMachine W) →
+      Step state call answer next → IsInTurn (waiting_after first history) state call answer
 
   -- The waker of a pending future's last poll is registered, or stands in out beside its name, or was handed out since.
   abbrev pub WakersAreKept : SemaphoreMachine W → List (SemaphoreCall W × Answer ℕ W) → SemaphoreMachine W → Type 0

@@ -19,7 +19,7 @@ use Rattle.fi_run.specs.Outgoing.{TakesOldest, machine_outgoing, pops_oldest}
 use Rattle.fi_run.specs.WakerEffects.{on_wakers}
 use Rattle.fi_run.specs.Semaphore.{Opens, Step}
 use Rattle.fi_run.specs.SemaphoreHistory.{released_by, disarmed_by, released, disarmed, IsFair, subject, effect_of}
-use Rattle.fi_run.specs.SemaphoreHistory.{AreToldInOrder, HistoryHolds}
+use Rattle.fi_run.specs.SemaphoreHistory.{AreToldInOrder, IsInTurn, NewcomersComeLast, HistoryHolds}
 use Rattle.fi_run.specs.SemaphoreSteps as steps
 use Rattle.fi_run.specs.SemaphoreSteps.{Moves}
 
@@ -156,6 +156,31 @@ module _ {W : Type 0} where
         first_told = was.waiting fair ∙ owed.front.is_front;
         all = owed.front.all;
       }
+
+  -- A grant is in turn.
+  in_turn : (old new : SemaphoreMachine W) → old.own.is_fair ≡ true → (call : SemaphoreCall W) (answer : Answer ℕ W) →
+      Step old call answer new → IsInTurn old.waiting.side.queue old call answer
+  in_turn old new fair call (Refused fault) did = tt
+  in_turn old new fair (Acquire need) (Made slot) did = tt
+  in_turn old new fair (Poll slot waker) Pending did = tt
+  in_turn old new fair (Poll slot waker) Ready did =
+      steps.ready_in_turn old new slot.0 waker (need_of old.waiting.side slot.0) fair did
+  in_turn old new fair (Cancel slot) Done did = tt
+  in_turn old new fair (TryAcquire n) Done did = steps.tried_in_turn old new n fair did
+  in_turn old new fair (TryAcquire n) Nothing did = tt
+  in_turn old new fair (Release n) Done did = tt
+  in_turn old new fair (GiveBack n) Done did = tt
+  in_turn old new fair (Disarm n) Done did = tt
+  in_turn old new fair Permits (Number n) did = tt
+  in_turn old new fair Held (Number n) did = tt
+  in_turn old new fair NextWake (Woken waker) did = tt
+  in_turn old new fair call answer did = absurd did
+
+  pub newcomers_come_last : (first : SemaphoreMachine W) (history : List (SemaphoreCall W × Answer ℕ W))
+      (state : SemaphoreMachine W) → HistoryHolds first history state → IsFair first → NewcomersComeLast first history state
+  newcomers_come_last first history state was fair call answer next did =
+      subst (λ waiting. IsInTurn waiting state call answer) (sym (was.waiting fair))
+      (in_turn state next (was.is_fair ∙ fair) call answer did)
 
 pub semaphore_takes_oldest : {W : Type 0} (old : SemaphoreMachine W) (answer : Answer ℕ W) (new : SemaphoreMachine W)
     → Step old NextWake answer new → TakesOldest machine_outgoing (λ waker. Woken waker) old answer new

@@ -1,8 +1,8 @@
 -- What each call on a semaphore does to its permits and, where it is fair, to its queue.
-use Rattle.std.specs.Prelude.{◌≡◌, ◌+◌, ◌-◌, ◌≤◌, ℕ, nat_lt, not, Bool, true, false}
+use Rattle.std.specs.Prelude.{◌≡◌, ◌+◌, ◌-◌, ◌≤◌, ◌⊎◌, ℕ, nat_lt, not, Bool, true, false}
 use Rattle.std.specs.Prelude.{Option, Some, None, List, [], ◌∷◌, ◌++◌, refl}
-use Rattle.std.proofs.Common.{ap, subst, sym, ◌∙◌, arith}
-use Rattle.std.proofs.lemmas.Bool.{both_ways, leb-true, and_parts}
+use Rattle.std.proofs.Common.{ap, subst, sym, ◌∙◌, inl, inr, arith}
+use Rattle.std.proofs.lemmas.Bool.{both_ways, leb-true, and_parts, not-true}
 use Rattle.futures.specs.declared.task.Poll.{Poll}
 use Rattle.futures.specs.declared.task.Poll.TheVariants.{Ready, Pending}
 use Rattle.fi_parts.specs.declared.phase.Phase.{Phase}
@@ -11,6 +11,7 @@ use Rattle.fi_parts.specs.Effects.{WaiterEffect, TakesEffect}
 use Rattle.fi_parts.specs.Effects.WaiterEffect.{NoChange, EndsPlaced, Removes}
 use Rattle.fi_parts.specs.Machine.{phase_at, poll_effect}
 use Rattle.fi_parts.specs.Order.{holds, without}
+use Rattle.fi_parts.specs.Places.{is_told}
 use Rattle.fi_parts.specs.Waiting.{Waiting, is_queued}
 use Rattle.fi_parts.specs.WakerHistory.{gives}
 use Rattle.fi_parts.proofs.PairsWithin.{if_true, if_false}
@@ -18,6 +19,7 @@ use Rattle.fi_parts.proofs.Slots.{without_absent}
 use Rattle.fi_locks.specs.Semaphore.{Permits, SemaphoreMachine, granted, need_of, is_granted, StepsTelling, Makes, PollsAs, Polls}
 use Rattle.fi_locks.specs.Semaphore.{cancel_tells, Cancels, TriesAcquire, Releases, GivesBack, Disarms, Wakes}
 use Rattle.fi_locks.specs.Semaphore.{IsSound, asked_after}
+use Rattle.fi_locks.specs.SemaphoreFairLaws.{taken_fairly}
 use Rattle.fi_locks.specs.SemaphoreLaws.{taken_are_free, unqueued}
 use Rattle.fi_run.specs.FirstPolls.{order_step}
 
@@ -72,6 +74,11 @@ module _ {W : Type 0} where
     tried_permits n true did = grants n (taken_are_free old.own old.waiting.side.queue n (sym did.0)) did.1.0
     tried_permits n false did = keeps_permits did.1.0
 
+    -- permits of a fair semaphore that were tried for and granted
+    pub tried_in_turn : (n : ℕ) → old.own.is_fair ≡ true → TriesAcquire old n true new →
+        (old.waiting.side.queue ≡ []) ⊎ (n ≡ 0)
+    tried_in_turn n fair did = taken_fairly old.own old.waiting.side.queue n fair (sym did.0)
+
     pub cancelled_permits : (name : ℕ) → Cancels old name new → Moves 0 0 old new
     cancelled_permits name did =
         keeps_permits (telling_own (cancel_tells old.own.is_fair (phase_at old name)) old.own (Removes name) did)
@@ -110,6 +117,25 @@ module _ {W : Type 0} where
       polled_permits answer did =
           let need = need_of old.waiting.side name in
           polled_as (phase_at old name) (is_granted (phase_at old name) old need) need answer refl did
+
+      -- a poll that is ready in a fair semaphore: the future was told, or came while nobody was queued, or needs no permits
+      turn_as : (phase : Option (Phase W)) (granting : Bool) (need n : ℕ) → old.own.is_fair ≡ true → phase_at old name ≡ phase →
+          is_granted phase old need ≡ granting → PollsAs phase granting need old name waker (Ready n) new →
+          (is_told (phase_at old name) ≡ true) ⊎ ((old.waiting.side.queue ≡ []) ⊎ (need ≡ 0))
+      turn_as (Some Fresh) true need n fair is takes did = inr (taken_fairly old.own old.waiting.side.queue need fair takes)
+      turn_as (Some Fresh) false need n fair is takes did = absurd (cc did.0)
+      turn_as (Some (Registered before)) true need n fair is takes did =
+          absurd (both_ways _ (not-true old.own.is_fair (and_parts (not old.own.is_fair) _ takes).0) fair)
+      turn_as (Some (Registered before)) false need n fair is takes did = absurd (cc did.0)
+      turn_as (Some Told) true need n fair is takes did = inl (ap is_told is)
+      turn_as (Some Told) false need n fair is takes did = absurd (cc did.1)
+      turn_as phase granting need n fair is takes did = absurd did
+
+      pub ready_in_turn : (n : ℕ) → old.own.is_fair ≡ true → Polls old name waker (Ready n) new →
+          (is_told (phase_at old name) ≡ true) ⊎ ((old.waiting.side.queue ≡ []) ⊎ (need_of old.waiting.side name ≡ 0))
+      ready_in_turn n fair did =
+          let need = need_of old.waiting.side name in
+          turn_as (phase_at old name) (is_granted (phase_at old name) old need) need n fair refl refl did
 
       -- a poll that is ready was granted what the future needs
       needed : (n need : ℕ) → Ready n ≡ Ready need → n ≡ need

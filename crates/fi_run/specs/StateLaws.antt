@@ -33,14 +33,14 @@ use Rattle.fi_run.specs.StateHistory.{newest_after, IsCopyOf, OpenFits, sends_st
 use Rattle.fi_run.specs.StateHistory.{closes_step, new_closes, subject, Counts, AsksAs, HistoryHolds}
 
 -- a closed channel that was open a moment ago had its one new close
-close_counts : (first : Bool) (closes : ℕ) → OpenFits first true closes → OpenFits first false (closes + 1)
+pub close_counts : (first : Bool) (closes : ℕ) → OpenFits first true closes → OpenFits first false (closes + 1)
 close_counts true closes fits = omega (arith, fits)
 close_counts false closes fits = absurd (true_false fits.0)
   where
     true_false : ◌≡◌ {A = Bool} true false → ⊥
     true_false e = cc
 
-open_at_first : (is_open : Bool) → OpenFits is_open is_open 0
+pub open_at_first : (is_open : Bool) → OpenFits is_open is_open 0
 open_at_first true = refl
 open_at_first false = (refl, refl)
 

@@ -2,7 +2,11 @@
 #![tactic(auto)]
 
 mod answer;
+mod channel;
+mod desk;
 mod event;
+mod exact;
+mod journal;
 mod mutex;
 mod oneshot;
 mod runs;
@@ -11,9 +15,15 @@ mod state;
 #[cfg(test)]
 mod tests;
 mod timer;
+#[cfg(test)]
+mod uses;
 
 pub use answer::Answer;
+pub use channel::{ChannelCall, every_run_of_a_channel};
+pub use desk::{Desk, Mismatch, Seat};
 pub use event::{EventCall, every_run_of_an_event};
+pub use exact::ExactEq;
+pub use journal::{Entry, Journal, Receipt, Settled};
 pub use mutex::{MutexCall, every_run_of_a_mutex};
 pub use oneshot::{OneshotCall, every_run_of_a_oneshot, every_run_of_a_oneshot_broadcast};
 pub use runs::{Primitive, every_run, run};

@@ -155,129 +155,87 @@ mod tests {
 
     const B: Slot = Slot(1);
 
-    // A mutex with the value 7 answers these calls so.
+    // A mutex with the value 7 answers the calls of these rows so.
     fn answers(
         alloc: Global,
         is_fair: bool,
-        calls: Vec<MutexCall<u64, u64>>,
-        wanted: &[Answer<u64, u64>],
+        rows: &[(MutexCall<u64, u64>, Answer<u64, u64>)],
     ) -> Result<bool, Fail> {
         let mut mutex: MutexState<u64, u64> = MutexState::open(alloc, (7, is_fair))?;
+        let mut calls = Vec::new(alloc);
+        let mut wanted = Vec::new(alloc);
+        for (call, answer) in rows.iter() {
+            calls.push(*call)?;
+            wanted.push(*answer)?;
+        }
         let mut out = Vec::new(alloc);
         run(&mut mutex, calls, &mut out)?;
         Primitive::show(&mutex);
-        Ok(out.as_slice() == wanted)
+        Ok(out.as_slice() == wanted.as_slice())
     }
 
     #[test]
     fn mutex_unfair(rt: HostRuntime) -> Result<(), Fail> {
-        let calls = vec![in rt.alloc();
-            MutexCall::TryLock,
-            MutexCall::Lock,
-            MutexCall::Lock,
-            MutexCall::Poll(A, 1),
-            MutexCall::Poll(B, 2),
-            MutexCall::Unlock(8),
-            MutexCall::NextWake,
-            MutexCall::NextWake,
-            MutexCall::TryLock,
-            MutexCall::Poll(A, 3),
-            MutexCall::Unlock(9),
-            MutexCall::NextWake,
-            MutexCall::NextWake,
-            MutexCall::Cancel(B),
-            MutexCall::NextWake,
-            MutexCall::NextWake,
-            MutexCall::Poll(A, 3),
-        ]?;
-        let wanted = [
-            Answer::Item(7),
-            Answer::Made(A),
-            Answer::Made(B),
-            Answer::Pending,
-            Answer::Pending,
-            Answer::Done,
-            Answer::Woken(Some(1)),
-            Answer::Woken(None),
-            Answer::Item(8),
-            Answer::Pending,
-            Answer::Done,
-            Answer::Woken(Some(2)),
-            Answer::Woken(None),
-            Answer::Done,
-            Answer::Woken(Some(3)),
-            Answer::Woken(None),
-            Answer::Item(9),
+        let rows = [
+            (MutexCall::TryLock, Answer::Item(7)),
+            (MutexCall::Lock, Answer::Made(A)),
+            (MutexCall::Lock, Answer::Made(B)),
+            (MutexCall::Poll(A, 1), Answer::Pending),
+            (MutexCall::Poll(B, 2), Answer::Pending),
+            (MutexCall::Unlock(8), Answer::Done),
+            (MutexCall::NextWake, Answer::Woken(Some(1))),
+            (MutexCall::NextWake, Answer::Woken(None)),
+            (MutexCall::TryLock, Answer::Item(8)),
+            (MutexCall::Poll(A, 3), Answer::Pending),
+            (MutexCall::Unlock(9), Answer::Done),
+            (MutexCall::NextWake, Answer::Woken(Some(2))),
+            (MutexCall::NextWake, Answer::Woken(None)),
+            (MutexCall::Cancel(B), Answer::Done),
+            (MutexCall::NextWake, Answer::Woken(Some(3))),
+            (MutexCall::NextWake, Answer::Woken(None)),
+            (MutexCall::Poll(A, 3), Answer::Item(9)),
         ];
-        assert!(rt; answers(rt.alloc(), false, calls, wanted.as_slice())?);
+        assert!(rt; answers(rt.alloc(), false, rows.as_slice())?);
         Ok(())
     }
 
     #[test]
     fn mutex_fair(rt: HostRuntime) -> Result<(), Fail> {
-        let calls = vec![in rt.alloc();
-            MutexCall::TryLock,
-            MutexCall::Lock,
-            MutexCall::Lock,
-            MutexCall::Poll(A, 1),
-            MutexCall::Poll(B, 2),
-            MutexCall::Unlock(8),
-            MutexCall::NextWake,
-            MutexCall::NextWake,
-            MutexCall::TryLock,
-            MutexCall::Poll(B, 2),
-            MutexCall::Poll(A, 1),
-            MutexCall::IsLocked,
-            MutexCall::Unlock(9),
-            MutexCall::NextWake,
-            MutexCall::NextWake,
-        ]?;
-        let wanted = [
-            Answer::Item(7),
-            Answer::Made(A),
-            Answer::Made(B),
-            Answer::Pending,
-            Answer::Pending,
-            Answer::Done,
-            Answer::Woken(Some(1)),
-            Answer::Woken(None),
-            Answer::Nothing,
-            Answer::Pending,
-            Answer::Item(8),
-            Answer::Flag(true),
-            Answer::Done,
-            Answer::Woken(Some(2)),
-            Answer::Woken(None),
+        let rows = [
+            (MutexCall::TryLock, Answer::Item(7)),
+            (MutexCall::Lock, Answer::Made(A)),
+            (MutexCall::Lock, Answer::Made(B)),
+            (MutexCall::Poll(A, 1), Answer::Pending),
+            (MutexCall::Poll(B, 2), Answer::Pending),
+            (MutexCall::Unlock(8), Answer::Done),
+            (MutexCall::NextWake, Answer::Woken(Some(1))),
+            (MutexCall::NextWake, Answer::Woken(None)),
+            (MutexCall::TryLock, Answer::Nothing),
+            (MutexCall::Poll(B, 2), Answer::Pending),
+            (MutexCall::Poll(A, 1), Answer::Item(8)),
+            (MutexCall::IsLocked, Answer::Flag(true)),
+            (MutexCall::Unlock(9), Answer::Done),
+            (MutexCall::NextWake, Answer::Woken(Some(2))),
+            (MutexCall::NextWake, Answer::Woken(None)),
         ];
-        assert!(rt; answers(rt.alloc(), true, calls, wanted.as_slice())?);
+        assert!(rt; answers(rt.alloc(), true, rows.as_slice())?);
         Ok(())
     }
 
     #[test]
     fn what_is_refused(rt: HostRuntime) -> Result<(), Fail> {
-        let calls = vec![in rt.alloc();
-            MutexCall::Unlock(8),
-            MutexCall::Poll(A, 1),
-            MutexCall::Cancel(A),
-            MutexCall::Lock,
-            MutexCall::Poll(A, 1),
-            MutexCall::Poll(A, 1),
-            MutexCall::Cancel(A),
-            MutexCall::Unlock(9),
-            MutexCall::IsLocked,
-        ]?;
-        let wanted = [
-            Answer::Back(8, Fault::NotHeld),
-            Answer::Refused(Fault::NoSlot),
-            Answer::Refused(Fault::NoSlot),
-            Answer::Made(A),
-            Answer::Item(7),
-            Answer::Refused(Fault::NoSlot),
-            Answer::Done,
-            Answer::Done,
-            Answer::Flag(false),
+        let rows = [
+            (MutexCall::Unlock(8), Answer::Back(8, Fault::NotHeld)),
+            (MutexCall::Poll(A, 1), Answer::Refused(Fault::NoSlot)),
+            (MutexCall::Cancel(A), Answer::Refused(Fault::NoSlot)),
+            (MutexCall::Lock, Answer::Made(A)),
+            (MutexCall::Poll(A, 1), Answer::Item(7)),
+            (MutexCall::Poll(A, 1), Answer::Refused(Fault::NoSlot)),
+            (MutexCall::Cancel(A), Answer::Done),
+            (MutexCall::Unlock(9), Answer::Done),
+            (MutexCall::IsLocked, Answer::Flag(false)),
         ];
-        assert!(rt; answers(rt.alloc(), true, calls, wanted.as_slice())?);
+        assert!(rt; answers(rt.alloc(), true, rows.as_slice())?);
         every_run_of_a_mutex::<u64, u64>();
         Ok(())
     }

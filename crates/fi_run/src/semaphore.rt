@@ -2,7 +2,7 @@
 ghost use Rattle.std.specs.Prelude.{◌≡◌, ℕ, Bool, IsOk, IfOk, IfErr};
 ghost use Rattle.fi_locks.specs.Semaphore.{SemaphoreMachine, IsSound, OwesNoWake};
 ghost use Rattle.fi_run.specs.Semaphore.{Opens, Step};
-ghost use Rattle.fi_run.specs.SemaphoreHistory.{PermitsAddUp, AreToldInOrder, IsFair, WakersAreKept};
+ghost use Rattle.fi_run.specs.SemaphoreHistory.{PermitsAddUp, AreToldInOrder, NewcomersComeLast, IsFair, WakersAreKept};
 ghost use Rattle.fi_run.specs.Run.{AfterEveryRun};
 ghost use Rattle.fi_run.specs.declared.answer.Answer.{Answer};
 ghost use Rattle.fi_run.specs.declared.semaphore.SemaphoreCall.{SemaphoreCall};
@@ -170,14 +170,15 @@ fn disarm<W: Drop>(semaphore: &mut SemaphoreState<W>, permits: usize) -> Answer<
 
 /// Every semaphore follows its promises, in every run from a sound state that owes no wake, so from an opening: its permits, free
 /// and held, are those that it had and those released, without those disarmed; of a fair one the told futures are the first of
-/// those that wait, in the order of first polls; a pending future's last waker is registered, stands in the outbox, or was handed
-/// out since; and no wake is owed.
+/// those that wait, in the order of first polls, and whoever was not told is granted permits only if nobody waits; a pending future's
+/// last waker is registered, stands in the outbox, or was handed out since; and no wake is owed.
 ///
-/// A future that needs no permits never waits.
+/// A future that needs no permits never waits, and no permits at all are always granted.
 pub fn every_run_of_a_semaphore<W: Drop>()
     ensures opened { (permits : ℕ) (is_fair : Bool) (first : SemaphoreMachine W) → Opens (permits, is_fair) first → IsSound first × OwesNoWake first }
     ensures permits { AfterEveryRun {S = SemaphoreMachine W} IsSound OwesNoWake Step (λ first history now. PermitsAddUp first history now) }
     ensures in_order { AfterEveryRun {S = SemaphoreMachine W} IsSound OwesNoWake Step (λ first history now. IsFair first → AreToldInOrder first history now) }
+    ensures newcomers { AfterEveryRun {S = SemaphoreMachine W} IsSound OwesNoWake Step (λ first history now. IsFair first → NewcomersComeLast first history now) }
     ensures wakers { AfterEveryRun {S = SemaphoreMachine W} IsSound OwesNoWake Step (λ first history now. WakersAreKept first history now) }
     ensures no_wake { AfterEveryRun {S = SemaphoreMachine W} IsSound OwesNoWake Step (λ first history now. IsSound now × OwesNoWake now) }
 {
@@ -198,347 +199,214 @@ mod tests {
 
     const D: Slot = Slot(3);
 
-    // A semaphore of this opening answers these calls so.
+    // A semaphore of this opening answers the calls of these rows so.
     fn answers(
         alloc: Global,
         opening: (usize, bool),
-        calls: Vec<SemaphoreCall<u64>>,
-        wanted: &[Answer<u64, u64>],
+        rows: &[(SemaphoreCall<u64>, Answer<u64, u64>)],
     ) -> Result<bool, Fail> {
         let mut semaphore: SemaphoreState<u64> = SemaphoreState::open(alloc, opening)?;
+        let mut calls = Vec::new(alloc);
+        let mut wanted = Vec::new(alloc);
+        for (call, answer) in rows.iter() {
+            calls.push(*call)?;
+            wanted.push(*answer)?;
+        }
         let mut out = Vec::new(alloc);
         run(&mut semaphore, calls, &mut out)?;
         Primitive::show(&semaphore);
-        Ok(out.as_slice() == wanted)
+        Ok(out.as_slice() == wanted.as_slice())
     }
 
     #[test]
     fn semaphore_fair_cancel(rt: HostRuntime) -> Result<(), Fail> {
-        let calls = vec![in rt.alloc();
-            SemaphoreCall::Acquire(5),
-            SemaphoreCall::Acquire(2),
-            SemaphoreCall::Poll(A, 1),
-            SemaphoreCall::Poll(B, 2),
-            SemaphoreCall::Cancel(A),
-            SemaphoreCall::NextWake,
-            SemaphoreCall::NextWake,
-            SemaphoreCall::Poll(B, 2),
-            SemaphoreCall::Permits,
-            SemaphoreCall::Held,
-        ]?;
-        let wanted = [
-            Answer::Made(A),
-            Answer::Made(B),
-            Answer::Pending,
-            Answer::Pending,
-            Answer::Done,
-            Answer::Woken(Some(2)),
-            Answer::Woken(None),
-            Answer::Ready,
-            Answer::Number(1),
-            Answer::Number(2),
+        let rows = [
+            (SemaphoreCall::Acquire(5), Answer::Made(A)),
+            (SemaphoreCall::Acquire(2), Answer::Made(B)),
+            (SemaphoreCall::Poll(A, 1), Answer::Pending),
+            (SemaphoreCall::Poll(B, 2), Answer::Pending),
+            (SemaphoreCall::Cancel(A), Answer::Done),
+            (SemaphoreCall::NextWake, Answer::Woken(Some(2))),
+            (SemaphoreCall::NextWake, Answer::Woken(None)),
+            (SemaphoreCall::Poll(B, 2), Answer::Ready),
+            (SemaphoreCall::Permits, Answer::Number(1)),
+            (SemaphoreCall::Held, Answer::Number(2)),
         ];
-        assert!(rt; answers(rt.alloc(), (3, true), calls, wanted.as_slice())?);
+        assert!(rt; answers(rt.alloc(), (3, true), rows.as_slice())?);
         Ok(())
     }
 
     #[test]
     fn semaphore_unfair_mixed(rt: HostRuntime) -> Result<(), Fail> {
-        let calls = vec![in rt.alloc();
-            SemaphoreCall::Acquire(3),
-            SemaphoreCall::Acquire(3),
-            SemaphoreCall::Acquire(1),
-            SemaphoreCall::Poll(A, 1),
-            SemaphoreCall::Poll(B, 2),
-            SemaphoreCall::Poll(C, 3),
-            SemaphoreCall::Release(4),
-            SemaphoreCall::NextWake,
-            SemaphoreCall::NextWake,
-            SemaphoreCall::Poll(B, 2),
-            SemaphoreCall::Permits,
-            SemaphoreCall::Poll(A, 1),
-            SemaphoreCall::NextWake,
-            SemaphoreCall::Poll(C, 3),
-            SemaphoreCall::Permits,
-        ]?;
-        let wanted = [
-            Answer::Made(A),
-            Answer::Made(B),
-            Answer::Made(C),
-            Answer::Pending,
-            Answer::Pending,
-            Answer::Pending,
-            Answer::Done,
-            Answer::Woken(Some(1)),
-            Answer::Woken(None),
-            Answer::Ready,
-            Answer::Number(1),
-            Answer::Pending,
-            Answer::Woken(None),
-            Answer::Ready,
-            Answer::Number(0),
+        let rows = [
+            (SemaphoreCall::Acquire(3), Answer::Made(A)),
+            (SemaphoreCall::Acquire(3), Answer::Made(B)),
+            (SemaphoreCall::Acquire(1), Answer::Made(C)),
+            (SemaphoreCall::Poll(A, 1), Answer::Pending),
+            (SemaphoreCall::Poll(B, 2), Answer::Pending),
+            (SemaphoreCall::Poll(C, 3), Answer::Pending),
+            (SemaphoreCall::Release(4), Answer::Done),
+            (SemaphoreCall::NextWake, Answer::Woken(Some(1))),
+            (SemaphoreCall::NextWake, Answer::Woken(None)),
+            (SemaphoreCall::Poll(B, 2), Answer::Ready),
+            (SemaphoreCall::Permits, Answer::Number(1)),
+            (SemaphoreCall::Poll(A, 1), Answer::Pending),
+            (SemaphoreCall::NextWake, Answer::Woken(None)),
+            (SemaphoreCall::Poll(C, 3), Answer::Ready),
+            (SemaphoreCall::Permits, Answer::Number(0)),
         ];
-        assert!(rt; answers(rt.alloc(), (0, false), calls, wanted.as_slice())?);
+        assert!(rt; answers(rt.alloc(), (0, false), rows.as_slice())?);
         Ok(())
     }
 
     #[test]
     fn semaphore_limits(rt: HostRuntime) -> Result<(), Fail> {
-        let calls = vec![in rt.alloc();
-            SemaphoreCall::TryAcquire(1),
-            SemaphoreCall::Release(1),
-            SemaphoreCall::Release(0),
-            SemaphoreCall::NextWake,
-            SemaphoreCall::GiveBack(1),
-            SemaphoreCall::NextWake,
-            SemaphoreCall::Permits,
-            SemaphoreCall::GiveBack(1),
-        ]?;
-        let wanted = [
-            Answer::Done,
-            Answer::Refused(Fault::Overflow),
-            Answer::Done,
-            Answer::Woken(None),
-            Answer::Done,
-            Answer::Woken(None),
-            Answer::Number(usize::MAX),
-            Answer::Refused(Fault::NotHeld),
+        let rows = [
+            (SemaphoreCall::TryAcquire(1), Answer::Done),
+            (SemaphoreCall::Release(1), Answer::Refused(Fault::Overflow)),
+            (SemaphoreCall::Release(0), Answer::Done),
+            (SemaphoreCall::NextWake, Answer::Woken(None)),
+            (SemaphoreCall::GiveBack(1), Answer::Done),
+            (SemaphoreCall::NextWake, Answer::Woken(None)),
+            (SemaphoreCall::Permits, Answer::Number(usize::MAX)),
+            (SemaphoreCall::GiveBack(1), Answer::Refused(Fault::NotHeld)),
         ];
-        assert!(rt; answers(rt.alloc(), (usize::MAX, false), calls, wanted.as_slice())?);
+        assert!(rt; answers(rt.alloc(), (usize::MAX, false), rows.as_slice())?);
         Ok(())
     }
 
     #[test]
     fn semaphore_disarm(rt: HostRuntime) -> Result<(), Fail> {
-        let calls = vec![in rt.alloc();
-            SemaphoreCall::TryAcquire(2),
-            SemaphoreCall::Disarm(2),
-            SemaphoreCall::NextWake,
-            SemaphoreCall::Held,
-            SemaphoreCall::GiveBack(1),
-            SemaphoreCall::Disarm(1),
-            SemaphoreCall::Release(2),
-            SemaphoreCall::NextWake,
-            SemaphoreCall::Permits,
-        ]?;
-        let wanted = [
-            Answer::Done,
-            Answer::Done,
-            Answer::Woken(None),
-            Answer::Number(0),
-            Answer::Refused(Fault::NotHeld),
-            Answer::Refused(Fault::NotHeld),
-            Answer::Done,
-            Answer::Woken(None),
-            Answer::Number(2),
+        let rows = [
+            (SemaphoreCall::TryAcquire(2), Answer::Done),
+            (SemaphoreCall::Disarm(2), Answer::Done),
+            (SemaphoreCall::NextWake, Answer::Woken(None)),
+            (SemaphoreCall::Held, Answer::Number(0)),
+            (SemaphoreCall::GiveBack(1), Answer::Refused(Fault::NotHeld)),
+            (SemaphoreCall::Disarm(1), Answer::Refused(Fault::NotHeld)),
+            (SemaphoreCall::Release(2), Answer::Done),
+            (SemaphoreCall::NextWake, Answer::Woken(None)),
+            (SemaphoreCall::Permits, Answer::Number(2)),
         ];
-        assert!(rt; answers(rt.alloc(), (2, false), calls, wanted.as_slice())?);
+        assert!(rt; answers(rt.alloc(), (2, false), rows.as_slice())?);
         Ok(())
     }
 
     #[test]
     fn semaphore_zero_permits(rt: HostRuntime) -> Result<(), Fail> {
-        let calls = vec![in rt.alloc();
-            SemaphoreCall::Acquire(2),
-            SemaphoreCall::Poll(A, 1),
-            SemaphoreCall::Acquire(0),
-            SemaphoreCall::Poll(B, 2),
-            SemaphoreCall::TryAcquire(0),
-            SemaphoreCall::TryAcquire(1),
-            SemaphoreCall::Release(1),
-            SemaphoreCall::NextWake,
-            SemaphoreCall::NextWake,
-            SemaphoreCall::TryAcquire(1),
-            SemaphoreCall::Poll(A, 1),
-            SemaphoreCall::Permits,
-            SemaphoreCall::Held,
-        ]?;
-        let wanted = [
-            Answer::Made(A),
-            Answer::Pending,
-            Answer::Made(B),
-            Answer::Ready,
-            Answer::Done,
-            Answer::Nothing,
-            Answer::Done,
-            Answer::Woken(Some(1)),
-            Answer::Woken(None),
-            Answer::Nothing,
-            Answer::Ready,
-            Answer::Number(0),
-            Answer::Number(2),
+        let rows = [
+            (SemaphoreCall::Acquire(2), Answer::Made(A)),
+            (SemaphoreCall::Poll(A, 1), Answer::Pending),
+            (SemaphoreCall::Acquire(0), Answer::Made(B)),
+            (SemaphoreCall::Poll(B, 2), Answer::Ready),
+            (SemaphoreCall::TryAcquire(0), Answer::Done),
+            (SemaphoreCall::TryAcquire(1), Answer::Nothing),
+            (SemaphoreCall::Release(1), Answer::Done),
+            (SemaphoreCall::NextWake, Answer::Woken(Some(1))),
+            (SemaphoreCall::NextWake, Answer::Woken(None)),
+            (SemaphoreCall::TryAcquire(1), Answer::Nothing),
+            (SemaphoreCall::Poll(A, 1), Answer::Ready),
+            (SemaphoreCall::Permits, Answer::Number(0)),
+            (SemaphoreCall::Held, Answer::Number(2)),
         ];
-        assert!(rt; answers(rt.alloc(), (1, true), calls, wanted.as_slice())?);
+        assert!(rt; answers(rt.alloc(), (1, true), rows.as_slice())?);
         Ok(())
     }
 
     #[test]
     fn semaphore_fair_round_after_cancel(rt: HostRuntime) -> Result<(), Fail> {
-        let calls = vec![in rt.alloc();
-            SemaphoreCall::Acquire(3),
-            SemaphoreCall::Acquire(3),
-            SemaphoreCall::Acquire(1),
-            SemaphoreCall::Poll(A, 1),
-            SemaphoreCall::Poll(B, 2),
-            SemaphoreCall::Poll(C, 3),
-            SemaphoreCall::Cancel(A),
-            SemaphoreCall::NextWake,
-            SemaphoreCall::Cancel(B),
-            SemaphoreCall::NextWake,
-            SemaphoreCall::NextWake,
-            SemaphoreCall::Cancel(C),
-            SemaphoreCall::NextWake,
-            SemaphoreCall::Permits,
-        ]?;
-        let wanted = [
-            Answer::Made(A),
-            Answer::Made(B),
-            Answer::Made(C),
-            Answer::Pending,
-            Answer::Pending,
-            Answer::Pending,
-            Answer::Done,
-            Answer::Woken(None),
-            Answer::Done,
-            Answer::Woken(Some(3)),
-            Answer::Woken(None),
-            Answer::Done,
-            Answer::Woken(None),
-            Answer::Number(2),
+        let rows = [
+            (SemaphoreCall::Acquire(3), Answer::Made(A)),
+            (SemaphoreCall::Acquire(3), Answer::Made(B)),
+            (SemaphoreCall::Acquire(1), Answer::Made(C)),
+            (SemaphoreCall::Poll(A, 1), Answer::Pending),
+            (SemaphoreCall::Poll(B, 2), Answer::Pending),
+            (SemaphoreCall::Poll(C, 3), Answer::Pending),
+            (SemaphoreCall::Cancel(A), Answer::Done),
+            (SemaphoreCall::NextWake, Answer::Woken(None)),
+            (SemaphoreCall::Cancel(B), Answer::Done),
+            (SemaphoreCall::NextWake, Answer::Woken(Some(3))),
+            (SemaphoreCall::NextWake, Answer::Woken(None)),
+            (SemaphoreCall::Cancel(C), Answer::Done),
+            (SemaphoreCall::NextWake, Answer::Woken(None)),
+            (SemaphoreCall::Permits, Answer::Number(2)),
         ];
-        assert!(rt; answers(rt.alloc(), (2, true), calls, wanted.as_slice())?);
+        assert!(rt; answers(rt.alloc(), (2, true), rows.as_slice())?);
         Ok(())
     }
 
     #[test]
     fn semaphore_tells_several(rt: HostRuntime) -> Result<(), Fail> {
-        let calls = vec![in rt.alloc();
-            SemaphoreCall::Acquire(1),
-            SemaphoreCall::Acquire(2),
-            SemaphoreCall::Acquire(2),
-            SemaphoreCall::Acquire(1),
-            SemaphoreCall::Poll(A, 1),
-            SemaphoreCall::Poll(B, 2),
-            SemaphoreCall::Poll(C, 3),
-            SemaphoreCall::Poll(D, 4),
-            SemaphoreCall::Release(4),
-            SemaphoreCall::NextWake,
-            SemaphoreCall::NextWake,
-            SemaphoreCall::NextWake,
-            SemaphoreCall::Poll(C, 3),
-            SemaphoreCall::Poll(B, 2),
-            SemaphoreCall::Permits,
-            SemaphoreCall::Cancel(A),
-            SemaphoreCall::NextWake,
-            SemaphoreCall::NextWake,
-            SemaphoreCall::Poll(C, 3),
-            SemaphoreCall::Permits,
-            SemaphoreCall::GiveBack(2),
-            SemaphoreCall::NextWake,
-            SemaphoreCall::NextWake,
-            SemaphoreCall::Poll(D, 4),
-            SemaphoreCall::Permits,
-            SemaphoreCall::Held,
-        ]?;
-        let wanted = [
-            Answer::Made(A),
-            Answer::Made(B),
-            Answer::Made(C),
-            Answer::Made(D),
-            Answer::Pending,
-            Answer::Pending,
-            Answer::Pending,
-            Answer::Pending,
-            Answer::Done,
-            Answer::Woken(Some(1)),
-            Answer::Woken(Some(2)),
-            Answer::Woken(None),
-            Answer::Pending,
-            Answer::Ready,
-            Answer::Number(2),
-            Answer::Done,
-            Answer::Woken(Some(3)),
-            Answer::Woken(None),
-            Answer::Ready,
-            Answer::Number(0),
-            Answer::Done,
-            Answer::Woken(Some(4)),
-            Answer::Woken(None),
-            Answer::Ready,
-            Answer::Number(1),
-            Answer::Number(3),
+        let rows = [
+            (SemaphoreCall::Acquire(1), Answer::Made(A)),
+            (SemaphoreCall::Acquire(2), Answer::Made(B)),
+            (SemaphoreCall::Acquire(2), Answer::Made(C)),
+            (SemaphoreCall::Acquire(1), Answer::Made(D)),
+            (SemaphoreCall::Poll(A, 1), Answer::Pending),
+            (SemaphoreCall::Poll(B, 2), Answer::Pending),
+            (SemaphoreCall::Poll(C, 3), Answer::Pending),
+            (SemaphoreCall::Poll(D, 4), Answer::Pending),
+            (SemaphoreCall::Release(4), Answer::Done),
+            (SemaphoreCall::NextWake, Answer::Woken(Some(1))),
+            (SemaphoreCall::NextWake, Answer::Woken(Some(2))),
+            (SemaphoreCall::NextWake, Answer::Woken(None)),
+            (SemaphoreCall::Poll(C, 3), Answer::Pending),
+            (SemaphoreCall::Poll(B, 2), Answer::Ready),
+            (SemaphoreCall::Permits, Answer::Number(2)),
+            (SemaphoreCall::Cancel(A), Answer::Done),
+            (SemaphoreCall::NextWake, Answer::Woken(Some(3))),
+            (SemaphoreCall::NextWake, Answer::Woken(None)),
+            (SemaphoreCall::Poll(C, 3), Answer::Ready),
+            (SemaphoreCall::Permits, Answer::Number(0)),
+            (SemaphoreCall::GiveBack(2), Answer::Done),
+            (SemaphoreCall::NextWake, Answer::Woken(Some(4))),
+            (SemaphoreCall::NextWake, Answer::Woken(None)),
+            (SemaphoreCall::Poll(D, 4), Answer::Ready),
+            (SemaphoreCall::Permits, Answer::Number(1)),
+            (SemaphoreCall::Held, Answer::Number(3)),
         ];
-        assert!(rt; answers(rt.alloc(), (0, true), calls, wanted.as_slice())?);
+        assert!(rt; answers(rt.alloc(), (0, true), rows.as_slice())?);
         Ok(())
     }
 
     #[test]
     fn semaphore_told_stays_first(rt: HostRuntime) -> Result<(), Fail> {
-        let calls = vec![in rt.alloc();
-            SemaphoreCall::Acquire(2),
-            SemaphoreCall::Poll(A, 1),
-            SemaphoreCall::Release(2),
-            SemaphoreCall::NextWake,
-            SemaphoreCall::NextWake,
-            SemaphoreCall::Acquire(1),
-            SemaphoreCall::Poll(B, 2),
-            SemaphoreCall::Release(1),
-            SemaphoreCall::NextWake,
-            SemaphoreCall::NextWake,
-            SemaphoreCall::Poll(B, 2),
-            SemaphoreCall::Poll(A, 1),
-            SemaphoreCall::Permits,
-            SemaphoreCall::Held,
-        ]?;
-        let wanted = [
-            Answer::Made(A),
-            Answer::Pending,
-            Answer::Done,
-            Answer::Woken(Some(1)),
-            Answer::Woken(None),
-            Answer::Made(B),
-            Answer::Pending,
-            Answer::Done,
-            Answer::Woken(Some(2)),
-            Answer::Woken(None),
-            Answer::Ready,
-            Answer::Ready,
-            Answer::Number(1),
-            Answer::Number(3),
+        let rows = [
+            (SemaphoreCall::Acquire(2), Answer::Made(A)),
+            (SemaphoreCall::Poll(A, 1), Answer::Pending),
+            (SemaphoreCall::Release(2), Answer::Done),
+            (SemaphoreCall::NextWake, Answer::Woken(Some(1))),
+            (SemaphoreCall::NextWake, Answer::Woken(None)),
+            (SemaphoreCall::Acquire(1), Answer::Made(B)),
+            (SemaphoreCall::Poll(B, 2), Answer::Pending),
+            (SemaphoreCall::Release(1), Answer::Done),
+            (SemaphoreCall::NextWake, Answer::Woken(Some(2))),
+            (SemaphoreCall::NextWake, Answer::Woken(None)),
+            (SemaphoreCall::Poll(B, 2), Answer::Ready),
+            (SemaphoreCall::Poll(A, 1), Answer::Ready),
+            (SemaphoreCall::Permits, Answer::Number(1)),
+            (SemaphoreCall::Held, Answer::Number(3)),
         ];
-        assert!(rt; answers(rt.alloc(), (1, true), calls, wanted.as_slice())?);
+        assert!(rt; answers(rt.alloc(), (1, true), rows.as_slice())?);
         Ok(())
     }
 
     #[test]
     fn what_is_refused(rt: HostRuntime) -> Result<(), Fail> {
-        let calls = vec![in rt.alloc();
-            SemaphoreCall::Poll(A, 1),
-            SemaphoreCall::Cancel(A),
-            SemaphoreCall::Acquire(1),
-            SemaphoreCall::Poll(A, 1),
-            SemaphoreCall::Poll(A, 1),
-            SemaphoreCall::Cancel(A),
-            SemaphoreCall::NextWake,
-            SemaphoreCall::GiveBack(2),
-            SemaphoreCall::GiveBack(1),
-            SemaphoreCall::NextWake,
-            SemaphoreCall::NextWake,
-        ]?;
-        let wanted = [
-            Answer::Refused(Fault::NoSlot),
-            Answer::Refused(Fault::NoSlot),
-            Answer::Made(A),
-            Answer::Ready,
-            Answer::Refused(Fault::NoSlot),
-            Answer::Done,
-            Answer::Woken(None),
-            Answer::Refused(Fault::NotHeld),
-            Answer::Done,
-            Answer::Woken(None),
-            Answer::Woken(None),
+        let rows = [
+            (SemaphoreCall::Poll(A, 1), Answer::Refused(Fault::NoSlot)),
+            (SemaphoreCall::Cancel(A), Answer::Refused(Fault::NoSlot)),
+            (SemaphoreCall::Acquire(1), Answer::Made(A)),
+            (SemaphoreCall::Poll(A, 1), Answer::Ready),
+            (SemaphoreCall::Poll(A, 1), Answer::Refused(Fault::NoSlot)),
+            (SemaphoreCall::Cancel(A), Answer::Done),
+            (SemaphoreCall::NextWake, Answer::Woken(None)),
+            (SemaphoreCall::GiveBack(2), Answer::Refused(Fault::NotHeld)),
+            (SemaphoreCall::GiveBack(1), Answer::Done),
+            (SemaphoreCall::NextWake, Answer::Woken(None)),
+            (SemaphoreCall::NextWake, Answer::Woken(None)),
         ];
-        assert!(rt; answers(rt.alloc(), (1, true), calls, wanted.as_slice())?);
+        assert!(rt; answers(rt.alloc(), (1, true), rows.as_slice())?);
         every_run_of_a_semaphore::<u64>();
         Ok(())
     }

@@ -7,6 +7,10 @@ use fi_channels::{OneshotBroadcastState, OneshotState, StateBroadcastState};
 use fi_parts::{Fault, Slot, StateId};
 use std::test::Fail;
 
+mod channel;
+mod desks;
+mod journals;
+
 #[test]
 fn a_oneshot_gives_its_value_once(rt: HostRuntime) -> Result<(), Fail> {
     let mut channel: OneshotState<u32, u64> = OneshotState::open(rt.alloc(), ())?;

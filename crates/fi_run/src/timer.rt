@@ -157,189 +157,134 @@ mod tests {
 
     const C: Slot = Slot(2);
 
-    // A new timer answers these calls so.
-    fn answers(
-        alloc: Global,
-        calls: Vec<TimerCall<u64>>,
-        wanted: &[Answer<u64, u64>],
-    ) -> Result<bool, Fail> {
+    // A new timer answers the calls of these rows so.
+    fn answers(alloc: Global, rows: &[(TimerCall<u64>, Answer<u64, u64>)]) -> Result<bool, Fail> {
         let mut timer: TimerState<u64> = TimerState::open(alloc, ())?;
+        let mut calls = Vec::new(alloc);
+        let mut wanted = Vec::new(alloc);
+        for (call, answer) in rows.iter() {
+            calls.push(*call)?;
+            wanted.push(*answer)?;
+        }
         let mut out = Vec::new(alloc);
         run(&mut timer, calls, &mut out)?;
         Primitive::show(&timer);
-        Ok(out.as_slice() == wanted)
+        Ok(out.as_slice() == wanted.as_slice())
     }
 
     #[test]
     fn timer_expirations(rt: HostRuntime) -> Result<(), Fail> {
-        let calls = vec![in rt.alloc();
-            TimerCall::Deadline(999),
-            TimerCall::Poll(A, 200, 1),
-            TimerCall::Next,
-            TimerCall::Delay(200, Duration::from_millis(300)),
-            TimerCall::Poll(B, 200, 2),
-            TimerCall::Next,
-            TimerCall::Delay(200, Duration::from_millis(500)),
-            TimerCall::Poll(C, 200, 3),
-            TimerCall::Next,
-            TimerCall::Check(500),
-            TimerCall::NextWake,
-            TimerCall::NextWake,
-            TimerCall::Poll(B, 500, 2),
-            TimerCall::Next,
-            TimerCall::Check(699),
-            TimerCall::NextWake,
-            TimerCall::Check(700),
-            TimerCall::NextWake,
-            TimerCall::NextWake,
-        ]?;
-        let wanted = [
-            Answer::Made(A),
-            Answer::Pending,
-            Answer::Moment(Some(999)),
-            Answer::Made(B),
-            Answer::Pending,
-            Answer::Moment(Some(500)),
-            Answer::Made(C),
-            Answer::Pending,
-            Answer::Moment(Some(500)),
-            Answer::Done,
-            Answer::Woken(Some(2)),
-            Answer::Woken(None),
-            Answer::Ready,
-            Answer::Moment(Some(700)),
-            Answer::Done,
-            Answer::Woken(None),
-            Answer::Done,
-            Answer::Woken(Some(3)),
-            Answer::Woken(None),
+        let rows = [
+            (TimerCall::Deadline(999), Answer::Made(A)),
+            (TimerCall::Poll(A, 200, 1), Answer::Pending),
+            (TimerCall::Next, Answer::Moment(Some(999))),
+            (
+                TimerCall::Delay(200, Duration::from_millis(300)),
+                Answer::Made(B),
+            ),
+            (TimerCall::Poll(B, 200, 2), Answer::Pending),
+            (TimerCall::Next, Answer::Moment(Some(500))),
+            (
+                TimerCall::Delay(200, Duration::from_millis(500)),
+                Answer::Made(C),
+            ),
+            (TimerCall::Poll(C, 200, 3), Answer::Pending),
+            (TimerCall::Next, Answer::Moment(Some(500))),
+            (TimerCall::Check(500), Answer::Done),
+            (TimerCall::NextWake, Answer::Woken(Some(2))),
+            (TimerCall::NextWake, Answer::Woken(None)),
+            (TimerCall::Poll(B, 500, 2), Answer::Ready),
+            (TimerCall::Next, Answer::Moment(Some(700))),
+            (TimerCall::Check(699), Answer::Done),
+            (TimerCall::NextWake, Answer::Woken(None)),
+            (TimerCall::Check(700), Answer::Done),
+            (TimerCall::NextWake, Answer::Woken(Some(3))),
+            (TimerCall::NextWake, Answer::Woken(None)),
         ];
-        assert!(rt; answers(rt.alloc(), calls, wanted.as_slice())?);
+        assert!(rt; answers(rt.alloc(), rows.as_slice())?);
         Ok(())
     }
 
     #[test]
     fn timer_saturates(rt: HostRuntime) -> Result<(), Fail> {
         let late = 18_446_744_073_709_551_610;
-        let calls = vec![in rt.alloc();
-            TimerCall::Delay(late, Duration::from_millis(10)),
-            TimerCall::Poll(A, late, 1),
-            TimerCall::Next,
-            TimerCall::Check(u64::MAX),
-            TimerCall::NextWake,
-            TimerCall::Poll(A, u64::MAX, 1),
-        ]?;
-        let wanted = [
-            Answer::Made(A),
-            Answer::Pending,
-            Answer::Moment(Some(u64::MAX)),
-            Answer::Done,
-            Answer::Woken(Some(1)),
-            Answer::Ready,
+        let rows = [
+            (
+                TimerCall::Delay(late, Duration::from_millis(10)),
+                Answer::Made(A),
+            ),
+            (TimerCall::Poll(A, late, 1), Answer::Pending),
+            (TimerCall::Next, Answer::Moment(Some(u64::MAX))),
+            (TimerCall::Check(u64::MAX), Answer::Done),
+            (TimerCall::NextWake, Answer::Woken(Some(1))),
+            (TimerCall::Poll(A, u64::MAX, 1), Answer::Ready),
         ];
-        assert!(rt; answers(rt.alloc(), calls, wanted.as_slice())?);
+        assert!(rt; answers(rt.alloc(), rows.as_slice())?);
         Ok(())
     }
 
     #[test]
     fn timer_cancel(rt: HostRuntime) -> Result<(), Fail> {
-        let calls = vec![in rt.alloc();
-            TimerCall::Deadline(300),
-            TimerCall::Deadline(100),
-            TimerCall::Deadline(200),
-            TimerCall::Poll(A, 0, 1),
-            TimerCall::Poll(B, 0, 2),
-            TimerCall::Poll(C, 0, 3),
-            TimerCall::Next,
-            TimerCall::Cancel(B),
-            TimerCall::Next,
-            TimerCall::Check(250),
-            TimerCall::NextWake,
-            TimerCall::NextWake,
-            TimerCall::Next,
-            TimerCall::Check(299),
-            TimerCall::NextWake,
-            TimerCall::Cancel(A),
-            TimerCall::Next,
-            TimerCall::Cancel(A),
-            TimerCall::Poll(A, 0, 1),
-        ]?;
-        let wanted = [
-            Answer::Made(A),
-            Answer::Made(B),
-            Answer::Made(C),
-            Answer::Pending,
-            Answer::Pending,
-            Answer::Pending,
-            Answer::Moment(Some(100)),
-            Answer::Done,
-            Answer::Moment(Some(200)),
-            Answer::Done,
-            Answer::Woken(Some(3)),
-            Answer::Woken(None),
-            Answer::Moment(Some(300)),
-            Answer::Done,
-            Answer::Woken(None),
-            Answer::Done,
-            Answer::Moment(None),
-            Answer::Refused(Fault::NoSlot),
-            Answer::Refused(Fault::NoSlot),
+        let rows = [
+            (TimerCall::Deadline(300), Answer::Made(A)),
+            (TimerCall::Deadline(100), Answer::Made(B)),
+            (TimerCall::Deadline(200), Answer::Made(C)),
+            (TimerCall::Poll(A, 0, 1), Answer::Pending),
+            (TimerCall::Poll(B, 0, 2), Answer::Pending),
+            (TimerCall::Poll(C, 0, 3), Answer::Pending),
+            (TimerCall::Next, Answer::Moment(Some(100))),
+            (TimerCall::Cancel(B), Answer::Done),
+            (TimerCall::Next, Answer::Moment(Some(200))),
+            (TimerCall::Check(250), Answer::Done),
+            (TimerCall::NextWake, Answer::Woken(Some(3))),
+            (TimerCall::NextWake, Answer::Woken(None)),
+            (TimerCall::Next, Answer::Moment(Some(300))),
+            (TimerCall::Check(299), Answer::Done),
+            (TimerCall::NextWake, Answer::Woken(None)),
+            (TimerCall::Cancel(A), Answer::Done),
+            (TimerCall::Next, Answer::Moment(None)),
+            (TimerCall::Cancel(A), Answer::Refused(Fault::NoSlot)),
+            (TimerCall::Poll(A, 0, 1), Answer::Refused(Fault::NoSlot)),
         ];
-        assert!(rt; answers(rt.alloc(), calls, wanted.as_slice())?);
+        assert!(rt; answers(rt.alloc(), rows.as_slice())?);
         Ok(())
     }
 
     #[test]
     fn timer_clock_set_back(rt: HostRuntime) -> Result<(), Fail> {
-        let calls = vec![in rt.alloc();
-            TimerCall::Deadline(100),
-            TimerCall::Poll(A, 90, 1),
-            TimerCall::Check(95),
-            TimerCall::NextWake,
-            TimerCall::Check(50),
-            TimerCall::NextWake,
-            TimerCall::Deadline(60),
-            TimerCall::Poll(B, 50, 2),
-            TimerCall::Next,
-            TimerCall::Poll(A, 200, 3),
-            TimerCall::Check(60),
-            TimerCall::NextWake,
-            TimerCall::NextWake,
-            TimerCall::Check(100),
-            TimerCall::NextWake,
-            TimerCall::Poll(A, 0, 3),
-        ]?;
-        let wanted = [
-            Answer::Made(A),
-            Answer::Pending,
-            Answer::Done,
-            Answer::Woken(None),
-            Answer::Done,
-            Answer::Woken(None),
-            Answer::Made(B),
-            Answer::Pending,
-            Answer::Moment(Some(60)),
-            Answer::Pending,
-            Answer::Done,
-            Answer::Woken(Some(2)),
-            Answer::Woken(None),
-            Answer::Done,
-            Answer::Woken(Some(3)),
-            Answer::Ready,
+        let rows = [
+            (TimerCall::Deadline(100), Answer::Made(A)),
+            (TimerCall::Poll(A, 90, 1), Answer::Pending),
+            (TimerCall::Check(95), Answer::Done),
+            (TimerCall::NextWake, Answer::Woken(None)),
+            (TimerCall::Check(50), Answer::Done),
+            (TimerCall::NextWake, Answer::Woken(None)),
+            (TimerCall::Deadline(60), Answer::Made(B)),
+            (TimerCall::Poll(B, 50, 2), Answer::Pending),
+            (TimerCall::Next, Answer::Moment(Some(60))),
+            (TimerCall::Poll(A, 200, 3), Answer::Pending),
+            (TimerCall::Check(60), Answer::Done),
+            (TimerCall::NextWake, Answer::Woken(Some(2))),
+            (TimerCall::NextWake, Answer::Woken(None)),
+            (TimerCall::Check(100), Answer::Done),
+            (TimerCall::NextWake, Answer::Woken(Some(3))),
+            (TimerCall::Poll(A, 0, 3), Answer::Ready),
         ];
-        assert!(rt; answers(rt.alloc(), calls, wanted.as_slice())?);
+        assert!(rt; answers(rt.alloc(), rows.as_slice())?);
         Ok(())
     }
 
     #[test]
     fn a_delay_counts_whole_milliseconds(rt: HostRuntime) -> Result<(), Fail> {
-        let calls = vec![in rt.alloc();
-            TimerCall::Delay(5, Duration::from_micros(1_999)),
-            TimerCall::Poll(A, 5, 1),
-            TimerCall::Next,
-        ]?;
-        let wanted = [Answer::Made(A), Answer::Pending, Answer::Moment(Some(6))];
-        assert!(rt; answers(rt.alloc(), calls, wanted.as_slice())?);
+        let rows = [
+            (
+                TimerCall::Delay(5, Duration::from_micros(1_999)),
+                Answer::Made(A),
+            ),
+            (TimerCall::Poll(A, 5, 1), Answer::Pending),
+            (TimerCall::Next, Answer::Moment(Some(6))),
+        ];
+        assert!(rt; answers(rt.alloc(), rows.as_slice())?);
         every_run_of_a_timer::<u64>();
         Ok(())
     }

@@ -1,0 +1,3 @@
+//! What the primitives' runs and journals are for, as their users would write it.
+
+mod workers;
