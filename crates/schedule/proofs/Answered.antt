@@ -6,7 +6,7 @@ use Rattle.fi_run.specs.declared.answer.Answer.{Answer}
 use Rattle.schedule.specs.Asked.{Asks, Performs}
 use Rattle.schedule.specs.Texts.{answer_text, wakes_text}
 use Rattle.schedule.specs.declared.engine.Request.{Request}
-use Rattle.schedule.specs.Answered.{line_text, Calls, TellsWakers, AnswersLine, AnswersLines, LinesAre, AnswersRest, AnswersFront, IfBad}
+use Rattle.schedule.specs.Answered.{line_text, Calls, TellsWakers, AnswersLine, AnswersLines, LinesAre, AnswersBeginning, AnswersRest, AnswersFront, RunsShort, IfStopped}
 use Rattle.schedule.specs.declared.fault.ScriptFault.{ScriptFault}
 use Rattle.schedule.specs.declared.fault.ScriptFault.TheVariants.{Read, Write, BadLine, NoMemory}
 use Rattle.schedule.specs.Cuts.{NextLine}
@@ -103,69 +103,76 @@ module _ {S O C W : Type 0} (primitive : Spoken S O C) (contents : W → Option 
   ended_at (Some []) after none = (refl, refl)
   ended_at (Some (byte ∷ bytes)) after none = absurd none
 
-  pub rest_answered : (opening : O) (whole : Option (List ℕ)) (shown : Output W) (number : ℕ) (rest : Option (List ℕ))
-      (used : Labels) (now : S) (out : Output W) (after : Option (List ℕ))
-      → IsSoFar opening whole shown number rest used now out → NextLine rest None after
-      → Tells contents shown out (AnswersRest primitive (λ asked. asked ≡ opening) whole)
-  unfolding LinesAre AnswersLines
-  rest_answered opening whole shown number rest used now out after so_far none =
-      let all = so_far.4 [] rest used now [] out refl (refl, refl, refl) (appends_none (on_its_way contents out)) in (
-        all.1,
-        record {
-          opening = opening;
-          as_asked = refl;
-          first = so_far.0;
-          last = now;
-          labels = so_far.1;
-          after = used;
-          lines = all.0;
-          end = rest;
-          opened = so_far.2;
-          no_labels = so_far.3;
-          are = all.2;
-          ended = ended_at rest after none;
-          answered = all.3;
-        },
-        all.4,
-      )
+  abbrev begun : (opening : O) (whole : Option (List ℕ)) (none after : Labels) (first last : S) (all : List (List ℕ))
+      (end : Option (List ℕ)) (text : List ℕ) → primitive.opens opening first → NoLabels none → LinesAre whole all end
+      → AnswersLines primitive all none first after last text
+      → AnswersBeginning primitive (λ asked. asked ≡ opening) whole text
+  begun opening whole none after first last all end text opened no_labels are answered = record {
+    opening = opening;
+    as_asked = refl;
+    first = first;
+    last = last;
+    labels = none;
+    after = after;
+    lines = all;
+    end = end;
+    opened = opened;
+    no_labels = no_labels;
+    are = are;
+    answered = answered;
+  }
 
-  pub front_answered : (opening : O) (whole : Option (List ℕ)) (shown : Output W) (number : ℕ) (rest : Option (List ℕ))
-      (used : Labels) (now : S) (out : Output W) (bad : List ℕ) (after : Option (List ℕ))
-      → IsSoFar opening whole shown number rest used now out → NextLine rest (Some bad) after
-      → IsBad primitive.language.call_of used bad
-      → Tells contents shown out (AnswersFront primitive (λ asked. asked ≡ opening) whole (number + 1))
-  unfolding LinesAre AnswersLines
-  front_answered opening whole shown number rest used now out bad after so_far comes is_bad =
-      let all = so_far.4 [] rest used now [] out refl (refl, refl, refl) (appends_none (on_its_way contents out)) in (
-        all.1,
-        record {
-          opening = opening;
-          as_asked = refl;
-          first = so_far.0;
-          last = now;
-          labels = so_far.1;
-          after = used;
-          lines = all.0;
-          bad = bad;
-          at = rest;
-          later = after;
-          opened = so_far.2;
-          no_labels = so_far.3;
-          are = all.2;
-          next = comes;
-          is_bad = is_bad;
-          number_is = omega (arith, all.5);
-          answered = all.3;
-        },
-        all.4,
-      )
+  module _ (opening : O) (whole : Option (List ℕ)) (shown : Output W) (number : ℕ) (rest : Option (List ℕ)) (used : Labels)
+      (now : S) (out left : Output W) (so_far : IsSoFar opening whole shown number rest used now out)
+      (stays : GoesOn contents out left (Some [])) where
+    pub rest_answered : (after : Option (List ℕ)) → NextLine rest None after
+        → Tells contents shown left (AnswersRest primitive (λ asked. asked ≡ opening) whole)
+    unfolding LinesAre AnswersLines
+    rest_answered after none =
+        let all = so_far.4 [] rest used now [] left refl (refl, refl, refl) stays in (
+          all.1,
+          record {
+            beginning = begun opening whole so_far.1 used so_far.0 now all.0 rest all.1 so_far.2 so_far.3 all.2 all.3;
+            ended = ended_at rest after none;
+          },
+          all.4,
+        )
 
-pub if_bad_more : (less more : ℕ → Type 0) (fault : ScriptFault) → IfBad less fault
-    → ((line : ℕ) → less line → more line) → IfBad more fault
-if_bad_more less more Read told on = absurd told
-if_bad_more less more Write told on = tt
-if_bad_more less more (BadLine line) told on = on line told
-if_bad_more less more NoMemory told on = tt
+    pub front_answered : (bad : List ℕ) (after : Option (List ℕ)) → NextLine rest (Some bad) after
+        → IsBad primitive.language.call_of used bad
+        → Tells contents shown left (AnswersFront primitive (λ asked. asked ≡ opening) whole (number + 1))
+    unfolding LinesAre AnswersLines
+    front_answered bad after comes is_bad =
+        let all = so_far.4 [] rest used now [] left refl (refl, refl, refl) stays in (
+          all.1,
+          record {
+            beginning = begun opening whole so_far.1 used so_far.0 now all.0 rest all.1 so_far.2 so_far.3 all.2 all.3;
+            bad = bad;
+            later = after;
+            next = comes;
+            is_bad = is_bad;
+            number_is = omega (arith, all.5);
+          },
+          all.4,
+        )
+
+    pub beginning_answered : Tells contents shown left (RunsShort primitive (λ asked. asked ≡ opening) whole)
+    unfolding LinesAre AnswersLines
+    beginning_answered =
+        let all = so_far.4 [] rest used now [] left refl (refl, refl, refl) stays in
+        (all.1, inr (begun opening whole so_far.1 used so_far.0 now all.0 rest all.1 so_far.2 so_far.3 all.2 all.3), all.4)
+
+  -- Memory was refused before anything was answered.
+  pub nothing_answered : (opening : O) (whole : Option (List ℕ)) (shown : Output W)
+      → Tells contents shown shown (RunsShort primitive (λ asked. asked ≡ opening) whole)
+  nothing_answered opening whole shown = ([], inl refl, appends_none (on_its_way contents shown))
+
+pub if_stopped_more : (less more : ℕ → Type 0) (short longer : Type 0) (fault : ScriptFault) → IfStopped less short fault
+    → ((line : ℕ) → less line → more line) → (short → longer) → IfStopped more longer fault
+if_stopped_more less more short longer Read told on goes = absurd told
+if_stopped_more less more short longer Write told on goes = tt
+if_stopped_more less more short longer (BadLine line) told on goes = on line told
+if_stopped_more less more short longer NoMemory told on goes = goes told
 
 pub if_err_same : {A E : Type 0} (r : Result A E) (told : E → Type 0) (fault : E) → IsErrAnd r (λ other. other ≡ fault)
     → told fault → IfErr r told

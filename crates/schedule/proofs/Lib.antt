@@ -1,10 +1,12 @@
 pub mod Numerals
 pub mod Labels
 pub mod Bytes
+pub mod Collected
 pub mod Cuts
 pub mod FairOpenings
 pub mod Numbered
 pub mod Answered
+pub mod Channels
 pub mod Reading
 pub mod Rebound
 pub mod Shelves

@@ -12,35 +12,36 @@ use Rattle.schedule.specs.Stored.{Stores}
 use Rattle.schedule.specs.declared.label.Label.{Label}
 use Rattle.schedule.specs.declared.labelled.Labelled.{Labelled}
 use Rattle.schedule.specs.declared.numbers.Numbers.{Numbers}
+use Rattle.schedule.specs.declared.row.MadeFuture.{MadeFuture}
 use Rattle.schedule.specs.declared.row.Row.{Row}
 use Rattle.schedule.specs.declared.row.Row.TheVariants.{Make, Cancel}
 use Rattle.schedule.specs.declared.verb.Verb.{Verb}
 use Rattle.schedule.proofs.Labels.{one_word}
 
-rebinds : (word : List ℕ) (slot : Option Slot) (code : ℕ) (old new : Labelled Slot) → IsLabel word → code ≡ code_of word
-    → Stores code slot old.shelves.items new.shelves.items
-    → Rebinds word slot (labels_of old) (labels_of new)
-rebinds word slot code old new label is stores =
-    let here : Stores (code_of word) slot old.shelves.items new.shelves.items = subst
-    (λ c. Stores c slot old.shelves.items new.shelves.items) is stores in
+rebinds : (word : List ℕ) (future : Option MadeFuture) (code : ℕ) (old new : Labelled MadeFuture) → IsLabel word
+    → code ≡ code_of word → Stores code future old.shelves.items new.shelves.items
+    → Rebinds word future (labels_of old) (labels_of new)
+rebinds word future code old new label is stores =
+    let here : Stores (code_of word) future old.shelves.items new.shelves.items = subst
+    (λ c. Stores c future old.shelves.items new.shelves.items) is stores in
     (here.0, λ other label' apart. here.1 (code_of other) (λ same. apart (one_word other word label' label same)))
 
-module _ (old new : Labelled Slot) (label : Option Label) (l : Label) (is : label ≡ Some l) where
+module _ (old new : Labelled MadeFuture) (label : Option Label) (l : Label) (is : label ≡ Some l) where
   pub bound : (slot : Slot) (row : Row) (verb : Verb) (numbers : Numbers) (answer : Answer ℕ ℕ)
       → row ≡ Make verb numbers → answer ≡ Made slot
-      → Stores l.code (Some slot) old.shelves.items new.shelves.items → (word : Option (List ℕ)) → IsLabelOf word label
-      → LabelsAfter row word answer (labels_of old) (labels_of new)
+      → Stores l.code (Some (record { verb = verb; slot = slot })) old.shelves.items new.shelves.items
+      → (word : Option (List ℕ)) → IsLabelOf word label → LabelsAfter row word answer (labels_of old) (labels_of new)
   bound slot row verb numbers answer is_row is_answer stores None labelled =
       absurd (subst (λ (o : Option Label). IsLabelOf None o) is labelled)
   bound slot row verb numbers answer is_row is_answer stores (Some word) labelled =
       let it = subst (λ (o : Option Label). IsLabelOf (Some word) o) is labelled in
-      rw (is_row, is_answer) (rebinds word (Some slot) l.code old new it.0 it.1 stores)
+      rw (is_row, is_answer) (rebinds word (Some (record { verb = verb; slot = slot })) l.code old new it.0 it.1 stores)
 
-  pub unbound : (slot : Slot) (row : Row) (numbers : Numbers) (answer : Answer ℕ ℕ) → row ≡ Cancel slot numbers
-      → Stores l.code None old.shelves.items new.shelves.items → (word : Option (List ℕ)) → IsLabelOf word label
-      → LabelsAfter row word answer (labels_of old) (labels_of new)
-  unbound slot row numbers answer is_row stores None labelled =
+  pub unbound : (future : MadeFuture) (row : Row) (numbers : Numbers) (answer : Answer ℕ ℕ) → row ≡ Cancel future numbers
+      → Stores l.code None old.shelves.items new.shelves.items
+      → (word : Option (List ℕ)) → IsLabelOf word label → LabelsAfter row word answer (labels_of old) (labels_of new)
+  unbound future row numbers answer is_row stores None labelled =
       absurd (subst (λ (o : Option Label). IsLabelOf None o) is labelled)
-  unbound slot row numbers answer is_row stores (Some word) labelled =
+  unbound future row numbers answer is_row stores (Some word) labelled =
       let it = subst (λ (o : Option Label). IsLabelOf (Some word) o) is labelled in
       rw is_row (rebinds word None l.code old new it.0 it.1 stores)

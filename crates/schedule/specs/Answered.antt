@@ -10,12 +10,12 @@ use Rattle.schedule.specs.declared.row.Row.{Row}
 use Rattle.fi_run.specs.declared.answer.Answer.{Answer}
 use Rattle.fi_run.specs.declared.answer.Answer.TheVariants.{Done}
 
--- A line is refused by its number, and then this holds; a fault of reading is no refusal of a line.
-abbrev pub IfBad : (ℕ → Type 0) → ScriptFault → Type 0
-IfBad told Read = ⊥
-IfBad told Write = ⊤
-IfBad told (BadLine line) = told line
-IfBad told NoMemory = ⊤
+-- Why not all lines were answered: one was refused, by its number, or memory was. A fault of reading is no reason.
+abbrev pub IfStopped : (ℕ → Type 0) → Type 0 → ScriptFault → Type 0
+IfStopped bad short Read = ⊥
+IfStopped bad short Write = ⊤
+IfStopped bad short (BadLine line) = bad line
+IfStopped bad short NoMemory = short
 
 -- These are the next lines, in order, and this is left behind them.
 unfoldable pub LinesAre : Option (List ℕ) → List (List ℕ) → Option (List ℕ) → Type 0
@@ -64,8 +64,8 @@ module _ {S O C : Type 0} (primitive : Spoken S O C) where
       × AnswersLine line labels old later between front × AnswersLines lines later between after new rest
       × (text ≡ front ++ rest)
 
-  -- A primitive was opened, as this says, with no label in use, and answered all lines that are left of a script.
-  pub record AnswersRest (asked : O → Type 0) (rest : Option (List ℕ)) (text : List ℕ) : Type 0 where
+  -- A primitive was opened, as this says, with no label in use, and answered the first of the lines that are left of a script.
+  pub record AnswersBeginning (asked : O → Type 0) (rest : Option (List ℕ)) (text : List ℕ) : Type 0 where
     pub opening : O
     pub as_asked : asked opening
     pub first : S
@@ -77,30 +77,27 @@ module _ {S O C : Type 0} (primitive : Spoken S O C) where
     pub opened : primitive.opens opening first
     pub no_labels : NoLabels labels
     pub are : LinesAre rest lines end
-    pub ended : NextLine end None end
     pub answered : AnswersLines lines labels first after last text
+
+  -- It answered them all.
+  pub record AnswersRest (asked : O → Type 0) (rest : Option (List ℕ)) (text : List ℕ) : Type 0 where
+    pub beginning : AnswersBeginning asked rest text
+    pub ended : NextLine beginning.end None beginning.end
 
   -- It answered those before the line of this number, which stands for no call; the first of them has the number 2.
   pub record AnswersFront (asked : O → Type 0) (rest : Option (List ℕ)) (number : ℕ) (text : List ℕ) : Type 0 where
-    pub opening : O
-    pub as_asked : asked opening
-    pub first : S
-    pub last : S
-    pub labels : Labels
-    pub after : Labels
-    pub lines : List (List ℕ)
+    pub beginning : AnswersBeginning asked rest text
     pub bad : List ℕ
-    pub at : Option (List ℕ)
     pub later : Option (List ℕ)
-    pub opened : primitive.opens opening first
-    pub no_labels : NoLabels labels
-    pub are : LinesAre rest lines at
-    pub next : NextLine at (Some bad) later
-    pub is_bad : IsBad primitive.language.call_of after bad
-    pub number_is : number ≡ length lines + 2
-    pub answered : AnswersLines lines labels first after last text
+    pub next : NextLine beginning.end (Some bad) later
+    pub is_bad : IsBad primitive.language.call_of beginning.after bad
+    pub number_is : number ≡ length beginning.lines + 2
 
   -- It was refused before the first of these lines, as nothing was asked for, or at one of them.
   abbrev pub RefusesLine : (O → Type 0) → Option (List ℕ) → ℕ → List ℕ → Type 0
   RefusesLine asked rest number text =
       ((number ≡ 1) × (text ≡ []) × ((opening : O) → asked opening → ⊥)) ⊎ AnswersFront asked rest number text
+
+  -- Memory was refused before the primitive was opened, or after it had answered the first of these lines.
+  abbrev pub RunsShort : (O → Type 0) → Option (List ℕ) → List ℕ → Type 0
+  RunsShort asked rest text = (text ≡ []) ⊎ AnswersBeginning asked rest text

@@ -6,9 +6,9 @@ use Rattle.schedule.specs.Statuses.{status_of}
 use Rattle.schedule.specs.declared.fault.ScriptFault.{ScriptFault}
 
 -- All lines were answered, or a fault ended the run and was told.
-abbrev pub EndsScript : ℕ → Type 0 → Type 0 → (ℕ → Type 0) → Option (List ℕ) → Option (List ℕ) → Type 0
-EndsScript status untouched answered refused before after = ((status ≡ 0) × answered)
-    ⊎ ((fault : ScriptFault) × (status ≡ status_of fault) × IfFault untouched refused fault
+abbrev pub EndsScript : ℕ → Type 0 → Type 0 → (ℕ → Type 0) → Type 0 → Option (List ℕ) → Option (List ℕ) → Type 0
+EndsScript status untouched answered refused short before after = ((status ≡ 0) × answered)
+    ⊎ ((fault : ScriptFault) × (status ≡ status_of fault) × IfFault untouched refused short fault
     × Begins before after (fault_line fault))
 
 -- The arguments were refused, or could not be read for want of memory.

@@ -1,6 +1,7 @@
 pub mod Answered
 pub mod Asked
 pub mod Begun
+pub mod Channels
 pub mod Cuts
 pub mod Ended
 pub mod Hidden

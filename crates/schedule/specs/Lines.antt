@@ -1,13 +1,13 @@
 -- What a line of calls stands for.
 use Rattle.std.specs.Prelude.{◌≡◌, ◌≢◌, ⊤, ℕ, Bool, true, false, List, ◌∷◌, ◌++◌, Option, None, Some, IfSome, codes, ◌<◌, ◌^◌}
 use Rattle.std.specs.Fmt.{decimal}
-use Rattle.fi_parts.specs.declared.errors.Slot.{Slot}
 use Rattle.fi_run.specs.declared.answer.Answer.{Answer}
 use Rattle.fi_run.specs.declared.answer.Answer.TheVariants.{Made}
 use Rattle.schedule.specs.Labels.{IsLabel}
 use Rattle.schedule.specs.Verbs.{verb_text}
 use Rattle.schedule.specs.declared.numbers.Numbers.{Numbers}
 use Rattle.schedule.specs.declared.numbers.Numbers.TheVariants.{Absent, One, Two}
+use Rattle.schedule.specs.declared.row.MadeFuture.{MadeFuture}
 use Rattle.schedule.specs.declared.row.Row.{Row}
 use Rattle.schedule.specs.declared.row.Row.TheVariants as row
 use Rattle.schedule.specs.declared.verb.Verb.{Verb}
@@ -41,35 +41,36 @@ pub record HasWords (line : List ℕ) (verb : Verb) (label : Option (List ℕ)) 
   pub label_is : IfSome label IsLabel
   pub numbers_fit : Fit numbers
 
--- The slots that the labels in use stand for.
+-- The futures that the labels in use stand for.
 abbrev pub Labels : Type 0
-Labels = List ℕ → Option Slot
+Labels = List ℕ → Option MadeFuture
 
 -- no label is in use
 abbrev pub NoLabels : Labels → Type 0
 NoLabels labels = (word : List ℕ) → labels word ≡ None
 
--- The label stands for this slot, or is free, from now on; the others stay.
-abbrev pub Rebinds : List ℕ → Option Slot → Labels → Labels → Type 0
-Rebinds label slot old new =
-    (new label ≡ slot) × ((other : List ℕ) → IsLabel other → other ≢ label → new other ≡ old other)
+-- The label stands for this future, or is free, from now on; the others stay.
+abbrev pub Rebinds : List ℕ → Option MadeFuture → Labels → Labels → Type 0
+Rebinds label future old new =
+    (new label ≡ future) × ((other : List ℕ) → IsLabel other → other ≢ label → new other ≡ old other)
 
 -- What a line with a label asks for: a free label is for making a future, one in use for its poll or cancel.
-abbrev pub labelled_row : Verb → Numbers → Option Slot → Option Row
+abbrev pub labelled_row : Verb → Numbers → Option MadeFuture → Option Row
 labelled_row verb numbers None = Some (row.Make verb numbers)
-labelled_row verb.Poll numbers (Some slot) = Some (row.Poll slot numbers)
-labelled_row verb.Cancel numbers (Some slot) = Some (row.Cancel slot numbers)
-labelled_row verb numbers (Some slot) = None
+labelled_row verb.Poll numbers (Some future) = Some (row.Poll future numbers)
+labelled_row verb.Cancel numbers (Some future) = Some (row.Cancel future numbers)
+labelled_row verb numbers (Some future) = None
 
 -- what a line of these words asks for
 abbrev pub row_of : Labels → Verb → Option (List ℕ) → Numbers → Option Row
 row_of labels verb None numbers = Some (row.Plain verb numbers)
 row_of labels verb (Some label) numbers = labelled_row verb numbers (labels label)
 
--- A label is in use from the making of its future until its cancel.
+-- A label is in use from the making of its future until its cancel, and keeps the verb that made it.
 abbrev pub LabelsAfter : Row → Option (List ℕ) → Answer ℕ ℕ → Labels → Labels → Type 0
-LabelsAfter (row.Make verb numbers) (Some label) (Made slot) old new = Rebinds label (Some slot) old new
-LabelsAfter (row.Cancel slot numbers) (Some label) answer old new = Rebinds label None old new
+LabelsAfter (row.Make verb numbers) (Some label) (Made slot) old new =
+    Rebinds label (Some (record { verb = verb; slot = slot })) old new
+LabelsAfter (row.Cancel future numbers) (Some label) answer old new = Rebinds label None old new
 LabelsAfter row label answer old new = new ≡ old
 
 -- The line as a whole, or what follows `hold` in it.

@@ -1,15 +1,18 @@
 -- The names of the primitives in scripts.
 use Rattle.std.specs.Prelude.{◌≢◌, ℕ, List, codes}
 use Rattle.schedule.specs.declared.named.Named.{Named}
-use Rattle.schedule.specs.declared.named.Named.TheVariants.{Event, Oneshot, OneshotBroadcast, StateBroadcast, Timer, Mutex}
+use Rattle.schedule.specs.declared.named.Named.TheVariants.{Channel, Event, Oneshot, OneshotBroadcast, StateBroadcast}
+use Rattle.schedule.specs.declared.named.Named.TheVariants.{Timer, Mutex, Semaphore}
 
 abbrev pub name_of : Named → List ℕ
+name_of Channel = codes "channel"
 name_of Event = codes "event"
 name_of Oneshot = codes "oneshot"
 name_of OneshotBroadcast = codes "oneshot-broadcast"
 name_of StateBroadcast = codes "state-broadcast"
 name_of Timer = codes "timer"
 name_of Mutex = codes "mutex"
+name_of Semaphore = codes "semaphore"
 
 -- no primitive has this name
 abbrev pub IsNoName : List ℕ → Type 0

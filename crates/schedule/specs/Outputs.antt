@@ -1,8 +1,6 @@
 -- What is on its way to a writer.
-use Rattle.std.specs.Prelude.{◌≡◌, ⊤, ℕ, List, Option, Some, None}
+use Rattle.std.specs.Prelude.{◌≡◌, ⊤, ℕ, List, ◌++◌, Option, Some, None}
 use Rattle.std.specs.Io.KnownBytes.{Appends, append_known}
-use Rattle.schedule.specs.declared.fault.ScriptFault.{ScriptFault}
-use Rattle.schedule.specs.declared.fault.ScriptFault.TheVariants.{Read, Write, BadLine, NoMemory}
 use Rattle.schedule.specs.declared.output.Output.{Output}
 
 -- what the writer holds, and then what was collected
@@ -22,9 +20,7 @@ Tells contents old new holds = (text : List ℕ) × holds text × GoesOn content
 abbrev pub SameWriter : {W : Type 0} → Output W → Output W → Type 0
 SameWriter old new = new.writer.ghost_name ≡ old.writer.ghost_name
 
--- what may keep an output from going on
-abbrev pub IsOfOutput : ScriptFault → Type 0
-IsOfOutput Read = ⊥
-IsOfOutput Write = ⊤
-IsOfOutput (BadLine line) = ⊥
-IsOfOutput NoMemory = ⊤
+-- Nothing was written, and what is collected only grew.
+abbrev pub Collects : {W : Type 0} → Output W → Output W → Type 0
+Collects old new = (new.writer ≡ old.writer)
+    × (more : List ℕ) × (new.collected.now.items ≡ old.collected.now.items ++ more)

@@ -1,26 +1,36 @@
 -- The verbs of script lines.
 use Rattle.std.specs.Prelude.{◌≢◌, ℕ, List, codes}
 use Rattle.schedule.specs.declared.verb.Verb.{Verb}
-use Rattle.schedule.specs.declared.verb.Verb.TheVariants.{Cancel, Check, Close, Deadline, Delay, IsLocked, IsSet, Lock, Next, Poll}
-use Rattle.schedule.specs.declared.verb.Verb.TheVariants.{Receive, Reset, Send, Set, TryLock, TryReceive, Unlock, Wait}
+use Rattle.schedule.specs.declared.verb.Verb.TheVariants.{Acquire, Cancel, Check, Close, Deadline, Delay, Disarm, GiveBack}
+use Rattle.schedule.specs.declared.verb.Verb.TheVariants.{Held, IsLocked, IsSet, Lock, Next, Permits, Poll, Receive, Release}
+use Rattle.schedule.specs.declared.verb.Verb.TheVariants.{Reset, Send, Set, Stream, TryAcquire, TryLock, TryReceive, TrySend, Unlock, Wait}
 
 abbrev pub verb_text : Verb → List ℕ
+verb_text Acquire = codes "acquire"
 verb_text Cancel = codes "cancel"
 verb_text Check = codes "check"
 verb_text Close = codes "close"
 verb_text Deadline = codes "deadline"
 verb_text Delay = codes "delay"
+verb_text Disarm = codes "disarm"
+verb_text GiveBack = codes "give-back"
+verb_text Held = codes "held"
 verb_text IsLocked = codes "is-locked"
 verb_text IsSet = codes "is-set"
 verb_text Lock = codes "lock"
 verb_text Next = codes "next"
+verb_text Permits = codes "permits"
 verb_text Poll = codes "poll"
 verb_text Receive = codes "receive"
+verb_text Release = codes "release"
 verb_text Reset = codes "reset"
 verb_text Send = codes "send"
 verb_text Set = codes "set"
+verb_text Stream = codes "stream"
+verb_text TryAcquire = codes "try-acquire"
 verb_text TryLock = codes "try-lock"
 verb_text TryReceive = codes "try-receive"
+verb_text TrySend = codes "try-send"
 verb_text Unlock = codes "unlock"
 verb_text Wait = codes "wait"
 

@@ -1,30 +1,35 @@
 //! Answering scripts.
-ghost use Rattle.std.specs.Prelude.{◌≡◌, ℕ, List, [], Option, Some, true, OnOk, OnErr, IfOk, IfErr, MatchOption, drop, option_copied};
-ghost use Rattle.schedule.specs.Answered.{AnswersLine, AnswersRest, AnswersFront, RefusesLine, IfBad};
+ghost use Rattle.std.specs.Prelude.{◌≡◌, ◌⊎◌, ℕ, List, [], Option, Some, true, OnOk, OnErr, IfOk, IfErr, MatchOption, drop, option_copied};
+ghost use Rattle.schedule.specs.Answered.{AnswersLine, AnswersRest, AnswersFront, RefusesLine, RunsShort, IfStopped};
 ghost use Rattle.schedule.specs.Asked.{Requests, Asks, Performs};
+ghost use Rattle.schedule.specs.Channels.{spoken_channel, capacity_of};
 ghost use Rattle.fi_parts.specs.Order.{head_or};
 ghost use Rattle.schedule.specs.Language.{spoken, AsksFor};
 ghost use Rattle.schedule.specs.Lines.{IsNoCall, IsBad, LabelsAfter, row_of};
-ghost use Rattle.schedule.specs.Script.{AnswersScript, RefusesScript, Turns, IfFault};
+ghost use Rattle.schedule.specs.Script.{AnswersScript, RefusesScript, StopsScript, Turns, IfFault};
 ghost use Rattle.schedule.specs.Spelled.{IsLabelOf};
 ghost use Rattle.schedule.specs.InUse.{labels_of};
-ghost use Rattle.schedule.specs.Outputs.{GoesOn, Tells, SameWriter, IsOfOutput};
+ghost use Rattle.schedule.specs.Outputs.{GoesOn, Tells, Collects, SameWriter};
+ghost use Rattle.schedule.specs.Tables.{channel_openings};
 ghost use Rattle.schedule.specs.Texts.{wakes_text};
 ghost use Rattle.schedule.specs.Unread.{lines_left};
 
+use crate::buffer::Buffer;
 use crate::fault::ScriptFault;
 use crate::input::read_whole;
 use crate::label::Label;
 use crate::labelled::Labelled;
 use crate::named::Named;
-use crate::output::{COLLECTED, Output};
-use crate::row::Row;
+use crate::output::{COLLECTED, LINE, Output};
+use crate::row::{MadeFuture, Row};
 use crate::scripted::Scripted;
 use crate::texts::{put_waker, write_answer};
 use crate::words::{Lines, Words, after_hold, split_at_first};
-use fi_channels::{EventState, OneshotBroadcastState, OneshotState, StateBroadcastState};
-use fi_locks::{MutexState, TimerState};
-use fi_parts::Slot;
+use fi_channels::{
+    ChannelState, EventState, OneshotBroadcastState, OneshotState, StateBroadcastState,
+};
+use fi_locks::{MutexState, SemaphoreState, TimerState};
+use fi_parts::buffer::{ArrayBuf, FixedHeapBuf, GrowingHeapBuf, RingBuf};
 use fi_run::Answer;
 use std::alloc::Global;
 use std::io::{Read, Write};
@@ -39,7 +44,8 @@ const BYTES_PER_SHELF: usize = 256;
 /// - `Read` where a read failed; nothing was written.
 /// - `Write` where a write failed, or took no byte.
 /// - `BadLine` with the number of the first bad line, from 1; the answers of the lines before it were written.
-/// - `NoMemory` where memory was refused; what was written is a beginning of the output.
+/// - `NoMemory` where memory was refused: the answers of the lines before were written, and of the line that asked for it
+///   nothing.
 pub fn run_script<R: Read, W: Write>(
     alloc: Global,
     reader: &mut R,
@@ -49,10 +55,11 @@ pub fn run_script<R: Read, W: Write>(
         (W.contents writer.new) AnswersScript) }
     ensures fault { IfErr result (IfFault (writer.new ≡ writer.old)
         (λ number. Turns (R.remaining reader.old) (W.contents writer.old) (W.contents writer.new)
-        (RefusesScript number))) }
+        (RefusesScript number))
+        (Turns (R.remaining reader.old) (W.contents writer.old) (W.contents writer.new) StopsScript)) }
 {
     let script = read_whole(alloc, reader)?;
-    let Ok(mut collected) = Vec::with_capacity(alloc, COLLECTED) else {
+    let Ok(mut collected) = Vec::with_capacity(alloc, COLLECTED + LINE) else {
         return Err(ScriptFault::NoMemory);
     };
     let mut output = Output::new(writer, &mut collected);
@@ -72,14 +79,16 @@ fn answer_script<W: Write>(
 ) -> Result<(), ScriptFault>
     ensures answered { OnOk result (Tells W.contents output.old output.new
         (AnswersScript script.now)) }
-    ensures bad { IfErr result (IfBad (λ number. Tells W.contents output.old output.new
-        (RefusesScript number script.now))) }
+    ensures stopped { IfErr result (IfStopped
+        (λ number. Tells W.contents output.old output.new (RefusesScript number script.now))
+        (Tells W.contents output.old output.new (StopsScript script.now))) }
     ensures same_writer { SameWriter output.old output.new }
 {
     let (first, rest) = split_at_first(script, b'\n');
     let lines = Lines::after(rest);
     let (name, words) = split_at_first(first, b' ');
     match Named::by(name) {
+        Some(Named::Channel) => answer_channel(alloc, words, lines, output),
         Some(Named::Event) => answer_calls::<EventState<u64>, W>(alloc, words, lines, output),
         Some(Named::Oneshot) => {
             answer_calls::<OneshotState<u64, u64>, W>(alloc, words, lines, output)
@@ -92,6 +101,9 @@ fn answer_script<W: Write>(
         }
         Some(Named::Timer) => answer_calls::<TimerState<u64>, W>(alloc, words, lines, output),
         Some(Named::Mutex) => answer_calls::<MutexState<u64, u64>, W>(alloc, words, lines, output),
+        Some(Named::Semaphore) => {
+            answer_calls::<SemaphoreState<u64>, W>(alloc, words, lines, output)
+        }
         None => Err(ScriptFault::BadLine(1)),
     }
 }
@@ -107,17 +119,90 @@ fn answer_calls<P: Scripted, W: Write>(
         (AnswersRest (spoken P.opens P.step P.outgoing P.Scripted.language)
         (AsksFor P.Scripted.language.openings (option_copied words.entry))
         (lines_left lines.entry))) }
-    ensures bad { IfErr result (IfBad (λ number.
-        Tells W.contents output.old output.new (RefusesLine
+    ensures stopped { IfErr result (IfStopped
+        (λ number. Tells W.contents output.old output.new (RefusesLine
         (spoken P.opens P.step P.outgoing P.Scripted.language)
         (AsksFor P.Scripted.language.openings (option_copied words.entry))
-        (lines_left lines.entry) number))) }
+        (lines_left lines.entry) number))
+        (Tells W.contents output.old output.new (RunsShort
+        (spoken P.opens P.step P.outgoing P.Scripted.language)
+        (AsksFor P.Scripted.language.openings (option_copied words.entry))
+        (lines_left lines.entry)))) }
     ensures same_writer { SameWriter output.old output.new }
 {
     match P::opening(words) {
         Some(opening) => answer_lines::<P, W>(alloc, opening, lines, output),
         None => Err(ScriptFault::BadLine(1)),
     }
+}
+
+/// Answers the lines after one whose words, behind `channel`, are these.
+fn answer_channel<W: Write>(
+    alloc: Global,
+    words: Option<&[u8]>,
+    lines: Lines<'_>,
+    output: &mut Output<'_, W>,
+) -> Result<(), ScriptFault>
+    ensures answered { OnOk result (Tells W.contents output.old output.new
+        (AnswersRest spoken_channel (AsksFor channel_openings (option_copied words.entry))
+        (lines_left lines.entry))) }
+    ensures stopped { IfErr result (IfStopped
+        (λ number. Tells W.contents output.old output.new (RefusesLine spoken_channel
+        (AsksFor channel_openings (option_copied words.entry)) (lines_left lines.entry) number))
+        (Tells W.contents output.old output.new (RunsShort spoken_channel
+        (AsksFor channel_openings (option_copied words.entry)) (lines_left lines.entry)))) }
+    ensures same_writer { SameWriter output.old output.new }
+{
+    match Buffer::named(words) {
+        Some(buffer) => answer_over_named(alloc, buffer, lines, output),
+        None => Err(ScriptFault::BadLine(1)),
+    }
+}
+
+/// Answers the lines of a channel over this buffer.
+fn answer_over_named<W: Write>(
+    alloc: Global,
+    buffer: Buffer,
+    lines: Lines<'_>,
+    output: &mut Output<'_, W>,
+) -> Result<(), ScriptFault>
+    ensures answered { OnOk result (Tells W.contents output.old output.new
+        (AnswersRest spoken_channel (λ asked. asked ≡ buffer) (lines_left lines.entry))) }
+    ensures stopped { IfErr result (IfStopped
+        (λ number. Tells W.contents output.old output.new (AnswersFront spoken_channel
+        (λ asked. asked ≡ buffer) (lines_left lines.entry) number))
+        (Tells W.contents output.old output.new (RunsShort spoken_channel
+        (λ asked. asked ≡ buffer) (lines_left lines.entry)))) }
+    ensures same_writer { SameWriter output.old output.new }
+{
+    match buffer {
+        Buffer::Array0 => answer_over::<ArrayBuf<u64, 0>, W>(alloc, buffer, lines, output),
+        Buffer::Array1 => answer_over::<ArrayBuf<u64, 1>, W>(alloc, buffer, lines, output),
+        Buffer::Array2 => answer_over::<ArrayBuf<u64, 2>, W>(alloc, buffer, lines, output),
+        Buffer::Array5 => answer_over::<ArrayBuf<u64, 5>, W>(alloc, buffer, lines, output),
+        Buffer::Fixed(_) => answer_over::<FixedHeapBuf<u64>, W>(alloc, buffer, lines, output),
+        Buffer::Growing(_) => answer_over::<GrowingHeapBuf<u64>, W>(alloc, buffer, lines, output),
+    }
+}
+
+/// Answers the lines of a channel over this buffer, which `B` is.
+fn answer_over<B: RingBuf<Item = u64>, W: Write>(
+    alloc: Global,
+    buffer: Buffer,
+    lines: Lines<'_>,
+    output: &mut Output<'_, W>,
+) -> Result<(), ScriptFault>
+    requires { B.capacity_for (capacity_of buffer) ≡ capacity_of buffer }
+    ensures answered { OnOk result (Tells W.contents output.old output.new
+        (AnswersRest spoken_channel (λ asked. asked ≡ buffer) (lines_left lines.entry))) }
+    ensures stopped { IfErr result (IfStopped
+        (λ number. Tells W.contents output.old output.new (AnswersFront spoken_channel
+        (λ asked. asked ≡ buffer) (lines_left lines.entry) number))
+        (Tells W.contents output.old output.new (RunsShort spoken_channel
+        (λ asked. asked ≡ buffer) (lines_left lines.entry)))) }
+    ensures same_writer { SameWriter output.old output.new }
+{
+    answer_lines::<ChannelState<u64, B, u64>, W>(alloc, buffer.capacity(), lines, output)
 }
 
 /// Opens a primitive, and answers its lines.
@@ -130,10 +215,13 @@ fn answer_lines<P: Scripted, W: Write>(
     ensures answered { OnOk result (Tells W.contents output.old output.new
         (AnswersRest (spoken P.opens P.step P.outgoing P.Scripted.language) (λ asked. asked ≡ opening)
         (lines_left lines.entry))) }
-    ensures bad { IfErr result (IfBad (λ number.
-        Tells W.contents output.old output.new (AnswersFront
+    ensures stopped { IfErr result (IfStopped
+        (λ number. Tells W.contents output.old output.new (AnswersFront
         (spoken P.opens P.step P.outgoing P.Scripted.language) (λ asked. asked ≡ opening)
-        (lines_left lines.entry) number))) }
+        (lines_left lines.entry) number))
+        (Tells W.contents output.old output.new (RunsShort
+        (spoken P.opens P.step P.outgoing P.Scripted.language) (λ asked. asked ≡ opening)
+        (lines_left lines.entry)))) }
     ensures same_writer { SameWriter output.old output.new }
 {
     let Ok(primitive) = P::open(alloc, opening) else {
@@ -163,11 +251,11 @@ struct Request<C> {
 #[derive(Drop)]
 struct Session<P: Scripted> {
     primitive: P,
-    futures: Labelled<Slot>,
+    futures: Labelled<MadeFuture>,
 }
 
 impl<P: Scripted> Session<P> {
-    /// Answers one line.
+    /// Answers one line. Where it can't be answered to its end, nothing of its answer stays collected.
     fn answer_line<W: Write>(
         &mut self,
         number: usize,
@@ -177,11 +265,36 @@ impl<P: Scripted> Session<P> {
         ensures answered { OnOk result (Tells W.contents output.old output.new
             (AnswersLine (spoken P.opens P.step P.outgoing P.Scripted.language) line.now
             (labels_of self.old.futures) self.old.primitive (labels_of self.new.futures) self.new.primitive)) }
-        // A bad line is told by its number; the session and the output stay as they were.
-        ensures bad { IfErr result (IfBad (λ at. (at ≡ number)
+        ensures stopped { IfErr result (IfStopped (λ at. (at ≡ number)
             × IsBad P.Scripted.language.call_of (labels_of self.old.futures) line.now
-            × (self.new.primitive ≡ self.old.primitive) × (output.new ≡ output.old))) }
+            × GoesOn W.contents output.old output.new (Some []))
+            (GoesOn W.contents output.old output.new (Some []))) }
         ensures same_writer { SameWriter output.old output.new }
+    {
+        output.make_room()?;
+        let start = output.collected();
+        let answered = self.collect_answer(number, line, output);
+        if answered.is_err() {
+            output.keep_first(start);
+        }
+        answered
+    }
+
+    /// Collects the answer of one line.
+    fn collect_answer<W: Write>(
+        &mut self,
+        number: usize,
+        line: &[u8],
+        output: &mut Output<'_, W>,
+    ) -> Result<(), ScriptFault>
+        ensures answered { OnOk result (Tells W.contents output.old output.new
+            (AnswersLine (spoken P.opens P.step P.outgoing P.Scripted.language) line.now
+            (labels_of self.old.futures) self.old.primitive (labels_of self.new.futures) self.new.primitive)) }
+        // A bad line is told by its number.
+        ensures fault { IfErr result (λ fault. (fault ≡ ScriptFault.NoMemory)
+            ⊎ ((fault ≡ ScriptFault.BadLine number)
+            × IsBad P.Scripted.language.call_of (labels_of self.old.futures) line.now)) }
+        ensures collects { Collects output.old output.new }
     {
         let Some((holds, request)) = self.read(line) else {
             return Err(ScriptFault::BadLine(number));
@@ -272,10 +385,12 @@ impl<P: Scripted> Session<P> {
             return Ok(());
         };
         match (row, answer) {
-            (Row::Make(..), Answer::Made(slot)) => match self.futures.insert(label, *slot) {
-                Ok(()) => Ok(()),
-                Err(_) => Err(ScriptFault::NoMemory),
-            },
+            (Row::Make(verb, _), Answer::Made(slot)) => {
+                match self.futures.insert(label, MadeFuture { verb, slot: *slot }) {
+                    Ok(()) => Ok(()),
+                    Err(_) => Err(ScriptFault::NoMemory),
+                }
+            }
             (Row::Cancel(..), _) => {
                 self.futures.remove(label);
                 Ok(())
@@ -308,8 +423,8 @@ impl<P: Scripted> Session<P> {
         ensures rest { OnOk result (P.outgoing.without_wakers self.new.primitive
             ≡ P.outgoing.without_wakers self.old.primitive) }
         ensures futures { self.new.futures ≡ self.old.futures }
-        ensures fault { IfErr result IsOfOutput }
-        ensures same_writer { SameWriter output.old output.new }
+        ensures collects { Collects output.old output.new }
+        ensures fault { IfErr result (λ fault. fault ≡ ScriptFault.NoMemory) }
     {
         let mut is_first = true;
         while let Some(waker) = self.take_waker() {

@@ -29,8 +29,8 @@ impl Scripted for EventState<u64> {
     fn call(row: Row) -> Option<EventCall<u64>> {
         match row {
             Row::Make(Verb::Wait, Numbers::Absent) => Some(EventCall::Wait),
-            Row::Poll(slot, Numbers::One(waker)) => Some(EventCall::Poll(slot, waker)),
-            Row::Cancel(slot, Numbers::Absent) => Some(EventCall::Cancel(slot)),
+            Row::Poll(future, Numbers::One(waker)) => Some(EventCall::Poll(future.slot, waker)),
+            Row::Cancel(future, Numbers::Absent) => Some(EventCall::Cancel(future.slot)),
             Row::Plain(Verb::Set, Numbers::Absent) => Some(EventCall::Set),
             Row::Plain(Verb::Reset, Numbers::Absent) => Some(EventCall::Reset),
             Row::Plain(Verb::IsSet, Numbers::Absent) => Some(EventCall::IsSet),

@@ -1,6 +1,8 @@
 //! Answers a script of calls on one primitive, line by line.
 #![tactic(auto)]
 
+mod buffer;
+mod channel;
 mod engine;
 mod event;
 mod fairness;
@@ -17,6 +19,7 @@ mod output;
 mod program;
 mod row;
 mod scripted;
+mod semaphore;
 mod state;
 #[cfg(test)]
 mod tests;

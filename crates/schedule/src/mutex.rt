@@ -26,8 +26,8 @@ impl Scripted for MutexState<u64, u64> {
     fn call(row: Row) -> Option<MutexCall<u64, u64>> {
         match row {
             Row::Make(Verb::Lock, Numbers::Absent) => Some(MutexCall::Lock),
-            Row::Poll(slot, Numbers::One(waker)) => Some(MutexCall::Poll(slot, waker)),
-            Row::Cancel(slot, Numbers::Absent) => Some(MutexCall::Cancel(slot)),
+            Row::Poll(future, Numbers::One(waker)) => Some(MutexCall::Poll(future.slot, waker)),
+            Row::Cancel(future, Numbers::Absent) => Some(MutexCall::Cancel(future.slot)),
             Row::Plain(Verb::TryLock, Numbers::Absent) => Some(MutexCall::TryLock),
             Row::Plain(Verb::Unlock, Numbers::One(value)) => Some(MutexCall::Unlock(value)),
             Row::Plain(Verb::IsLocked, Numbers::Absent) => Some(MutexCall::IsLocked),

@@ -5,12 +5,14 @@ ghost use Rattle.schedule.specs.Names.{name_of, IsNoName};
 /// A primitive of scripts.
 #[derive(Clone, Copy, Debug, PartialEq, Eq)]
 pub enum Named {
+    Channel,
     Event,
     Oneshot,
     OneshotBroadcast,
     StateBroadcast,
     Timer,
     Mutex,
+    Semaphore,
 }
 
 impl Named {
@@ -18,7 +20,9 @@ impl Named {
     pub fn by(word: &[u8]) -> Option<Named>
         ensures { MatchOption result (IsNoName word.now) (λ named. word.now ≡ name_of named) }
     {
-        if word == b"event".as_slice() {
+        if word == b"channel".as_slice() {
+            Some(Named::Channel)
+        } else if word == b"event".as_slice() {
             Some(Named::Event)
         } else if word == b"oneshot".as_slice() {
             Some(Named::Oneshot)
@@ -30,6 +34,8 @@ impl Named {
             Some(Named::Timer)
         } else if word == b"mutex".as_slice() {
             Some(Named::Mutex)
+        } else if word == b"semaphore".as_slice() {
+            Some(Named::Semaphore)
         } else {
             None
         }

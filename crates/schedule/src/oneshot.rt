@@ -25,8 +25,8 @@ impl<G: GivesValue<u64>> Scripted for OneValueState<u64, u64, G> {
     fn call(row: Row) -> Option<OneshotCall<u64, u64>> {
         match row {
             Row::Make(Verb::Receive, Numbers::Absent) => Some(OneshotCall::Receive),
-            Row::Poll(slot, Numbers::One(waker)) => Some(OneshotCall::Poll(slot, waker)),
-            Row::Cancel(slot, Numbers::Absent) => Some(OneshotCall::Cancel(slot)),
+            Row::Poll(future, Numbers::One(waker)) => Some(OneshotCall::Poll(future.slot, waker)),
+            Row::Cancel(future, Numbers::Absent) => Some(OneshotCall::Cancel(future.slot)),
             Row::Plain(Verb::Send, Numbers::One(value)) => Some(OneshotCall::Send(value)),
             Row::Plain(Verb::Close, Numbers::Absent) => Some(OneshotCall::Close),
             _ => None,

@@ -1,9 +1,9 @@
 //! Writing the answers.
 
-ghost use Rattle.std.specs.Prelude.{◌≡◌, ◌++◌, ◌∷◌, [], Some, OnOk, IfErr};
+ghost use Rattle.std.specs.Prelude.{◌≡◌, ◌++◌, ◌∷◌, [], Some, OnOk, OnErr, IfErr, length, take};
 ghost use Rattle.std.specs.Io.KnownBytes.{Appends};
 ghost use Rattle.schedule.specs.Begun.{Begins};
-ghost use Rattle.schedule.specs.Outputs.{GoesOn, SameWriter, IsOfOutput};
+ghost use Rattle.schedule.specs.Outputs.{GoesOn, Collects, SameWriter};
 ghost use Rattle.std.specs.Fmt.{decimal};
 
 use crate::fault::ScriptFault;
@@ -12,6 +12,9 @@ use std::io::Write;
 
 /// How many bytes are collected before they are written.
 pub const COLLECTED: usize = 65536;
+
+/// There is room for a line of so many bytes behind them; only a longer one takes memory.
+pub const LINE: usize = 4096;
 
 /// Writes all of the bytes. An error and a write that takes no byte are failures, and are not tried again.
 pub fn write_whole<W: Write>(writer: &mut W, bytes: &[u8]) -> Result<(), ScriptFault>
@@ -47,46 +50,67 @@ impl<'a, W: Write> Output<'a, W> {
         Output { writer, collected }
     }
 
-    /// Adds text to the output.
-    #[inline(always)]
-    pub fn put(&mut self, text: &[u8]) -> Result<(), ScriptFault>
-        ensures text { OnOk result (GoesOn W.contents self.old self.new (Some text.now)) }
-        ensures fault { IfErr result IsOfOutput }
+    /// Writes what was collected, if it is as much as is collected at most before a line.
+    pub fn make_room(&mut self) -> Result<(), ScriptFault>
+        ensures stays { OnOk result (GoesOn W.contents self.old self.new (Some [])) }
+        ensures fault { IfErr result (λ fault. fault ≡ ScriptFault.Write) }
         ensures same_writer { SameWriter self.old self.new }
     {
         if self.collected.len() >= COLLECTED {
-            self.flush()?;
+            return self.flush();
         }
+        Ok(())
+    }
+
+    /// Adds text to what is collected. Refused only with `NoMemory`.
+    #[inline(always)]
+    pub fn put(&mut self, text: &[u8]) -> Result<(), ScriptFault>
+        ensures text { OnOk result (GoesOn W.contents self.old self.new (Some text.now)) }
+        ensures collects { Collects self.old self.new }
+        ensures fault { IfErr result (λ fault. fault ≡ ScriptFault.NoMemory) }
+    {
         match self.collected.extend_from_slice(text) {
             Ok(()) => Ok(()),
             Err(_) => Err(ScriptFault::NoMemory),
         }
     }
 
-    /// Adds one byte to the output.
+    /// Adds one byte to what is collected. Refused only with `NoMemory`.
     pub fn put_byte(&mut self, byte: u8) -> Result<(), ScriptFault>
         ensures byte { OnOk result (GoesOn W.contents self.old self.new (Some (byte ∷ []))) }
-        ensures fault { IfErr result IsOfOutput }
-        ensures same_writer { SameWriter self.old self.new }
+        ensures collects { Collects self.old self.new }
+        ensures fault { IfErr result (λ fault. fault ≡ ScriptFault.NoMemory) }
     {
-        if self.collected.len() >= COLLECTED {
-            self.flush()?;
-        }
         match self.collected.push(byte) {
             Ok(()) => Ok(()),
             Err(_) => Err(ScriptFault::NoMemory),
         }
     }
 
-    /// Adds a number in plain decimal to the output.
+    /// Adds a number in plain decimal to what is collected. Refused only with `NoMemory`.
     pub fn put_number(&mut self, number: u64) -> Result<(), ScriptFault>
         ensures numeral { OnOk result (GoesOn W.contents self.old self.new
             (Some (decimal number))) }
-        ensures fault { IfErr result IsOfOutput }
-        ensures same_writer { SameWriter self.old self.new }
+        ensures collects { Collects self.old self.new }
+        ensures fault { IfErr result (λ fault. fault ≡ ScriptFault.NoMemory) }
     {
         let mut digits = Buffer::new();
         self.put(digits.format(number).as_bytes())
+    }
+
+    /// How many bytes are collected.
+    pub fn collected(&self) -> usize
+        ensures { result ≡ length self.now.collected.now.items }
+    {
+        self.collected.len()
+    }
+
+    /// Lets go what was collected behind so many bytes.
+    pub fn keep_first(&mut self, count: usize)
+        ensures kept { self.new.collected.now.items ≡ take count self.old.collected.now.items }
+        ensures writer { self.new.writer ≡ self.old.writer }
+    {
+        self.collected.truncate(count);
     }
 
     /// Writes what was collected.

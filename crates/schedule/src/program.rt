@@ -2,7 +2,7 @@
 ghost use Rattle.std.specs.Prelude.{◌≡◌, ◌≤◌, IsOkAnd};
 ghost use Rattle.std.specs.Vec.Iter.{into_iter_len};
 ghost use Rattle.schedule.specs.Ended.{EndsScript, EndsAtOnce};
-ghost use Rattle.schedule.specs.Script.{AnswersScript, RefusesScript, Turns};
+ghost use Rattle.schedule.specs.Script.{AnswersScript, RefusesScript, StopsScript, Turns};
 
 use crate::engine::run_script;
 use crate::fault::{ScriptFault, report};
@@ -29,6 +29,7 @@ pub fn run_program<R: Read, W: Write, E: Write>(
         → EndsScript result (writer.new ≡ writer.old)
         (Turns (R.remaining reader.old) (W.contents writer.old) (W.contents writer.new) AnswersScript)
         (λ number. Turns (R.remaining reader.old) (W.contents writer.old) (W.contents writer.new) (RefusesScript number))
+        (Turns (R.remaining reader.old) (W.contents writer.old) (W.contents writer.new) StopsScript)
         (E.contents errors.old) (E.contents errors.new) }
     ensures arguments { (¬ IsOkAnd arguments (λ given. into_iter_len given ≤ 1))
         → (writer.new ≡ writer.old)

@@ -6,6 +6,13 @@ use crate::numbers::Numbers;
 use crate::verb::Verb;
 use fi_parts::Slot;
 
+/// A future that a line made, and the verb that made it.
+#[derive(Clone, Copy, Debug, PartialEq, Eq, Drop)]
+pub struct MadeFuture {
+    pub verb: Verb,
+    pub slot: Slot,
+}
+
 /// What a line asks for, once its label was looked up.
 #[derive(Clone, Copy, Debug, PartialEq, Eq)]
 pub enum Row {
@@ -14,20 +21,20 @@ pub enum Row {
     /// A verb with a label that isn't in use.
     Make(Verb, Numbers),
     /// `poll` with a label that is in use.
-    Poll(Slot, Numbers),
+    Poll(MadeFuture, Numbers),
     /// `cancel` with a label that is in use.
-    Cancel(Slot, Numbers),
+    Cancel(MadeFuture, Numbers),
 }
 
 impl Row {
-    /// The row of a line with a label, which stands for this slot if it is in use.
-    pub fn labelled(verb: Verb, numbers: Numbers, slot: Option<Slot>) -> Option<Row>
-        ensures { result ≡ labelled_row verb numbers slot }
+    /// The row of a line with a label, which stands for this future if it is in use.
+    pub fn labelled(verb: Verb, numbers: Numbers, future: Option<MadeFuture>) -> Option<Row>
+        ensures { result ≡ labelled_row verb numbers future }
     {
-        match (slot, verb) {
+        match (future, verb) {
             (None, _) => Some(Row::Make(verb, numbers)),
-            (Some(slot), Verb::Poll) => Some(Row::Poll(slot, numbers)),
-            (Some(slot), Verb::Cancel) => Some(Row::Cancel(slot, numbers)),
+            (Some(future), Verb::Poll) => Some(Row::Poll(future, numbers)),
+            (Some(future), Verb::Cancel) => Some(Row::Cancel(future, numbers)),
             (Some(_), _) => None,
         }
     }

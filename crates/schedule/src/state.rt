@@ -28,8 +28,8 @@ impl Scripted for StateBroadcastState<u64, u64> {
             Row::Make(Verb::Receive, Numbers::One(seen)) => {
                 Some(StateCall::Receive(StateId::from_value(seen)))
             }
-            Row::Poll(slot, Numbers::One(waker)) => Some(StateCall::Poll(slot, waker)),
-            Row::Cancel(slot, Numbers::Absent) => Some(StateCall::Cancel(slot)),
+            Row::Poll(future, Numbers::One(waker)) => Some(StateCall::Poll(future.slot, waker)),
+            Row::Cancel(future, Numbers::Absent) => Some(StateCall::Cancel(future.slot)),
             Row::Plain(Verb::TryReceive, Numbers::One(seen)) => {
                 Some(StateCall::TryReceive(StateId::from_value(seen)))
             }

@@ -8,12 +8,14 @@ use std::alloc::{AllocError, Global};
 use std::process::Abort;
 use std::test::Fail;
 
+mod channel;
 mod channels;
 mod edges;
 mod event;
 mod faults;
 mod mutex;
 mod program;
+mod semaphore;
 mod timer;
 
 /// What stands between a row's line and its answer.

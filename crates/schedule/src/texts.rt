@@ -1,7 +1,7 @@
 //! The texts of answers.
 ghost use Rattle.std.specs.Prelude.{◌≡◌, Some, None, Err, OnOk, IfErr, codes};
 ghost use Rattle.std.specs.Fmt.{decimal};
-ghost use Rattle.schedule.specs.Outputs.{GoesOn, SameWriter, IsOfOutput};
+ghost use Rattle.schedule.specs.Outputs.{GoesOn, Collects};
 ghost use Rattle.schedule.specs.Texts.{answer_text, fault_text, waker_text, with_number};
 
 use crate::fault::ScriptFault;
@@ -17,8 +17,8 @@ pub fn write_answer<W: Write>(
 ) -> Result<(), ScriptFault>
     ensures text { OnOk result (GoesOn W.contents output.old output.new (answer_text answer.now)) }
     ensures memory { answer_text answer.now ≡ None → result ≡ Err ScriptFault.NoMemory }
-    ensures fault { IfErr result IsOfOutput }
-    ensures same_writer { SameWriter output.old output.new }
+    ensures collects { Collects output.old output.new }
+    ensures fault { IfErr result (λ fault. fault ≡ ScriptFault.NoMemory) }
 {
     match answer {
         Answer::Made(_) => output.put(b"made"),
@@ -53,8 +53,8 @@ pub fn put_waker<W: Write>(
 ) -> Result<(), ScriptFault>
     ensures text { OnOk result (GoesOn W.contents output.old output.new
         (Some (waker_text is_first waker))) }
-    ensures fault { IfErr result IsOfOutput }
-    ensures same_writer { SameWriter output.old output.new }
+    ensures collects { Collects output.old output.new }
+    ensures fault { IfErr result (λ fault. fault ≡ ScriptFault.NoMemory) }
 {
     output.put(if is_first { b" wakes " } else { b" " })?;
     output.put_number(waker)
@@ -63,8 +63,8 @@ pub fn put_waker<W: Write>(
 fn put_some<W: Write>(number: u64, output: &mut Output<'_, W>) -> Result<(), ScriptFault>
     ensures text { OnOk result (GoesOn W.contents output.old output.new
         (with_number (Some (codes "some")) number)) }
-    ensures fault { IfErr result IsOfOutput }
-    ensures same_writer { SameWriter output.old output.new }
+    ensures collects { Collects output.old output.new }
+    ensures fault { IfErr result (λ fault. fault ≡ ScriptFault.NoMemory) }
 {
     output.put(b"some ")?;
     output.put_number(number)
@@ -74,8 +74,8 @@ fn put_some<W: Write>(number: u64, output: &mut Output<'_, W>) -> Result<(), Scr
 fn put_fault<W: Write>(fault: Fault, output: &mut Output<'_, W>) -> Result<(), ScriptFault>
     ensures text { OnOk result (GoesOn W.contents output.old output.new (fault_text fault)) }
     ensures memory { fault_text fault ≡ None → result ≡ Err ScriptFault.NoMemory }
-    ensures fault { IfErr result IsOfOutput }
-    ensures same_writer { SameWriter output.old output.new }
+    ensures collects { Collects output.old output.new }
+    ensures fault { IfErr result (λ fault. fault ≡ ScriptFault.NoMemory) }
 {
     match fault {
         Fault::NoMemory => Err(ScriptFault::NoMemory),
@@ -98,8 +98,8 @@ fn put_back<W: Write>(
     ensures text { OnOk result (GoesOn W.contents output.old output.new
         (with_number (fault_text fault) value)) }
     ensures memory { fault_text fault ≡ None → result ≡ Err ScriptFault.NoMemory }
-    ensures fault { IfErr result IsOfOutput }
-    ensures same_writer { SameWriter output.old output.new }
+    ensures collects { Collects output.old output.new }
+    ensures fault { IfErr result (λ fault. fault ≡ ScriptFault.NoMemory) }
 {
     put_fault(fault, output)?;
     output.put(b" ")?;

@@ -32,8 +32,12 @@ impl Scripted for TimerState<u64> {
             Row::Make(Verb::Delay, Numbers::Two(now, millis)) => {
                 Some(TimerCall::Delay(now, delay_of(millis)))
             }
-            Row::Poll(slot, Numbers::Two(now, waker)) => Some(TimerCall::Poll(slot, now, waker)),
-            Row::Cancel(slot, Numbers::Absent) => Some(TimerCall::Cancel(slot)),
+            Row::Poll(future, Numbers::Two(now, waker)) => Some(TimerCall::Poll(
+                future.slot,
+                now,
+                waker,
+            )),
+            Row::Cancel(future, Numbers::Absent) => Some(TimerCall::Cancel(future.slot)),
             Row::Plain(Verb::Check, Numbers::One(now)) => Some(TimerCall::Check(now)),
             Row::Plain(Verb::Next, Numbers::Absent) => Some(TimerCall::Next),
             _ => None,

@@ -5,22 +5,31 @@ ghost use Rattle.schedule.specs.Verbs.{verb_text, IsNoVerb};
 /// What a line asks for.
 #[derive(Clone, Copy, Debug, PartialEq, Eq)]
 pub enum Verb {
+    Acquire,
     Cancel,
     Check,
     Close,
     Deadline,
     Delay,
+    Disarm,
+    GiveBack,
+    Held,
     IsLocked,
     IsSet,
     Lock,
     Next,
+    Permits,
     Poll,
     Receive,
+    Release,
     Reset,
     Send,
     Set,
+    Stream,
+    TryAcquire,
     TryLock,
     TryReceive,
+    TrySend,
     Unlock,
     Wait,
 }
@@ -30,6 +39,16 @@ impl Verb {
     pub fn by(word: &[u8]) -> Option<Verb>
         ensures { MatchOption result (IsNoVerb word.now) (λ verb. word.now ≡ verb_text verb) }
     {
+        // As arms of the `match` these would take its proof past the prover's limits: they begin as others do.
+        if word == b"try-acquire".as_slice() {
+            return Some(Verb::TryAcquire);
+        }
+        if word == b"try-send".as_slice() {
+            return Some(Verb::TrySend);
+        }
+        if word == b"stream".as_slice() {
+            return Some(Verb::Stream);
+        }
         match word {
             b"poll" => Some(Verb::Poll),
             b"cancel" => Some(Verb::Cancel),
@@ -49,6 +68,12 @@ impl Verb {
             b"try-lock" => Some(Verb::TryLock),
             b"unlock" => Some(Verb::Unlock),
             b"is-locked" => Some(Verb::IsLocked),
+            b"acquire" => Some(Verb::Acquire),
+            b"release" => Some(Verb::Release),
+            b"give-back" => Some(Verb::GiveBack),
+            b"disarm" => Some(Verb::Disarm),
+            b"permits" => Some(Verb::Permits),
+            b"held" => Some(Verb::Held),
             _ => None,
         }
     }

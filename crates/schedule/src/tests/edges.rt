@@ -97,6 +97,46 @@ mutex unfair
 mutex unfair 18446744073709551616
 mutexes fair 1
 hold mutex fair 7
+semaphore
+semaphore 3
+semaphore fair
+semaphore fair -3
+semaphore fair 18446744073709551616
+semaphore unfair 3 3
+semaphore unfairly 3
+semaphores fair 3
+channel
+channel 1
+channel array
+channel array\u{20}
+channel array 3
+channel array 4
+channel array 6
+channel array 00
+channel array 01
+channel array 1 1
+channel array\u{20}\u{20}1
+channel array 1\u{20}
+channel array 65536
+channel arrays 1
+channel Array 1
+channel a 1
+channel fixed
+channel fixed 65537
+channel fixed -1
+channel fixed 01
+channel fixed x
+channel fixed 1 1
+channel fixed 18446744073709551616
+channel fixedly 1
+channel growing
+channel growing 65537
+channel growing 01
+channel growing 1\u{20}
+channel growing growing
+channel grow 1
+channels array 1
+hold channel array 1
 latch
 set
 wakes";
@@ -139,7 +179,20 @@ timer
 try-lock
 unlock 5
 is-locked
-mutex fair 7";
+mutex fair 7
+acquire a 1
+try-acquire 1
+release 1
+give-back 1
+disarm 1
+permits
+held
+semaphore fair 3
+stream a
+send a 1
+try-send 1
+try-receive
+channel array 1";
 
 #[test]
 fn bad_calls(rt: HostRuntime) -> Result<(), Fail> {

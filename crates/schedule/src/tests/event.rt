@@ -80,6 +80,22 @@ cancel a -> ok wakes 2";
     check_row(&rt, rt.alloc(), row)
 }
 
+/// The history of workers over a desk, as the use `workers` of `fi_run` writes it: what each call was answered there it is here.
+#[test]
+fn event_history_of_a_desk(rt: HostRuntime) -> Result<(), Fail> {
+    let row = "event reset
+hold wait w0
+hold poll w0 1 -> pending
+hold wait w1
+hold poll w1 2 -> pending
+set -> ok wakes 1 2
+hold poll w1 2 -> ready
+hold cancel w1 -> ok
+hold poll w0 1 -> ready
+hold cancel w0 -> ok";
+    check_row(&rt, rt.alloc(), row)
+}
+
 /// What the others leave out: the flag's text, held lines and the wakers that `wakes` gives.
 #[test]
 fn event_every_line(rt: HostRuntime) -> Result<(), Fail> {

@@ -1,5 +1,5 @@
 use Rattle.std.proofs.Common.{◌≡◌, length, Some, true}
-use Rattle.schedule.specs.Outputs.{GoesOn}
+use Rattle.schedule.specs.Outputs.{GoesOn, Collects}
 use Rattle.schedule.specs.Texts.{wakes_text}
 use Rattle.schedule.specs.declared.output.Output.{Output}
 use Rattle.schedule.proofs.engine.Session.write_wakes.Given as goal
@@ -14,7 +14,7 @@ invariant-loop-waker g l =
     (g.P.Primitive.outgoing.wakers l.fn.self.primitive))))
     × (g.P.Primitive.outgoing.without_wakers l.self.primitive ≡ g.P.Primitive.outgoing.without_wakers l.fn.self.primitive)
     × (l.self.futures ≡ l.fn.self.futures)
-    × (l.output.writer.ghost_name ≡ l.fn.output.writer.ghost_name)
+    × Collects l.fn.output l.output
 
 abbrev pub decreases-loop-waker : goal.decreases-loop-waker
 decreases-loop-waker g l = length (g.P.Primitive.outgoing.wakers l.self.primitive)

@@ -5,8 +5,8 @@ use Rattle.schedule.specs.Language.{spoken}
 use Rattle.schedule.specs.Texts.{answer_text, wakes_text}
 use Rattle.std.proofs.lemmas.Result.{on_ok_weaker}
 use Rattle.schedule.proofs.Answered.{held_line, told_line, called_by, held_answer, told_answer}
-use Rattle.schedule.proofs.engine.Session.answer_line.Goals.{then-not-holds+in_ok-write_wakes, else-not-holds}
-use Rattle.schedule.proofs.engine.Session.answer_line.Goals as goal
+use Rattle.schedule.proofs.engine.Session.collect_answer.Goals.{then-not-holds+in_ok-write_wakes, else-not-holds}
+use Rattle.schedule.proofs.engine.Session.collect_answer.Goals as goal
 
 pub returns-clause-answered : goal.returns-clause-answered
 returns-clause-answered g c =
