@@ -1,3 +1,7 @@
 pub mod Wakes
 pub mod Waiting
-pub mod EventWait
+pub mod Sends
+pub mod Streams
+pub mod Timed
+pub mod Locked
+pub mod Granted

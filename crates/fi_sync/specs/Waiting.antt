@@ -1,19 +1,44 @@
 -- What a contract sees of a future of a primitive that threads share.
-use Rattle.std.specs.Prelude.{◌≡◌, ℕ, Bool, Result, Ok, Err, ◌||◌, ◌⊎◌, ⊤}
+use Rattle.std.specs.Prelude.{◌≡◌, ◌⊎◌, ℕ, Bool, true, false, Option, None, Result, ◌||◌}
 use Rattle.futures.specs.declared.task.Poll.{Poll}
+use Rattle.futures.specs.declared.task.Poll.TheVariants.{Ready, Pending}
+use Rattle.fi_channels.specs.Polled.{displaced_by, unused_after}
 use Rattle.fi_parts.specs.declared.errors.Fault.{Fault}
-use Rattle.fi_channels.specs.Polled.{has_answer}
+use Rattle.fi_parts.specs.declared.phase.Leftover.{Leftover}
 
--- The source that its primitive's futures register at, and whether it was polled to its end.
+-- The source that its primitive's futures register at, and whether it was polled to its end or cancelled.
 pub record SharedFuture : Type 0 where
   pub source : ℕ
   pub has_ended : Bool
 
--- A poll with this answer ends the future, or leaves it as it was.
-abbrev pub polled : {A : Type 0} → SharedFuture → Poll (Result A Fault) → SharedFuture
-polled future answer = record future { has_ended = future.has_ended || has_answer answer }
+-- the answer ends its future, where such outputs do
+abbrev pub ends : {A : Type 0} → (A → Bool) → Poll A → Bool
+ends is_last (Ready output) = is_last output
+ends is_last Pending = false
 
--- A poll is refused only for want of memory, or where the future has no slot.
-abbrev pub MayGive : {A : Type 0} → Result A Fault → Type 0
-MayGive (Ok value) = ⊤
-MayGive (Err fault) = (fault ≡ Fault.NoMemory) ⊎ (fault ≡ Fault.NoSlot)
+-- A poll with this answer ends the future, or leaves it as it was.
+abbrev pub polled : {A : Type 0} → (A → Bool) → SharedFuture → Poll A → SharedFuture
+polled is_last future answer = record future { has_ended = future.has_ended || ends is_last answer }
+
+-- A poll under a slot is the state's where a future can be polled there; else it is refused, and nothing changes.
+abbrev pub PollsWhere : {S A : Type 0} → Bool → (Poll A → S → Type 0) → A → S → Poll A → S → Type 0
+PollsWhere true polls refusal old answer new = polls answer new
+PollsWhere false polls refusal old answer new = (answer ≡ Ready refusal) × (new ≡ old)
+
+-- the wakers of no more use: the one that the future had, and the poll's own; a refused poll leaves the future's
+abbrev pub leftover_after : {A W : Type 0} → Poll (Result A Fault) → Option W → W → Leftover W
+leftover_after answer had waker =
+    record { displaced = displaced_by answer had; unused = unused_after answer waker }
+
+-- A cancel is the state's where the future lives, and leaves this; else nothing changes and nothing is left.
+abbrev pub CancelsWhere : {S L : Type 0} → Bool → Type 0 → Option L → S → Option L → S → Type 0
+CancelsWhere true cancels had old left new = cancels × (left ≡ had)
+CancelsWhere false cancels had old left new = (new ≡ old) × (left ≡ None)
+
+-- A future that has ended stays pending. Another answers as its state did in some hold of the lock, or that it has no memory where
+-- no waker could be made.
+abbrev pub IsAnswer : {S W A : Type 0} → (S → ℕ → W → Poll A → S → Type 0) → A → Bool → Bool → Poll A → Type 0
+IsAnswer polls no_memory true lacks_waker answer = answer ≡ Pending
+IsAnswer {S} {W} polls no_memory false lacks_waker answer =
+    ((lacks_waker ≡ true) × (answer ≡ Ready no_memory))
+    ⊎ ((old : S) × (name : ℕ) × (waker : W) × (new : S) × polls old name waker answer new)

@@ -7,7 +7,7 @@ use std::marker::{Model, PhantomData};
 /// A state in which futures of the kind `K` have slots.
 pub trait Cancel<K> {
     /// What a cancelled future leaves: the waker that it had, or a value that was to be sent.
-    type Left;
+    type Left: Drop;
 
     /// A cancel under this name may leave this and go on from old to new.
     ghost cancels: { Self → ℕ → Self.Left → Self → Type 0 };

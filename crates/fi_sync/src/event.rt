@@ -5,6 +5,7 @@ ghost use Rattle.fi_parts.specs.declared.errors.Fault.{Fault};
 use crate::claim::Claim;
 use crate::event_future::WaitForEventFuture;
 use crate::monitor::Monitor;
+use crate::slot_future::SlotFuture;
 use crate::wakes::HasOutbox;
 use fi_channels::EventState;
 use fi_parts::Fault;
@@ -64,7 +65,7 @@ impl<R: Wait> ManualResetEvent<R> {
         ensures fault { IfErr result (λ fault. fault ≡ Fault.NoMemory) }
     {
         let slot = self.monitor.call((), |event, ()| event.claim_waiter())?;
-        Ok(WaitForEventFuture::new(self, Claim::of(slot)))
+        Ok(SlotFuture::new(&self.monitor, Claim::of(slot)))
     }
 }
 

@@ -1,16 +1,40 @@
 //! The primitives that threads share: each state stands behind a lock, and its futures are the kit's.
 #![tactic(auto)]
 
+mod channel;
+mod channel_stream;
 mod claim;
+mod counted_mutex;
+mod counted_semaphore;
 mod event;
 mod event_future;
 mod monitor;
+mod mutex;
+mod one_value;
+mod receive_future;
+mod semaphore;
+mod send_future;
+mod slot_future;
+mod state_broadcast;
 #[cfg(test)]
 mod tests;
+mod timer;
 mod wakes;
 
+pub use channel::{Channel, GenericChannel, UnbufferedChannel};
+pub use channel_stream::{ChannelStream, ChannelStreaming};
 pub use claim::{Cancel, Claim};
+pub use counted_mutex::{CountedMutex, Hold, MutexLock};
+pub use counted_semaphore::{CountedSemaphore, Grant, SemaphoreAcquire};
 pub use event::ManualResetEvent;
 pub use event_future::{EventWait, WaitForEventFuture};
-pub use monitor::Monitor;
+pub use monitor::{HasMonitor, Monitor};
+pub use mutex::{Mutex, MutexGuard, MutexLockFuture};
+pub use one_value::{OneValueChannel, OneshotBroadcastChannel, OneshotChannel};
+pub use receive_future::{ChannelReceive, ChannelReceiveFuture};
+pub use semaphore::{Semaphore, SemaphoreAcquireFuture, SemaphoreReleaser};
+pub use send_future::{ChannelSend, ChannelSendFuture};
+pub use slot_future::{PollSlot, SlotFuture};
+pub use state_broadcast::{StateBroadcastChannel, StateReceiveFuture};
+pub use timer::{Timed, TimerFuture, TimerService, TimerWait};
 pub use wakes::{HasOutbox, Owed};

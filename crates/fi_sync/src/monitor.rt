@@ -1,9 +1,12 @@
 //! A state whose calls are made one at a time, each in one hold of a lock.
-ghost use Rattle.std.specs.Prelude.{◌≡◌};
+ghost use Rattle.std.specs.Prelude.{◌≡◌, ℕ};
 ghost use Rattle.std.specs.Borrow.{MutBor};
 
+use crate::claim::{Cancel, Claim};
+use crate::slot_future::PollSlot;
 use crate::wakes::{HasOutbox, Owed};
-use futures::task::Source;
+use fi_parts::{Leftover, Slot};
+use futures::task::{Poll, Source, Waker};
 use std::marker::Model;
 use std::sync::{Mutex, Wait};
 
@@ -52,5 +55,53 @@ impl<S: HasOutbox, R: Wait> Monitor<S, R> {
         let (answer, owed) = Owed::after(&mut *self.state.lock(&self.rt), input, call);
         owed.pay(&self.rt, &self.state);
         answer
+    }
+
+    /// Polls the future of the kind `K` under this slot, as `call` makes a call.
+    pub fn poll<K>(&self, slot: Slot, waker: Waker) -> (Poll<S::Output>, Leftover<Waker>)
+    where
+        S: PollSlot<K>,
+        ensures { (old : S) × (new : S) × S.polls old slot.0 waker result.0 new }
+    {
+        let (polled, owed) = {
+            let state = &mut *self.state.lock(&self.rt);
+            let polled = state.poll_slot(slot, waker);
+            (polled, Owed::by(state))
+        };
+        owed.pay(&self.rt, &self.state);
+        polled
+    }
+
+    /// Cancels the future that has this claim, as `call` makes a call, and answers what it leaves.
+    pub fn cancel<K>(&self, claim: Claim<K>) -> S::Left
+    where
+        S: Cancel<K>,
+    {
+        self.call(claim, |state, claim| claim.cancel(state))
+    }
+}
+
+/// What reaches a primitive that threads share: a reference to it, or an `Arc`.
+pub trait HasMonitor: Drop {
+    type State: HasOutbox;
+
+    type Runtime: Wait;
+
+    /// The source that the state's futures register at.
+    ghost source: { Self → ℕ };
+
+    fn monitor(&self) -> &Monitor<Self::State, Self::Runtime>
+        ensures { result.now ≡ source self.now };
+}
+
+impl<'a, S: HasOutbox, R: Wait> HasMonitor for &'a Monitor<S, R> {
+    type State = S;
+
+    type Runtime = R;
+
+    ghost source = { λ monitor. monitor.now };
+
+    fn monitor(&self) -> &Monitor<S, R> {
+        *self
     }
 }

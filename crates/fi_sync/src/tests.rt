@@ -2,6 +2,12 @@ ghost use Rattle.std.specs.Prelude.{◌≡◌};
 ghost use Rattle.futures.specs.Poll.{OnPending};
 ghost use Rattle.fi_channels.specs.Event.{IsSound, OwesNoWake};
 
+mod channel;
+mod mutex;
+mod one_value;
+mod semaphore;
+mod state_broadcast;
+mod timer;
 mod wakes;
 
 use crate::{ManualResetEvent, WaitForEventFuture};

@@ -47,8 +47,8 @@ impl Owed {
         (answer, owed)
     }
 
-    // A wake for each waker that is named now.
-    fn by<S: HasOutbox>(state: &S) -> Self
+    /// What is owed is a wake for each waker that is named now.
+    pub(crate) fn by<S: HasOutbox>(state: &S) -> Self
         ensures { result ≡ length (S.wakers state.now) }
     {
         Owed {

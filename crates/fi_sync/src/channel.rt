@@ -1,0 +1,133 @@
+//! The channel of many values that threads share.
+ghost use Rattle.std.specs.Prelude.{◌≡◌, false, IfOk, IfErr};
+ghost use Rattle.fi_parts.specs.declared.errors.Fault.{Fault};
+
+use crate::channel_stream::ChannelStream;
+use crate::claim::Claim;
+use crate::monitor::Monitor;
+use crate::receive_future::ChannelReceiveFuture;
+use crate::send_future::ChannelSendFuture;
+use crate::slot_future::SlotFuture;
+use crate::wakes::HasOutbox;
+use fi_channels::{ChannelState, TryReceiveError, TrySendError};
+use fi_parts::buffer::{ArrayBuf, GrowingHeapBuf, RingBuf};
+use fi_parts::{CloseStatus, Fault, NoRoom};
+use futures::task::Waker;
+use std::alloc::Global;
+use std::marker::Model;
+use std::sync::Wait;
+
+/// A channel of many senders and receivers over a bounded buffer: what was sent first is received first. Threads share it by
+/// reference.
+///
+/// Each call but the makings of the channel takes the lock. Keeps `GenericChannel` of futures-intrusive's `channel`.
+#[derive(Drop)]
+pub struct GenericChannel<T: Drop, B: RingBuf<Item = T>, R> {
+    monitor: Monitor<ChannelState<T, B, Waker>, R>,
+}
+
+/// A channel over an array of `N` values. Keeps `Channel` of futures-intrusive's `channel`.
+pub type Channel<T, const N: usize, R> = GenericChannel<T, ArrayBuf<T, N>, R>;
+
+/// A channel without a buffer: each value is handed from a send that waits to a receive. Keeps `UnbufferedChannel` of
+/// futures-intrusive's `channel`.
+pub type UnbufferedChannel<T, R> = Channel<T, 0, R>;
+
+impl<T: Drop, B: RingBuf<Item = T>, R> Model for GenericChannel<T, B, R> {
+    ghost use Rattle.std.specs.Prelude.{ℕ};
+
+    ghost Value = { ℕ };
+
+    ghost view = { λ channel. channel.monitor };
+}
+
+impl<T: Drop, B: RingBuf<Item = T>, R: Drop> GenericChannel<T, B, R> {
+    /// An open channel over the buffer that `RingBuf::new` makes, which has taken no memory yet. Keeps `GenericChannel::new`.
+    pub fn new(alloc: Global, rt: R) -> Self {
+        GenericChannel {
+            monitor: Monitor::new(rt, ChannelState::new(alloc)),
+        }
+    }
+
+    /// An open channel over a buffer for `capacity` values. Some buffers ignore the number and have a capacity of their own.
+    /// Refused only with `NoMemory`. Keeps `GenericChannel::with_capacity`.
+    pub fn with_capacity(alloc: Global, rt: R, capacity: usize) -> Result<Self, Fault>
+        ensures fault { IfErr result (λ fault. fault ≡ Fault.NoMemory) }
+    {
+        let state = ChannelState::with_capacity(alloc, capacity)?;
+        Ok(GenericChannel {
+            monitor: Monitor::new(rt, state),
+        })
+    }
+}
+
+impl<T: Drop, B: RingBuf<Item = T>, R: Wait> GenericChannel<T, B, R> {
+    /// Sends a value at once, if the channel is open and its buffer has room, and wakes the oldest receive that waits. Else the
+    /// value comes back. Keeps `GenericChannel::try_send`.
+    pub fn try_send(&self, value: T) -> Result<(), TrySendError<T>> {
+        self.monitor
+            .call(value, |channel, value| channel.try_send(value))
+    }
+
+    /// Receives the oldest value at once, if there is one. Keeps `GenericChannel::try_receive`.
+    pub fn try_receive(&self) -> Result<T, TryReceiveError> {
+        self.monitor.call((), |channel, ()| channel.try_receive())
+    }
+
+    /// Closes the channel and wakes all receives that wait and then all sends. Keeps `GenericChannel::close`.
+    pub fn close(&self) -> CloseStatus {
+        self.monitor.call((), |channel, ()| channel.close())
+    }
+
+    /// A future that sends the value. Its making is refused only for want of memory; then the value comes back. Keeps
+    /// `GenericChannel::send`.
+    pub fn send(
+        &self,
+        value: T,
+    ) -> Result<ChannelSendFuture<'_, ChannelState<T, B, Waker>, R>, NoRoom<T>>
+        ensures made { IfOk result (λ future. future ≡ record { source = self.now; has_ended = false }) }
+    {
+        let slot = self
+            .monitor
+            .call(value, |channel, value| channel.claim_send(value))?;
+        Ok(SlotFuture::new(&self.monitor, Claim::of(slot)))
+    }
+
+    /// A future that receives one value, or None once the channel is closed and empty. Refused only with `NoMemory`; then
+    /// nothing has changed. Keeps `GenericChannel::receive`.
+    pub fn receive(&self) -> Result<ChannelReceiveFuture<'_, ChannelState<T, B, Waker>, R>, Fault>
+        ensures made { IfOk result (λ future. future ≡ record { source = self.now; has_ended = false }) }
+        ensures fault { IfErr result (λ fault. fault ≡ Fault.NoMemory) }
+    {
+        let slot = self
+            .monitor
+            .call((), |channel, ()| channel.claim_receive())?;
+        Ok(SlotFuture::new(&self.monitor, Claim::of(slot)))
+    }
+
+    /// A stream of the values, which ends once the channel is closed and empty. Refused only with `NoMemory`; then nothing has
+    /// changed. Keeps `GenericChannel::stream`.
+    pub fn stream(&self) -> Result<ChannelStream<'_, T, B, R>, Fault>
+        ensures fault { IfErr result (λ fault. fault ≡ Fault.NoMemory) }
+    {
+        let slot = self.monitor.call((), |channel, ()| channel.claim_stream())?;
+        Ok(ChannelStream::new(&self.monitor, Claim::of(slot)))
+    }
+}
+
+impl<T: Drop, B: RingBuf<Item = T>> HasOutbox for ChannelState<T, B, Waker> {
+    ghost use Rattle.fi_channels.specs.Channel.{Wakes};
+    ghost use Rattle.fi_sync.specs.Wakes.{wakers_in};
+
+    ghost wakers = { λ channel. wakers_in channel.waiting.out };
+
+    fn next_wake(&mut self) -> Option<Waker>
+        ensures { Wakes self.old result self.new }
+    {
+        ChannelState::next_wake(self)
+    }
+
+    fn wake_count(&self) -> usize {
+        ChannelState::wake_count(self)
+    }
+}

@@ -1,0 +1,133 @@
+//! Streams of the channels that threads share.
+ghost use Rattle.std.specs.Prelude.{◌≡◌, Option, Some, Result, Err, Bool, false, is_some};
+ghost use Rattle.fi_channels.specs.Channel.{can_stream, kind_of, receive_phase, PollsNext, CancelsReceive, displaced_receive};
+ghost use Rattle.fi_parts.specs.declared.errors.Fault.{Fault};
+ghost use Rattle.fi_sync.specs.Streams.{Streamed, leftover_of_next};
+ghost use Rattle.fi_sync.specs.Waiting.{PollsWhere, CancelsWhere};
+
+use crate::claim::{Cancel, Claim};
+use crate::monitor::Monitor;
+use crate::slot_future::{PollSlot, SlotFuture};
+use fi_channels::{ChannelReceiveAccess, ChannelState};
+use fi_parts::buffer::RingBuf;
+use fi_parts::{Fault, Leftover, Slot};
+use futures::task::{Context, Poll, Waker};
+use futures::{Future, Stream};
+use std::marker::Model;
+use std::sync::Wait;
+
+/// The kind of a channel's streams.
+pub struct ChannelStreaming;
+
+/// The values of a channel, one after another, until it is closed and empty; then it answers its end, again and again.
+///
+/// An item is `Err(NoMemory)` where the poll could make no waker; the stream goes on after it. Keeps `ChannelStream` of
+/// futures-intrusive's `channel`.
+pub struct ChannelStream<'a, T: Drop, B: RingBuf<Item = T>, R: Wait> {
+    future: SlotFuture<&'a Monitor<ChannelState<T, B, Waker>, R>, ChannelStreaming>,
+    is_ended: bool,
+}
+
+impl<'a, T: Drop, B: RingBuf<Item = T>, R: Wait> Model for ChannelStream<'a, T, B, R> {
+    ghost use Rattle.fi_sync.specs.Waiting.{SharedFuture};
+
+    ghost Value = { SharedFuture };
+
+    ghost view = { λ stream. record { source = stream.future.source; has_ended = stream.is_ended } };
+}
+
+impl<'a, T: Drop, B: RingBuf<Item = T>, R: Wait> ChannelStream<'a, T, B, R> {
+    pub(crate) fn new(
+        monitor: &'a Monitor<ChannelState<T, B, Waker>, R>,
+        claim: Claim<ChannelStreaming>,
+    ) -> Self
+        ensures { result ≡ record { source = monitor.now; has_ended = false } }
+    {
+        ChannelStream {
+            future: SlotFuture::new(monitor, claim),
+            is_ended: false,
+        }
+    }
+
+    /// The stream has answered its end. It takes no lock. Keeps `FusedStream::is_terminated`.
+    pub fn is_terminated(&self) -> bool
+        ensures { result ≡ self.now.has_ended }
+    {
+        self.is_ended
+    }
+}
+
+impl<T: Drop, B: RingBuf<Item = T>, R: Wait> Drop for ChannelStream<'_, T, B, R> {
+    fn drop(self) {
+        let ChannelStream {
+            future,
+            is_ended: _,
+        } = self;
+        drop(future);
+    }
+}
+
+impl<T: Drop, B: RingBuf<Item = T>, R: Wait> Stream for ChannelStream<'_, T, B, R> {
+    type Item = Result<T, Fault>;
+
+    ghost needs = { λ stream source. source ≡ stream.source };
+
+    fn poll_next(&mut self, cx: &mut Context<'_>) -> Poll<Option<Result<T, Fault>>> {
+        let answer = self.future.poll(cx);
+        if let Poll::Ready(None) = &answer {
+            self.is_ended = true;
+        }
+        answer
+    }
+}
+
+impl<T: Drop, B: RingBuf<Item = T>> PollSlot<ChannelStreaming> for ChannelState<T, B, Waker> {
+    type Output = Option<Result<T, Fault>>;
+
+    ghost polls = { λ old name waker answer new. PollsWhere (can_stream (kind_of old name) (receive_phase old name)) (Streamed (PollsNext old name waker)) (Some (Err Fault.NoSlot)) old answer new };
+
+    ghost leaves = { λ old name waker answer. leftover_of_next answer (displaced_receive old name) waker };
+
+    // A stream that has ended answers its end again.
+    ghost is_last = { λ _. false };
+
+    ghost refusal = { λ fault. Some (Err fault) };
+
+    fn poll_slot(
+        &mut self,
+        slot: Slot,
+        waker: Waker,
+    ) -> (Poll<Option<Result<T, Fault>>>, Leftover<Waker>) {
+        if !self.can_stream(slot) {
+            let answer = Poll::Ready(Some(Err(Fault::NoSlot)));
+            return (answer, Leftover::of(None, Some(waker)));
+        }
+        let (answer, leftover) = self.next_or_register(slot, waker);
+        match answer {
+            Poll::Ready(Some(item)) => (Poll::Ready(Some(Ok(item))), leftover),
+            Poll::Ready(None) => (Poll::Ready(None), leftover),
+            Poll::Pending => (Poll::Pending, leftover),
+        }
+    }
+
+    fn ends(_output: &Option<Result<T, Fault>>) -> bool {
+        false
+    }
+
+    fn refused(fault: Fault) -> Option<Result<T, Fault>> {
+        Some(Err(fault))
+    }
+}
+
+impl<T: Drop, B: RingBuf<Item = T>> Cancel<ChannelStreaming> for ChannelState<T, B, Waker> {
+    type Left = Option<Waker>;
+
+    ghost cancels = { λ old name left new. CancelsWhere (is_some (receive_phase old name)) (CancelsReceive old name new) (displaced_receive old name) old left new };
+
+    fn cancel(&mut self, slot: Slot) -> Option<Waker> {
+        if !self.has_receive(slot) {
+            return None;
+        }
+        self.remove_receive_waiter(slot)
+    }
+}

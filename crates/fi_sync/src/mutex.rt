@@ -1,0 +1,209 @@
+//! The mutex that threads share, its guard and its future.
+ghost use Rattle.std.specs.Prelude.{◌≡◌, [], ℕ, Result, true, false, IfOk, IfErr, is_ok, ⊤};
+ghost use Rattle.std.specs.Borrow.{Lends, sem};
+ghost use Rattle.futures.specs.declared.task.Poll.{Poll};
+ghost use Rattle.futures.specs.Poll.{OnPending, IfReady};
+ghost use Rattle.futures.specs.Task.{Covers, Keeps};
+ghost use Rattle.fi_parts.specs.declared.errors.Fault.{Fault};
+ghost use Rattle.fi_sync.specs.Locked.{IsLockAnswer};
+ghost use Rattle.fi_sync.specs.Waiting.{polled};
+
+use crate::claim::Claim;
+use crate::counted_mutex::{CountedMutex, Hold, MutexLock};
+use crate::monitor::Monitor;
+use crate::slot_future::SlotFuture;
+use fi_parts::Fault;
+use futures::Future;
+use futures::task::{Context, Poll};
+use std::alloc::Global;
+use std::marker::Model;
+use std::ops::{Deref, DerefMut};
+use std::sync::Wait;
+use std::sync::ledger::{Blank, Ledger};
+
+/// A mutex: one holder at a time has its value, and futures wait for it. Threads share it by reference.
+///
+/// A fair mutex is granted in the order of the futures' first polls. An unfair one is granted to whoever comes while it is free.
+/// Each call but `new` takes the lock. Keeps `GenericMutex` of futures-intrusive's `sync`.
+#[derive(Drop)]
+pub struct Mutex<T, R, L: Ledger> {
+    monitor: Monitor<CountedMutex<T, L>, R>,
+}
+
+impl<T, R, L: Ledger> Model for Mutex<T, R, L> {
+    ghost use Rattle.std.specs.Prelude.{ℕ};
+
+    ghost Value = { ℕ };
+
+    ghost view = { λ mutex. mutex.monitor };
+}
+
+impl<T: Drop, R, L: Ledger> Mutex<T, R, L> {
+    /// A free mutex with this value, fair or not. It takes no memory yet. Keeps `GenericMutex::new`.
+    ///
+    /// The blank is of the mutex's own ledger `L`, and has one part, for the guard.
+    pub fn new(alloc: Global, rt: R, blank: Blank, value: T, is_fair: bool) -> Self
+        requires name { blank.name ≡ L.name }
+        requires parts { blank.parts ≡ L.parts }
+        requires one { blank.parts ≡ 1 }
+    {
+        Mutex {
+            monitor: Monitor::new(rt, CountedMutex::new(alloc, blank, value, is_fair)),
+        }
+    }
+}
+
+impl<T: Drop, R: Wait, L: Ledger> Mutex<T, R, L> {
+    /// A future that locks the mutex. Refused only with `NoMemory`; then nothing has changed. Keeps `GenericMutex::lock`.
+    pub fn lock(&self) -> Result<MutexLockFuture<'_, T, R, L>, Fault>
+        ensures made { IfOk result (λ future. future ≡ record { source = self.now; has_ended = false }) }
+        ensures fault { IfErr result (λ fault. fault ≡ Fault.NoMemory) }
+    {
+        let slot = self.monitor.call((), |mutex, ()| mutex.claim_lock())?;
+        Ok(MutexLockFuture {
+            monitor: &self.monitor,
+            future: SlotFuture::new(&self.monitor, Claim::of(slot)),
+        })
+    }
+
+    /// Locks the mutex at once: its guard. None where it is locked, or is fair and a future is queued for it. Keeps
+    /// `GenericMutex::try_lock`.
+    pub fn try_lock(&self) -> Option<MutexGuard<'_, T, R, L>> {
+        let (value, hold) = self.monitor.call((), |mutex, ()| mutex.try_lock())?;
+        Some(MutexGuard {
+            monitor: &self.monitor,
+            value,
+            hold,
+        })
+    }
+
+    /// Somebody held the mutex when it was looked at. Keeps `GenericMutex::is_locked`.
+    pub fn is_locked(&self) -> bool {
+        self.monitor.call((), |mutex, ()| mutex.is_locked())
+    }
+}
+
+/// Holds a mutex, with its value. Its drop puts the value back and unlocks the mutex, and wakes the oldest queued future.
+///
+/// At most one guard of a mutex is alive. Keeps `GenericMutexGuard` of futures-intrusive's `sync`.
+pub struct MutexGuard<'a, T: Drop, R: Wait, L: Ledger> {
+    monitor: &'a Monitor<CountedMutex<T, L>, R>,
+    value: T,
+    hold: Hold<L>,
+}
+
+impl<'a, T: Drop, R: Wait, L: Ledger> Model for MutexGuard<'a, T, R, L> {
+    ghost Value = { T };
+
+    ghost coded = { T.code };
+
+    ghost view = { λ guard. guard.value };
+}
+
+impl<T: Drop, R: Wait, L: Ledger> MutexGuard<'_, T, R, L> {
+    /// For proofs: at most one guard of a mutex is alive.
+    pub fn never_two(&mut self, other: &mut MutexGuard<'_, T, R, L>)
+        ensures { ⊥ }
+    {
+        self.hold.never_two(&mut other.hold);
+    }
+}
+
+impl<T: Drop, R: Wait, L: Ledger> Drop for MutexGuard<'_, T, R, L> {
+    fn drop(self) {
+        let MutexGuard {
+            monitor,
+            value,
+            hold,
+        } = self;
+        monitor.call((value, hold), |mutex, held| {
+            let (value, hold) = held;
+            mutex.unlock(value, hold)
+        });
+    }
+}
+
+impl<T: Drop, R: Wait, L: Ledger> Deref for MutexGuard<'_, T, R, L> {
+    type Target = T;
+
+    ghost deref_gives = { λ guard value. value ≡ guard };
+
+    /// The value of the mutex.
+    fn deref(&self) -> &T {
+        &self.value
+    }
+}
+
+impl<T: Drop, R: Wait, L: Ledger> DerefMut for MutexGuard<'_, T, R, L> {
+    ghost use mir.Syntax.{named};
+    ghost use Rattle.fi_sync.specs.contracts.mutex.MutexGuard.{the_row};
+
+    ghost deref_mut_gives = { λ guard value. value ≡ guard };
+
+    /// The value of the mutex, to be changed: what is written there is what the guard's drop puts back.
+    fn deref_mut(&mut self) -> &mut T
+        ensures* writes_back { sem 𝓛 (Lends (the_row (record { mir = named 1; lft = [] }) T.row R.row L.row L.Ledger) T.row self.entry result (λ value. value)) }
+        ensures shows { result.now ≡ self.old }
+    {
+        &mut self.value
+    }
+}
+
+/// Locks a mutex. Its drop unregisters it; if it was told, the oldest queued future is told and woken in its place.
+///
+/// Its output is the guard, once the mutex is free for it. Keeps `GenericMutexLockFuture` of futures-intrusive's `sync`.
+pub struct MutexLockFuture<'a, T: Drop, R: Wait, L: Ledger> {
+    monitor: &'a Monitor<CountedMutex<T, L>, R>,
+    future: SlotFuture<&'a Monitor<CountedMutex<T, L>, R>, MutexLock>,
+}
+
+impl<'a, T: Drop, R: Wait, L: Ledger> Model for MutexLockFuture<'a, T, R, L> {
+    ghost use Rattle.fi_sync.specs.Waiting.{SharedFuture};
+
+    ghost Value = { SharedFuture };
+
+    ghost view = { λ lock. lock.future };
+}
+
+impl<T: Drop, R: Wait, L: Ledger> MutexLockFuture<'_, T, R, L> {
+    /// The future was polled to its end. It takes no lock. Keeps `FusedFuture::is_terminated`.
+    pub fn is_terminated(&self) -> bool
+        ensures { result ≡ self.now.has_ended }
+    {
+        self.future.is_terminated()
+    }
+}
+
+impl<'a, T: Drop, R: Wait, L: Ledger> Future for MutexLockFuture<'a, T, R, L> {
+    type Output = Result<MutexGuard<'a, T, R, L>, Fault>;
+
+    ghost needs = { λ lock source. source ≡ lock.source };
+
+    fn poll(&mut self, cx: &mut Context<'_>) -> Poll<Result<MutexGuard<'a, T, R, L>, Fault>>
+        ensures value { IfReady result (λ _. ⊤) }
+        ensures again { OnPending result ⊤ }
+        ensures same { OnPending result ((output : Result T Fault) → ⊤ → ⊤) }
+        ensures registered { OnPending result (Covers cx.new (λ source. source ≡ self.new.source)) }
+        ensures kept { Keeps cx.old cx.new }
+        ensures stands { self.new ≡ polled is_ok self.old result }
+        ensures spent { self.old.has_ended ≡ true → result ≡ Poll.Pending }
+        ensures answered { IsLockAnswer self.old.has_ended cx.new.lacks_waker result }
+    {
+        match self.future.poll(cx) {
+            Poll::Ready(Ok((value, hold))) => Poll::Ready(Ok(MutexGuard {
+                monitor: self.monitor,
+                value,
+                hold,
+            })),
+            Poll::Ready(Err(fault)) => Poll::Ready(Err(fault)),
+            Poll::Pending => Poll::Pending,
+        }
+    }
+}
+
+impl<T: Drop, R: Wait, L: Ledger> Drop for MutexLockFuture<'_, T, R, L> {
+    fn drop(self) {
+        let MutexLockFuture { monitor: _, future } = self;
+        drop(future);
+    }
+}

@@ -1,0 +1,91 @@
+//! The channels for one value that threads share.
+ghost use Rattle.std.specs.Prelude.{◌≡◌, false, IfOk, IfErr};
+ghost use Rattle.fi_parts.specs.declared.errors.Fault.{Fault};
+
+use crate::claim::Claim;
+use crate::monitor::Monitor;
+use crate::receive_future::ChannelReceiveFuture;
+use crate::slot_future::SlotFuture;
+use crate::wakes::HasOutbox;
+use fi_channels::{ClonesValue, GivesValue, OneValueState, TakesValue};
+use fi_parts::{ChannelSendError, CloseStatus, Fault};
+use futures::task::Waker;
+use std::alloc::Global;
+use std::marker::Model;
+use std::sync::Wait;
+
+/// A channel that takes one value, and gives it to receives in the way of `G`. Threads share it by reference.
+///
+/// Each call but `new` takes the lock.
+#[derive(Drop)]
+pub struct OneValueChannel<T: Drop, G: GivesValue<T>, R> {
+    monitor: Monitor<OneValueState<T, Waker, G>, R>,
+}
+
+/// A channel that takes one value and hands it to the first receive that comes for it. Keeps `OneshotChannel` of
+/// futures-intrusive's `channel`.
+pub type OneshotChannel<T, R> = OneValueChannel<T, TakesValue, R>;
+
+/// A channel that takes one value, and gives a clone of it to every receive. Keeps `OneshotBroadcastChannel` of
+/// futures-intrusive's `channel`. The clone is made under the lock.
+pub type OneshotBroadcastChannel<T, R> = OneValueChannel<T, ClonesValue, R>;
+
+impl<T: Drop, G: GivesValue<T>, R> Model for OneValueChannel<T, G, R> {
+    ghost use Rattle.std.specs.Prelude.{ℕ};
+
+    ghost Value = { ℕ };
+
+    ghost view = { λ channel. channel.monitor };
+}
+
+impl<T: Drop, G: GivesValue<T>, R> OneValueChannel<T, G, R> {
+    /// An open channel without a value. It takes no memory yet. Keeps `OneshotChannel::new`, `OneshotBroadcastChannel::new`.
+    pub fn new(alloc: Global, rt: R) -> Self {
+        OneValueChannel {
+            monitor: Monitor::new(rt, OneValueState::new(alloc)),
+        }
+    }
+}
+
+impl<T: Drop, G: GivesValue<T>, R: Wait> OneValueChannel<T, G, R> {
+    /// Sends the one value, and wakes the receives that it is for. Refused, with the value, where one was sent before or the
+    /// channel is closed. Keeps `OneshotChannel::send`.
+    pub fn send(&self, value: T) -> Result<(), ChannelSendError<T>> {
+        self.monitor
+            .call(value, |channel, value| channel.send(value))
+    }
+
+    /// Closes the channel and wakes all receives that wait, the oldest first. Keeps `OneshotChannel::close`.
+    pub fn close(&self) -> CloseStatus {
+        self.monitor.call((), |channel, ()| channel.close())
+    }
+
+    /// A future that receives the value, or None once the channel is closed. Refused only with `NoMemory`; then nothing has
+    /// changed. Keeps `OneshotChannel::receive`.
+    pub fn receive(&self) -> Result<ChannelReceiveFuture<'_, OneValueState<T, Waker, G>, R>, Fault>
+        ensures made { IfOk result (λ future. future ≡ record { source = self.now; has_ended = false }) }
+        ensures fault { IfErr result (λ fault. fault ≡ Fault.NoMemory) }
+    {
+        let slot = self
+            .monitor
+            .call((), |channel, ()| channel.claim_receive())?;
+        Ok(SlotFuture::new(&self.monitor, Claim::of(slot)))
+    }
+}
+
+impl<T: Drop, G: GivesValue<T>> HasOutbox for OneValueState<T, Waker, G> {
+    ghost use Rattle.fi_channels.specs.Oneshot.{Wakes};
+    ghost use Rattle.fi_parts.specs.Pairs.{wakers_of};
+
+    ghost wakers = { λ channel. wakers_of channel.waiting.out };
+
+    fn next_wake(&mut self) -> Option<Waker>
+        ensures { Wakes self.old result self.new }
+    {
+        OneValueState::next_wake(self)
+    }
+
+    fn wake_count(&self) -> usize {
+        OneValueState::wake_count(self)
+    }
+}

@@ -1,0 +1,66 @@
+//! Receives from the channels that threads share.
+ghost use Rattle.std.specs.Prelude.{◌≡◌, Err, is_ok};
+ghost use Rattle.fi_parts.specs.declared.errors.Fault.{Fault};
+ghost use Rattle.fi_sync.specs.Waiting.{PollsWhere, leftover_after, CancelsWhere};
+
+use crate::claim::Cancel;
+use crate::monitor::Monitor;
+use crate::slot_future::{PollSlot, SlotFuture};
+use fi_channels::ChannelReceiveAccess;
+use fi_parts::{Fault, Leftover, Slot};
+use futures::task::{Poll, Waker};
+
+/// The kind of a channel's receives.
+pub struct ChannelReceive;
+
+/// Receives one value from a channel, or None once it is closed and empty. Its drop gives back what it had not used: a receive
+/// that was told of a value passes that on.
+///
+/// Its output is refused with `NoMemory` also where memory for a clone of the value was. Keeps `ChannelReceiveFuture` of
+/// futures-intrusive's `channel`.
+pub type ChannelReceiveFuture<'a, C, R> = SlotFuture<&'a Monitor<C, R>, ChannelReceive>;
+
+impl<C: ChannelReceiveAccess<Waker = Waker>> PollSlot<ChannelReceive> for C {
+    type Output = Result<Option<C::Item>, Fault>;
+
+    ghost polls = { λ old name waker answer new. PollsWhere (C.is_pollable old name) (C.receives old name waker) (Err Fault.NoSlot) old answer new };
+
+    ghost leaves = { λ old name waker answer. leftover_after answer (C.waker_of old name) waker };
+
+    ghost is_last = { is_ok };
+
+    ghost refusal = { Err };
+
+    fn poll_slot(
+        &mut self,
+        slot: Slot,
+        waker: Waker,
+    ) -> (Poll<Result<Option<C::Item>, Fault>>, Leftover<Waker>) {
+        if !self.can_receive(slot) {
+            let answer = Poll::Ready(Err(Fault::NoSlot));
+            return (answer, Leftover::of(None, Some(waker)));
+        }
+        self.receive_or_register(slot, waker)
+    }
+
+    fn ends(output: &Result<Option<C::Item>, Fault>) -> bool {
+        output.is_ok()
+    }
+
+    fn refused(fault: Fault) -> Result<Option<C::Item>, Fault> {
+        Err(fault)
+    }
+}
+
+impl<C: ChannelReceiveAccess<Waker = Waker>> Cancel<ChannelReceive> for C {
+    type Left = Option<Waker>;
+
+    ghost cancels = { λ old name left new. CancelsWhere (C.is_receiving old name) (C.cancels old name new) (C.waker_of old name) old left new };
+
+    fn cancel(&mut self, slot: Slot) -> Option<Waker> {
+        if !self.has_receive(slot) {
+            return None;
+        }
+        self.remove_receive_waiter(slot)
+    }
+}

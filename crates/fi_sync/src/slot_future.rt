@@ -1,0 +1,167 @@
+//! The future of every primitive that threads share.
+ghost use Rattle.std.specs.Prelude.{◌≡◌, ℕ, Bool, true, false};
+ghost use Rattle.futures.specs.declared.task.Poll.{Poll};
+ghost use Rattle.futures.specs.declared.task.waker.Waker.{Waker};
+ghost use Rattle.futures.specs.Poll.{OnPending};
+ghost use Rattle.futures.specs.Task.{Covers, Keeps};
+ghost use Rattle.fi_parts.specs.declared.errors.Fault.{Fault};
+ghost use Rattle.fi_parts.specs.declared.phase.Leftover.{Leftover};
+ghost use Rattle.fi_sync.specs.Waiting.{polled, IsAnswer};
+
+use crate::claim::{Cancel, Claim};
+use crate::monitor::HasMonitor;
+use fi_parts::{Fault, Leftover, Slot};
+use futures::Future;
+use futures::task::{Context, Poll, Waker};
+use std::marker::Model;
+
+/// A state whose futures of the kind `K` are polled under their slots.
+pub trait PollSlot<K>: Cancel<K> {
+    /// What a poll gives that is ready.
+    type Output;
+
+    /// A poll under this name with this waker may answer this and go on from old to new.
+    ghost polls: { Self → ℕ → Waker → Poll Self.Output → Self → Type 0 };
+
+    /// The wakers of no more use after such a poll.
+    ghost leaves: { Self → ℕ → Waker → Poll Self.Output → Leftover Waker };
+
+    /// The output ends its future; a refusal doesn't.
+    ghost is_last: { Self.Output → Bool };
+
+    /// The output of a poll that is refused for this.
+    ghost refusal: { Fault → Self.Output };
+
+    /// Polls the future of this kind under this slot. It is refused with `NoSlot` where none lives there that can be polled; then
+    /// the waker comes back and nothing has changed.
+    fn poll_slot(&mut self, slot: Slot, waker: Waker) -> (Poll<Self::Output>, Leftover<Waker>)
+        ensures polled { polls self.old slot.0 waker result.0 self.new }
+        ensures leftover { result.1 ≡ leaves self.old slot.0 waker result.0 };
+
+    /// Whether this output ends its future.
+    fn ends(output: &Self::Output) -> bool
+        ensures { result ≡ is_last output.now };
+
+    /// The output of a poll that is refused for this, which doesn't end its future.
+    fn refused(fault: Fault) -> Self::Output
+        ensures output { result ≡ refusal fault }
+        ensures goes_on { is_last result ≡ false };
+}
+
+/// A future of the kind `K` of a primitive that threads share, which it reaches by a reference or an `Arc`. Its drop cancels it.
+///
+/// A poll that can make no waker is refused with `NoMemory`: the future and its primitive are then as they were, and it may be
+/// polled again. Where it can make none and still has another task's from a poll before, that one is registered instead, and
+/// this task is polled again. A future that has ended, or was cancelled, stays pending and changes nothing.
+pub struct SlotFuture<M: HasMonitor, K>
+where
+    M::State: PollSlot<K>,
+{
+    monitor: M,
+    // None once it was cancelled.
+    claim: Option<Claim<K>>,
+    is_ended: bool,
+    // A waker that the primitive has no use for. Its drop would wake its task, so the next poll uses it again. Where that poll is
+    // another task's and can make no waker, this one is registered, and `Context::register` has the task polled again.
+    spare: Option<Waker>,
+}
+
+impl<M: HasMonitor, K> Model for SlotFuture<M, K>
+where
+    M::State: PollSlot<K>,
+{
+    ghost use Rattle.std.specs.Prelude.{◌||◌, is_none};
+    ghost use Rattle.fi_sync.specs.Waiting.{SharedFuture};
+
+    ghost Value = { SharedFuture };
+
+    ghost view = { λ future. record { source = M.source future.monitor; has_ended = future.is_ended || is_none future.claim } };
+}
+
+impl<M: HasMonitor, K> SlotFuture<M, K>
+where
+    M::State: PollSlot<K>,
+{
+    /// The future whose slot this is.
+    pub fn new(monitor: M, claim: Claim<K>) -> Self
+        ensures { result ≡ record { source = M.source monitor; has_ended = false } }
+    {
+        SlotFuture {
+            monitor,
+            claim: Some(claim),
+            is_ended: false,
+            spare: None,
+        }
+    }
+
+    /// The future was polled to its end, or cancelled. It takes no lock. Keeps `FusedFuture::is_terminated`.
+    pub fn is_terminated(&self) -> bool
+        ensures { result ≡ self.now.has_ended }
+    {
+        self.is_ended || self.claim.is_none()
+    }
+
+    /// Cancels the future, and answers what it leaves, if it was not cancelled before. It has ended then.
+    pub(crate) fn withdraw(&mut self) -> Option<<M::State as Cancel<K>>::Left>
+        ensures { self.new ≡ record { source = self.old.source; has_ended = true } }
+    {
+        let claim = self.claim.take()?;
+        Some(self.monitor.monitor().cancel::<K>(claim))
+    }
+}
+
+impl<M: HasMonitor, K> Future for SlotFuture<M, K>
+where
+    M::State: PollSlot<K>,
+{
+    type Output = <M::State as PollSlot<K>>::Output;
+
+    ghost needs = { λ future source. source ≡ future.source };
+
+    fn poll(&mut self, cx: &mut Context<'_>) -> Poll<<M::State as PollSlot<K>>::Output>
+        ensures registered { OnPending result (Covers cx.new (λ source. source ≡ self.new.source)) }
+        ensures kept { Keeps cx.old cx.new }
+        ensures stands { self.new ≡ polled M.State.is_last self.old result }
+        ensures spent { self.old.has_ended ≡ true → result ≡ Poll.Pending }
+        ensures answered { IsAnswer M.State.polls (M.State.refusal Fault.NoMemory) self.old.has_ended cx.new.lacks_waker result }
+    {
+        let monitor = self.monitor.monitor();
+        let _: Poll<()> = cx.register(monitor.source(), &mut self.spare);
+        if self.is_ended {
+            return Poll::Pending;
+        }
+        let Some(claim) = &self.claim else {
+            return Poll::Pending;
+        };
+        let Some(waker) = self.spare.take() else {
+            return Poll::Ready(<M::State as PollSlot<K>>::refused(Fault::NoMemory));
+        };
+        let (answer, leftover) = monitor.poll::<K>(claim.slot(), waker);
+        self.spare = leftover.displaced.or(leftover.unused);
+        if let Poll::Ready(output) = &answer {
+            self.is_ended = <M::State as PollSlot<K>>::ends(output);
+        }
+        answer
+    }
+}
+
+impl<M: HasMonitor, K> Drop for SlotFuture<M, K>
+where
+    M::State: PollSlot<K>,
+{
+    fn drop(self) {
+        let SlotFuture {
+            monitor,
+            claim,
+            is_ended: _,
+            spare,
+        } = self;
+        let left = match claim {
+            Some(claim) => Some(monitor.monitor().cancel::<K>(claim)),
+            None => None,
+        };
+        // Their drops run the code of their owners, with no lock held.
+        drop(left);
+        drop(spare);
+    }
+}

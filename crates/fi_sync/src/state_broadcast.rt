@@ -1,0 +1,101 @@
+//! The state broadcast that threads share.
+ghost use Rattle.std.specs.Prelude.{◌≡◌, false, IfOk, IfErr};
+ghost use Rattle.fi_parts.specs.declared.errors.Fault.{Fault};
+
+use crate::claim::Claim;
+use crate::monitor::Monitor;
+use crate::receive_future::ChannelReceiveFuture;
+use crate::slot_future::SlotFuture;
+use crate::wakes::HasOutbox;
+use fi_channels::StateBroadcastState;
+use fi_parts::{ChannelSendError, CloseStatus, Fault, StateId};
+use futures::task::Waker;
+use std::alloc::Global;
+use std::marker::Model;
+use std::sync::Wait;
+
+/// A channel that broadcasts its newest state. Threads share it by reference.
+///
+/// Each call but `new` takes the lock; a clone is made under it. Keeps `StateBroadcastChannel` of futures-intrusive's `channel`.
+#[derive(Drop)]
+pub struct StateBroadcastChannel<T: Clone, R> {
+    monitor: Monitor<StateBroadcastState<T, Waker>, R>,
+}
+
+/// Receives a state newer than the one that it names, with its number, or None once the channel is closed and has none.
+///
+/// Keeps `StateReceiveFuture` of futures-intrusive's `channel`.
+pub type StateReceiveFuture<'a, T, R> = ChannelReceiveFuture<'a, StateBroadcastState<T, Waker>, R>;
+
+impl<T: Clone, R> Model for StateBroadcastChannel<T, R> {
+    ghost use Rattle.std.specs.Prelude.{ℕ};
+
+    ghost Value = { ℕ };
+
+    ghost view = { λ channel. channel.monitor };
+}
+
+impl<T: Clone, R> StateBroadcastChannel<T, R> {
+    /// An open channel without a state. It takes no memory yet. Keeps `StateBroadcastChannel::new`.
+    pub fn new(alloc: Global, rt: R) -> Self {
+        StateBroadcastChannel {
+            monitor: Monitor::new(rt, StateBroadcastState::new(alloc)),
+        }
+    }
+}
+
+impl<T: Clone, R: Wait> StateBroadcastChannel<T, R> {
+    /// Sends the next state and wakes all receives that wait, the oldest first. The state before it is let go after the lock is.
+    ///
+    /// Refused, with the value, on a closed channel and after `u64::MAX` states. Keeps `StateBroadcastChannel::send`.
+    pub fn send(&self, value: T) -> Result<(), ChannelSendError<T>> {
+        match self
+            .monitor
+            .call(value, |channel, value| channel.replace(value))
+        {
+            Ok(_replaced) => Ok(()),
+            Err(refused) => Err(refused),
+        }
+    }
+
+    /// Closes the channel and wakes all receives that wait, the oldest first. Keeps `StateBroadcastChannel::close`.
+    pub fn close(&self) -> CloseStatus {
+        self.monitor.call((), |channel, ()| channel.close())
+    }
+
+    /// A clone of the newest state with its number, if that is greater than `seen`. Refused with `NoMemory` where memory
+    /// for the clone was. Keeps `StateBroadcastChannel::try_receive`.
+    pub fn try_receive(&self, seen: StateId) -> Result<Option<(StateId, T)>, Fault> {
+        self.monitor
+            .call(seen, |channel, seen| channel.try_receive(seen))
+    }
+
+    /// A future that receives the newest state once its number is greater than `seen`. Refused only with `NoMemory`; then nothing
+    /// has changed. Keeps `StateBroadcastChannel::receive`.
+    pub fn receive(&self, seen: StateId) -> Result<StateReceiveFuture<'_, T, R>, Fault>
+        ensures made { IfOk result (λ future. future ≡ record { source = self.now; has_ended = false }) }
+        ensures fault { IfErr result (λ fault. fault ≡ Fault.NoMemory) }
+    {
+        let slot = self
+            .monitor
+            .call(seen, |channel, seen| channel.claim_receive(seen))?;
+        Ok(SlotFuture::new(&self.monitor, Claim::of(slot)))
+    }
+}
+
+impl<T: Clone> HasOutbox for StateBroadcastState<T, Waker> {
+    ghost use Rattle.fi_channels.specs.StateBroadcast.{Wakes};
+    ghost use Rattle.fi_parts.specs.Pairs.{wakers_of};
+
+    ghost wakers = { λ channel. wakers_of channel.waiting.out };
+
+    fn next_wake(&mut self) -> Option<Waker>
+        ensures { Wakes self.old result self.new }
+    {
+        StateBroadcastState::next_wake(self)
+    }
+
+    fn wake_count(&self) -> usize {
+        StateBroadcastState::wake_count(self)
+    }
+}

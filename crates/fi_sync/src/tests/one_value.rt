@@ -1,0 +1,79 @@
+//! The thread-safe channels of one value.
+
+use super::{are_woken, poll_once, sends, shares};
+use crate::{OneshotBroadcastChannel, OneshotChannel};
+use fi_parts::{ChannelSendError, CloseStatus};
+use futures::executor::block_on;
+use futures::task::{Doorbell, Poll, Queue};
+use std::alloc::AllocGlobal;
+use std::process::Abort;
+use std::random::RandomSource;
+use std::sync::Wait;
+use std::test::Fail;
+use std::thread;
+use std::thread::Threads;
+
+#[test]
+fn oneshot_one_value(rt: HostRuntime) -> Result<(), Fail> {
+    let tasks = &Queue::new(&rt, Doorbell::spinning())?;
+    let channel = OneshotChannel::<u64, HostRuntime>::new(rt.alloc(), rt);
+    let mut a = channel.receive().expect(&rt, "memory");
+    let mut b = channel.receive().expect(&rt, "memory");
+    let (polled, first) = poll_once(&rt, tasks, &mut a);
+    assert!(rt; polled.is_pending());
+    let (polled, second) = poll_once(&rt, tasks, &mut b);
+    assert!(rt; polled.is_pending());
+    assert!(rt; channel.send(5).is_ok() && are_woken(&rt, tasks, &[first, second]));
+    let (polled, _) = poll_once(&rt, tasks, &mut b);
+    assert!(rt; polled == Poll::Ready(Ok(Some(5))) && b.is_terminated());
+    let (polled, _) = poll_once(&rt, tasks, &mut a);
+    assert!(rt; polled == Poll::Ready(Ok(None)));
+    assert!(rt; channel.send(7) == Err(ChannelSendError(7)));
+    assert!(rt; channel.close() == CloseStatus::AlreadyClosed);
+    Ok(())
+}
+
+#[test]
+fn broadcast_clones(rt: HostRuntime) -> Result<(), Fail> {
+    let tasks = &Queue::new(&rt, Doorbell::spinning())?;
+    let channel = OneshotBroadcastChannel::<u64, HostRuntime>::new(rt.alloc(), rt);
+    let mut a = channel.receive().expect(&rt, "memory");
+    let (polled, first) = poll_once(&rt, tasks, &mut a);
+    assert!(rt; polled.is_pending());
+    let mut b = channel.receive().expect(&rt, "memory");
+    let (polled, second) = poll_once(&rt, tasks, &mut b);
+    assert!(rt; polled.is_pending());
+    assert!(rt; channel.send(5).is_ok() && are_woken(&rt, tasks, &[first, second]));
+    let (polled, _) = poll_once(&rt, tasks, &mut a);
+    assert!(rt; polled == Poll::Ready(Ok(Some(5))));
+    let (polled, _) = poll_once(&rt, tasks, &mut b);
+    assert!(rt; polled == Poll::Ready(Ok(Some(5))));
+    assert!(rt; channel.close() == CloseStatus::AlreadyClosed);
+    let mut c = channel.receive().expect(&rt, "memory");
+    let (polled, _) = poll_once(&rt, tasks, &mut c);
+    assert!(rt; polled == Poll::Ready(Ok(Some(5))));
+    assert!(rt; channel.send(6) == Err(ChannelSendError(6)));
+    Ok(())
+}
+
+// The channel is moved, shared by reference, and its future is moved to another thread.
+fn crosses<R>(rt: R)
+where
+    R: Wait + Threads + Abort + Copy + RandomSource + AllocGlobal + Send + Sync,
+{
+    let channel = sends(OneshotChannel::<u64, R>::new(rt.alloc(), rt));
+    let channel = shares(&channel);
+    let receive = sends(channel.receive().expect(&rt, "memory"));
+    let rt = &rt;
+    let (received, is_sent) = thread::join(
+        rt,
+        move || block_on(rt, receive).ok(),
+        move || channel.send(7).is_ok(),
+    );
+    assert!(*rt; is_sent && received == Some(Ok(Some(7))));
+}
+
+#[test]
+fn oneshot_crosses_threads(rt: HostRuntime) {
+    crosses(rt);
+}

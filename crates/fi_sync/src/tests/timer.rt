@@ -1,0 +1,83 @@
+//! The thread-safe timer.
+
+use super::{are_woken, poll_once, sends, shares};
+use crate::TimerService;
+use fi_parts::Clock;
+use futures::executor::block_on;
+use futures::task::{Doorbell, Poll, Queue};
+use std::alloc::AllocGlobal;
+use std::process::Abort;
+use std::random::RandomSource;
+use std::sync::Wait;
+use std::sync::atomic::{AtomicU64, Ordering};
+use std::test::Fail;
+use std::thread;
+use std::thread::Threads;
+use std::time::Duration;
+
+// A clock that shows what stands in a cell.
+#[derive(Drop)]
+struct Shown<'a> {
+    time: &'a AtomicU64,
+}
+
+impl Clock for Shown<'_> {
+    fn now(&self) -> u64 {
+        self.time.load(Ordering::SeqCst)
+    }
+}
+
+#[test]
+fn timer_expirations(rt: HostRuntime) -> Result<(), Fail> {
+    let tasks = &Queue::new(&rt, Doorbell::spinning())?;
+    let time = &AtomicU64::new(200);
+    let timer = TimerService::new(rt.alloc(), rt, Shown { time });
+    let mut a = timer.deadline(999).expect(&rt, "memory");
+    let (polled, _) = poll_once(&rt, tasks, &mut a);
+    assert!(rt; polled.is_pending() && timer.next_expiration() == Some(999));
+    let mut b = timer
+        .delay(Duration::from_millis(300))
+        .expect(&rt, "memory");
+    let (polled, second) = poll_once(&rt, tasks, &mut b);
+    assert!(rt; polled.is_pending() && timer.next_expiration() == Some(500));
+    let mut c = timer
+        .delay(Duration::from_millis(500))
+        .expect(&rt, "memory");
+    let (polled, third) = poll_once(&rt, tasks, &mut c);
+    assert!(rt; polled.is_pending() && timer.next_expiration() == Some(500));
+    time.store(500, Ordering::SeqCst);
+    timer.check_expirations();
+    assert!(rt; are_woken(&rt, tasks, &[second]));
+    let (polled, _) = poll_once(&rt, tasks, &mut b);
+    assert!(rt; polled == Poll::Ready(Ok(())) && timer.next_expiration() == Some(700));
+    time.store(699, Ordering::SeqCst);
+    timer.check_expirations();
+    assert!(rt; are_woken(&rt, tasks, &[]));
+    time.store(700, Ordering::SeqCst);
+    timer.check_expirations();
+    assert!(rt; are_woken(&rt, tasks, &[third]));
+    Ok(())
+}
+
+// The timer is moved, shared by reference, and its future is moved to another thread.
+fn crosses<R>(rt: R)
+where
+    R: Wait + Threads + Abort + Copy + RandomSource + AllocGlobal + Send + Sync,
+{
+    let time = &AtomicU64::new(0);
+    let timer = sends(TimerService::new(rt.alloc(), rt, Shown { time }));
+    let timer = shares(&timer);
+    let wait = sends(timer.deadline(7).expect(&rt, "memory"));
+    let rt = &rt;
+    let ticks = move || {
+        time.store(7, Ordering::SeqCst);
+        timer.check_expirations();
+    };
+    let (answer, ()) = thread::join(rt, move || block_on(rt, wait).ok(), ticks);
+    assert!(*rt; answer == Some(Ok(())));
+}
+
+#[test]
+fn timer_crosses_threads(rt: HostRuntime) {
+    crosses(rt);
+}
