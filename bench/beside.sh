@@ -1,16 +1,16 @@
 #!/bin/sh
-# Times the built `schedule` and another program that reads the same script in turn, on the script of N waits (100000 if not given), and
-# prints the best of nine runs of each in nanoseconds a line. `cargo build --release` in bench/rust makes such a program from the
+# Times the built `schedule` and another program that reads the same script in turn, on a script of N futures (100000 if not given), and
+# prints the best of nine runs of each in nanoseconds a line: `bench/beside.sh PROGRAM event|timer|semaphore|channel N`. `cargo build --release` in bench/rust makes such a program from the
 # Rust crate, bench/rust/target/release/schedule-rust; `rt run` in crates/schedule makes ours.
 set -eu
 here=$(cd "$(dirname "$0")" && pwd)
-[ $# -ge 1 ] || { echo "usage: beside.sh PROGRAM [N]" >&2; exit 2; }
+[ $# -ge 1 ] || { echo "usage: beside.sh PROGRAM [KIND] [N]" >&2; exit 2; }
 ours=$here/../crates/schedule/out/schedule
 theirs=$1
 script=$(mktemp)
 answers=$(mktemp)
 trap 'rm -f "$script" "$answers"' EXIT
-"$here/event_script.sh" "${2:-100000}" > "$script"
+"$here/script.sh" "${2:-event}" "${3:-100000}" > "$script"
 lines=$(wc -l < "$script")
 "$ours" < "$script" > "$answers"
 "$theirs" < "$script" | cmp -s - "$answers" || { echo "the answers differ" >&2; exit 1; }

@@ -7,9 +7,13 @@ here=$(cd "$(dirname "$0")" && pwd)
 theirs=$(cd "$(dirname "$1")" && pwd)/$(basename "$1")
 work=$(mktemp -d)
 trap 'rm -rf "$work"' EXIT
-KEEP="$work" "$here/part.sh" bench_calls > /dev/null
+for program in bench_calls bench_locks bench_channel; do
+    KEEP="$work" "$here/part.sh" "$program" > /dev/null
+done
 for _ in 1 2 3 4 5 6 7 8 9; do
-    "$work/crates/bench_calls/out/bench_calls"
+    for program in bench_calls bench_locks bench_channel; do
+        "$work/crates/$program/out/$program"
+    done
     "$theirs"
 done | awk '
     {

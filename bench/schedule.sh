@@ -1,13 +1,13 @@
 #!/bin/sh
-# Times the built program on a script of N waits (100000 if not given), each made, polled and, after one `set`, polled again,
-# and prints the best of five runs in nanoseconds a line. `rt run` proves and builds the program first, if it is not up to date.
+# Times the built program on a script of N futures (100000 if not given): `bench/schedule.sh event|timer|semaphore|channel N`, and prints
+# the best of five runs in nanoseconds a line. `rt run` proves and builds the program first, if it is not up to date.
 set -eu
 here=$(cd "$(dirname "$0")" && pwd)
 cd "$here/../crates/schedule"
 rt run < stdin > /dev/null 2>&1
 script=$(mktemp)
 trap 'rm -f "$script"' EXIT
-"$here/event_script.sh" "${1:-100000}" > "$script"
+"$here/script.sh" "${1:-event}" "${2:-100000}" > "$script"
 lines=$(wc -l < "$script")
 best=
 for _ in 1 2 3 4 5; do

@@ -1,8 +1,11 @@
-//! Answers event scripts with the Rust crate futures-intrusive, to be timed beside `schedule`.
+//! Answers scripts with the Rust crate futures-intrusive, to be timed beside `schedule`.
 //!
-//! Its grammar is that of `schedule` for the event, without `hold` and `wakes`.
+//! Its grammar is that of `schedule` for the event, the timer, the semaphore (whose permits are given back one by one) and the channel over
+//! an array of two, without `hold` and `wakes`.
 
-use futures_intrusive::sync::LocalManualResetEvent;
+use futures_intrusive::channel::LocalChannel;
+use futures_intrusive::sync::{LocalManualResetEvent, LocalSemaphore};
+use futures_intrusive::timer::{LocalTimer, LocalTimerService, MockClock};
 use std::cell::RefCell;
 use std::collections::hash_map::{Entry, HashMap};
 use std::future::Future;
@@ -64,51 +67,46 @@ fn parse_number(word: &[u8]) -> Option<u64> {
 /// The futures by their labels.
 type Futures<F> = HashMap<Label, Pin<Box<F>>>;
 
-/// The answer of one line.
-fn answer<'a, F: Future<Output = ()>>(
-    line: &[u8],
-    event: &'a LocalManualResetEvent,
-    wait: impl FnOnce(&'a LocalManualResetEvent) -> F,
-    futures: &mut Futures<F>,
-) -> Option<&'static [u8]> {
-    let mut words = line.split(|byte| *byte == b' ');
-    let text: &[u8] = match words.next()? {
-        b"wait" => {
-            let Entry::Vacant(place) = futures.entry(parse_label(words.next()?)?) else {
-                return None;
-            };
-            place.insert(Box::pin(wait(event)));
-            b"made"
+/// The words of a line that are not read yet.
+struct Words<'a>(&'a [u8]);
+
+impl<'a> Words<'a> {
+    fn word(&mut self) -> Option<&'a [u8]> {
+        if self.0.is_empty() {
+            return None;
         }
-        b"poll" => {
-            let future = futures.get_mut(&parse_label(words.next()?)?)?;
-            let waker = waker(parse_number(words.next()?)?);
-            match future.as_mut().poll(&mut Context::from_waker(&waker)) {
-                Poll::Ready(()) => b"ready",
-                Poll::Pending => b"pending",
-            }
-        }
-        b"cancel" => {
-            drop(futures.remove(&parse_label(words.next()?)?)?);
-            b"ok"
-        }
-        b"set" => {
-            event.set();
-            b"ok"
-        }
-        b"reset" => {
-            event.reset();
-            b"ok"
-        }
-        b"is-set" if event.is_set() => b"true",
-        b"is-set" => b"false",
-        _ => return None,
-    };
-    words.next().is_none().then_some(text)
+        let end = self.0.iter().position(|byte| *byte == b' ');
+        let (word, rest) = match end {
+            Some(end) => (&self.0[..end], &self.0[end + 1..]),
+            None => (self.0, &[][..]),
+        };
+        self.0 = rest;
+        Some(word)
+    }
+
+    fn label(&mut self) -> Option<Label> {
+        parse_label(self.word()?)
+    }
+
+    fn number(&mut self) -> Option<u64> {
+        parse_number(self.word()?)
+    }
 }
 
-fn write_answer(text: &[u8], output: &mut impl Write) -> io::Result<()> {
-    output.write_all(text)?;
+fn make<F>(words: &mut Words, futures: &mut Futures<F>, future: impl FnOnce(&mut Words) -> Option<F>) -> Option<()> {
+    let Entry::Vacant(place) = futures.entry(words.label()?) else {
+        return None;
+    };
+    place.insert(Box::pin(future(words)?));
+    Some(())
+}
+
+fn poll<F: Future>(future: Pin<&mut F>, number: u64) -> Poll<F::Output> {
+    let waker = waker(number);
+    future.poll(&mut Context::from_waker(&waker))
+}
+
+fn write_wakes(output: &mut impl Write) -> io::Result<()> {
     WOKEN.with_borrow_mut(|woken| {
         if !woken.is_empty() {
             output.write_all(b" wakes")?;
@@ -120,26 +118,218 @@ fn write_answer(text: &[u8], output: &mut impl Write) -> io::Result<()> {
     })
 }
 
+/// Answers each line in this way, and the number of the first bad one.
+fn answer_lines<'a, W: Write>(
+    lines: impl Iterator<Item = &'a [u8]>,
+    output: &mut W,
+    mut answer: impl FnMut(&'a [u8], &mut Words<'a>, &mut W) -> Option<io::Result<()>>,
+) -> io::Result<Option<usize>> {
+    for (index, line) in lines.enumerate() {
+        let mut words = Words(line);
+        let verb = words.word();
+        match verb.and_then(|verb| answer(verb, &mut words, output)) {
+            Some(written) if words.0.is_empty() => written?,
+            _ => return Ok(Some(index + 2)),
+        }
+        write_wakes(output)?;
+    }
+    Ok(None)
+}
+
+type Ended = io::Result<Option<usize>>;
+
+fn run_event<'a>(is_set: bool, lines: impl Iterator<Item = &'a [u8]>, output: &mut impl Write) -> Ended {
+    let event = LocalManualResetEvent::new(is_set);
+    let mut futures = Futures::new();
+    answer_lines(lines, output, |verb, words, output| {
+        let text: &[u8] = match verb {
+            b"wait" => {
+                make(words, &mut futures, |_| Some(event.wait()))?;
+                b"made"
+            }
+            b"poll" => {
+                let future = futures.get_mut(&words.label()?)?;
+                match poll(future.as_mut(), words.number()?) {
+                    Poll::Ready(()) => b"ready",
+                    Poll::Pending => b"pending",
+                }
+            }
+            b"cancel" => {
+                drop(futures.remove(&words.label()?)?);
+                b"ok"
+            }
+            b"set" => {
+                event.set();
+                b"ok"
+            }
+            b"reset" => {
+                event.reset();
+                b"ok"
+            }
+            b"is-set" if event.is_set() => b"true",
+            b"is-set" => b"false",
+            _ => return None,
+        };
+        Some(output.write_all(text))
+    })
+}
+
+fn run_timer<'a>(lines: impl Iterator<Item = &'a [u8]>, output: &mut impl Write) -> Ended {
+    static CLOCK: MockClock = MockClock::new();
+    let service = LocalTimerService::new(&CLOCK);
+    let mut futures = Futures::new();
+    answer_lines(lines, output, |verb, words, output| {
+        let text: &[u8] = match verb {
+            b"deadline" => {
+                make(words, &mut futures, |words| Some(service.deadline(words.number()?)))?;
+                b"made"
+            }
+            b"poll" => {
+                let future = futures.get_mut(&words.label()?)?;
+                CLOCK.set_time(words.number()?);
+                match poll(future.as_mut(), words.number()?) {
+                    Poll::Ready(()) => b"ready",
+                    Poll::Pending => b"pending",
+                }
+            }
+            b"cancel" => {
+                drop(futures.remove(&words.label()?)?);
+                b"ok"
+            }
+            b"check" => {
+                CLOCK.set_time(words.number()?);
+                service.check_expirations();
+                b"ok"
+            }
+            b"next" => match service.next_expiration() {
+                Some(expiry) => return Some(write!(output, "some {expiry}")),
+                None => b"none",
+            },
+            _ => return None,
+        };
+        Some(output.write_all(text))
+    })
+}
+
+fn run_semaphore<'a>(permits: usize, lines: impl Iterator<Item = &'a [u8]>, output: &mut impl Write) -> Ended {
+    let semaphore = LocalSemaphore::new(true, permits);
+    let mut futures = Futures::new();
+    let mut releasers = Vec::new();
+    answer_lines(lines, output, |verb, words, output| {
+        let text: &[u8] = match verb {
+            b"acquire" => {
+                make(words, &mut futures, |words| Some(semaphore.acquire(words.number()? as usize)))?;
+                b"made"
+            }
+            b"poll" => {
+                let future = futures.get_mut(&words.label()?)?;
+                match poll(future.as_mut(), words.number()?) {
+                    Poll::Ready(releaser) => {
+                        releasers.push(releaser);
+                        b"ready"
+                    }
+                    Poll::Pending => b"pending",
+                }
+            }
+            b"cancel" => {
+                drop(futures.remove(&words.label()?)?);
+                b"ok"
+            }
+            b"release" => {
+                semaphore.release(words.number()? as usize);
+                b"ok"
+            }
+            b"give-back" if words.number()? == 1 => {
+                drop(releasers.pop()?);
+                b"ok"
+            }
+            b"permits" => return Some(write!(output, "{}", semaphore.permits())),
+            _ => return None,
+        };
+        Some(output.write_all(text))
+    })
+}
+
+fn run_channel<'a>(lines: impl Iterator<Item = &'a [u8]>, output: &mut impl Write) -> Ended {
+    let channel = LocalChannel::<u64, [u64; 2]>::new();
+    let mut sends = Futures::new();
+    let mut receives = Futures::new();
+    answer_lines(lines, output, |verb, words, output| {
+        let text: &[u8] = match verb {
+            b"send" => {
+                make(words, &mut sends, |words| Some(channel.send(words.number()?)))?;
+                b"made"
+            }
+            b"receive" => {
+                make(words, &mut receives, |_| Some(channel.receive()))?;
+                b"made"
+            }
+            b"poll" => {
+                let label = words.label()?;
+                let number = words.number()?;
+                if let Some(send) = sends.get_mut(&label) {
+                    match poll(send.as_mut(), number) {
+                        Poll::Ready(Ok(())) => b"ok",
+                        Poll::Ready(Err(closed)) => return Some(write!(output, "closed {}", closed.0)),
+                        Poll::Pending => b"pending",
+                    }
+                } else {
+                    match poll(receives.get_mut(&label)?.as_mut(), number) {
+                        Poll::Ready(Some(value)) => return Some(write!(output, "some {value}")),
+                        Poll::Ready(None) => b"none",
+                        Poll::Pending => b"pending",
+                    }
+                }
+            }
+            b"cancel" => {
+                let label = words.label()?;
+                match sends.remove(&label) {
+                    Some(mut send) => match unsafe { send.as_mut().get_unchecked_mut() }.cancel() {
+                        Some(value) => return Some(write!(output, "some {value}")),
+                        None => b"none",
+                    },
+                    None => {
+                        drop(receives.remove(&label)?);
+                        b"ok"
+                    }
+                }
+            }
+            b"try-send" => match channel.try_send(words.number()?) {
+                Ok(()) => b"ok",
+                Err(refused) if refused.is_full() => return Some(write!(output, "full {}", refused.into_inner())),
+                Err(refused) => return Some(write!(output, "closed {}", refused.into_inner())),
+            },
+            b"try-receive" => match channel.try_receive() {
+                Ok(value) => return Some(write!(output, "some {value}")),
+                Err(refused) if refused.is_empty() => b"empty",
+                Err(_) => b"closed",
+            },
+            b"close" if channel.close().is_newly_closed() => b"newly-closed",
+            b"close" => b"already-closed",
+            _ => return None,
+        };
+        Some(output.write_all(text))
+    })
+}
+
 fn main() -> io::Result<ExitCode> {
     let mut script = Vec::new();
     io::stdin().lock().read_to_end(&mut script)?;
     let mut output = BufWriter::with_capacity(65536, io::stdout().lock());
     let script = script.strip_suffix(b"\n").unwrap_or(&script);
-    let mut lines = script.split(|byte| *byte == b'\n').enumerate();
-    let event = match lines.next() {
-        Some((_, b"event set")) => LocalManualResetEvent::new(true),
-        Some((_, b"event reset")) => LocalManualResetEvent::new(false),
-        _ => return Ok(ExitCode::from(2)),
-    };
-    let mut futures = Futures::new();
-    for (index, line) in lines {
-        let Some(text) = answer(line, &event, LocalManualResetEvent::wait, &mut futures) else {
-            output.flush()?;
-            eprintln!("schedule: line {} is bad", index + 1);
-            return Ok(ExitCode::from(2));
-        };
-        write_answer(text, &mut output)?;
-    }
+    let mut lines = script.split(|byte| *byte == b'\n');
+    let bad = match lines.next() {
+        Some(b"event set") => run_event(true, lines, &mut output),
+        Some(b"event reset") => run_event(false, lines, &mut output),
+        Some(b"timer") => run_timer(lines, &mut output),
+        Some(b"semaphore fair 0") => run_semaphore(0, lines, &mut output),
+        Some(b"channel array 2") => run_channel(lines, &mut output),
+        _ => Ok(Some(1)),
+    }?;
     output.flush()?;
+    if let Some(number) = bad {
+        eprintln!("schedule: line {number} is bad");
+        return Ok(ExitCode::from(2));
+    }
     Ok(ExitCode::SUCCESS)
 }

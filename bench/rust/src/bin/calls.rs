@@ -1,11 +1,12 @@
 //! Times the primitives of futures-intrusive by call, as bench_calls times ours.
 
-use futures_intrusive::sync::LocalManualResetEvent;
+use futures_intrusive::channel::{LocalChannel, LocalUnbufferedChannel};
+use futures_intrusive::sync::{LocalManualResetEvent, LocalMutex, LocalSemaphore};
 use futures_intrusive::timer::{LocalTimer, LocalTimerService, MockClock};
 use std::cell::Cell;
 use std::future::Future;
-use std::pin::Pin;
-use std::task::{Context, RawWaker, RawWakerVTable, Waker};
+use std::pin::{Pin, pin};
+use std::task::{Context, Poll, RawWaker, RawWakerVTable, Waker};
 use std::time::Instant;
 
 thread_local! {
@@ -29,11 +30,15 @@ fn waker(number: u64) -> Waker {
 }
 
 fn poll<F: Future>(future: &mut Pin<Box<F>>, number: u64) -> bool {
+    give(future.as_mut(), number).is_some()
+}
+
+fn give<F: Future>(future: Pin<&mut F>, number: u64) -> Option<F::Output> {
     let waker = waker(number);
-    future
-        .as_mut()
-        .poll(&mut Context::from_waker(&waker))
-        .is_ready()
+    match future.poll(&mut Context::from_waker(&waker)) {
+        Poll::Ready(output) => Some(output),
+        Poll::Pending => None,
+    }
 }
 
 fn event_round(event: &LocalManualResetEvent, count: u64) {
@@ -99,9 +104,152 @@ fn timer_round(service: &LocalTimerService, clock: &MockClock, count: u64) {
     }
 }
 
+fn lock_pairs(mutex: &LocalMutex<u64>, count: u64) {
+    for i in 0..count {
+        if let Some(mut guard) = give(pin!(mutex.lock()), i) {
+            *guard += 1;
+        }
+    }
+}
+
+fn locks_served(mutex: &LocalMutex<u64>, count: u64) {
+    let mut held = mutex.try_lock();
+    let mut locks = Vec::with_capacity(count as usize);
+    for i in 0..count {
+        let mut lock = Box::pin(mutex.lock());
+        poll(&mut lock, i);
+        locks.push(lock);
+    }
+    for lock in &mut locks {
+        drop(held.take());
+        held = give(lock.as_mut(), 1);
+    }
+}
+
+fn acquire_pairs(semaphore: &LocalSemaphore, count: u64) {
+    for i in 0..count {
+        drop(give(pin!(semaphore.acquire(1)), i));
+    }
+}
+
+fn served(semaphore: &LocalSemaphore, count: u64, released: usize) {
+    let mut acquires = Vec::with_capacity(count as usize);
+    for i in 0..count {
+        let mut acquire = Box::pin(semaphore.acquire(1));
+        poll(&mut acquire, i);
+        acquires.push(acquire);
+    }
+    semaphore.release(released);
+    for acquire in acquires {
+        let mut acquire = acquire;
+        if let Some(mut releaser) = give(acquire.as_mut(), 1) {
+            if released > 1 {
+                releaser.disarm();
+            }
+        }
+    }
+    if released == 1 {
+        if let Some(mut releaser) = semaphore.try_acquire(1) {
+            releaser.disarm();
+        }
+    }
+}
+
+const ROOM: usize = 16;
+
+fn channel_pairs(channel: &LocalChannel<u64, [u64; ROOM]>, count: u64) {
+    for i in 0..count {
+        let _ = channel.try_send(i);
+        give(pin!(channel.receive()), i);
+    }
+}
+
+fn rendezvous(channel: &LocalUnbufferedChannel<u64>, count: u64) {
+    for i in 0..count {
+        let mut send = pin!(channel.send(i));
+        give(send.as_mut(), i);
+        give(pin!(channel.receive()), i);
+        give(send.as_mut(), i);
+    }
+}
+
+fn full_sends(channel: &LocalChannel<u64, [u64; ROOM]>, count: u64) {
+    for i in 0..ROOM as u64 {
+        let _ = channel.try_send(i);
+    }
+    let mut sends = Vec::with_capacity(count as usize);
+    for i in 0..count {
+        let mut send = Box::pin(channel.send(i));
+        poll(&mut send, i);
+        sends.push(send);
+    }
+    for send in sends {
+        let mut send = send;
+        let _ = channel.try_receive();
+        poll(&mut send, 1);
+    }
+    for _ in 0..ROOM {
+        let _ = channel.try_receive();
+    }
+}
+
+fn receive_cancels(channel: &LocalUnbufferedChannel<u64>, count: u64) {
+    let mut receives: Vec<Option<_>> = Vec::with_capacity(count as usize);
+    for i in 0..count {
+        let mut receive = Box::pin(channel.receive());
+        poll(&mut receive, i);
+        receives.push(Some(receive));
+    }
+    let mut place = 0;
+    for _ in 0..count {
+        place = drawn_after(place, count);
+        receives[place as usize] = None;
+    }
+}
+
+fn nanos_of(rounds: u64, mut round: impl FnMut()) -> u128 {
+    let start = Instant::now();
+    for _ in 0..rounds {
+        round();
+    }
+    start.elapsed().as_nanos()
+}
+
+fn sum() -> u64 {
+    SUM.with(|sum| sum.get())
+}
+
+fn time_locks(count: u64, rounds: u64) {
+    let mutex = LocalMutex::new(0, true);
+    locks_served(&mutex, count);
+    let pairs = nanos_of(rounds, || lock_pairs(&mutex, count));
+    let served_locks = nanos_of(rounds, || locks_served(&mutex, count));
+    println!("crate {count} {rounds} lock_pairs {pairs} locks_served {served_locks} ({})", sum());
+    let one = LocalSemaphore::new(true, 1);
+    acquire_pairs(&one, count);
+    let pairs = nanos_of(rounds, || acquire_pairs(&one, count));
+    let semaphore = LocalSemaphore::new(true, 0);
+    served(&semaphore, count, count as usize);
+    let one_by_one = nanos_of(rounds, || served(&semaphore, count, 1));
+    let at_once = nanos_of(rounds, || served(&semaphore, count, count as usize));
+    println!("crate {count} {rounds} acquire_pairs {pairs} one_by_one {one_by_one} at_once {at_once} ({})", sum());
+}
+
+fn time_channels(count: u64, rounds: u64) {
+    let channel = LocalChannel::new();
+    full_sends(&channel, count);
+    let pairs = nanos_of(rounds, || channel_pairs(&channel, count));
+    let full = nanos_of(rounds, || full_sends(&channel, count));
+    println!("crate {count} {rounds} channel_pairs {pairs} full_sends {full} ({})", sum());
+    let channel = LocalUnbufferedChannel::new();
+    receive_cancels(&channel, count);
+    let met = nanos_of(rounds, || rendezvous(&channel, count));
+    let cancelled = nanos_of(rounds, || receive_cancels(&channel, count));
+    println!("crate {count} {rounds} rendezvous {met} receive_cancels {cancelled} ({})", sum());
+}
+
 fn time(count: u64, rounds: u64) {
     let nanos = |start: Instant| start.elapsed().as_nanos();
-    let sum = || SUM.with(|sum| sum.get());
     let event = LocalManualResetEvent::new(false);
     event_round(&event, count);
     let start = Instant::now();
@@ -136,8 +284,9 @@ fn time(count: u64, rounds: u64) {
 }
 
 fn main() {
-    time(1_000, 2_000);
-    time(10_000, 200);
-    time(100_000, 20);
-    time(1_000_000, 2);
+    for (count, rounds) in [(1_000, 2_000), (10_000, 200), (100_000, 20), (1_000_000, 2)] {
+        time(count, rounds);
+        time_locks(count, rounds);
+        time_channels(count, rounds);
+    }
 }
