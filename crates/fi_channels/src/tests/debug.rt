@@ -7,24 +7,24 @@ use std::alloc::Global;
 use std::fmt;
 use std::test::Fail;
 
-fn text<D: fmt::Debug>(alloc: Global, value: &D) -> Result<String, Fail> {
-    Ok(format!(in alloc; "{value:?}")?)
+fn shows<D: fmt::Debug>(alloc: Global, value: &D, wanted: &str) -> bool {
+    match format!(in alloc; "{value:?}") {
+        Ok(text) => text.as_str() == wanted,
+        Err(_) => false,
+    }
 }
 
 #[test]
 fn an_event_shows_its_name(rt: HostRuntime) -> Result<(), Fail> {
     let event: EventState<u64> = EventState::new(rt.alloc(), false);
-    assert_eq!(rt; text(rt.alloc(), &event)?.as_str(), "ManualResetEvent");
+    assert!(rt; shows(rt.alloc(), &event, "ManualResetEvent"));
     Ok(())
 }
 
 #[test]
 fn a_oneshot_shows_its_name(rt: HostRuntime) -> Result<(), Fail> {
     let channel: LocalOneshotChannel<u32, u64> = LocalOneshotChannel::new(rt.alloc());
-    assert_eq!(rt;
-        text(rt.alloc(), &channel)?.as_str(),
-        "GenericOneshotChannel"
-    );
+    assert!(rt; shows(rt.alloc(), &channel, "GenericOneshotChannel"));
     Ok(())
 }
 
@@ -33,34 +33,28 @@ fn a_oneshot_broadcast_shows_its_name(rt: HostRuntime) -> Result<(), Fail> {
     let channel: LocalOneshotBroadcastChannel<u32, u64> = LocalOneshotBroadcastChannel::new(
         rt.alloc(),
     );
-    assert_eq!(rt;
-        text(rt.alloc(), &channel)?.as_str(),
-        "GenericOneshotBroadcastChannel"
-    );
+    assert!(rt; shows(rt.alloc(), &channel, "GenericOneshotBroadcastChannel"));
     Ok(())
 }
 
 #[test]
 fn a_state_broadcast_shows_its_name(rt: HostRuntime) -> Result<(), Fail> {
     let channel: LocalStateBroadcastChannel<u32, u64> = LocalStateBroadcastChannel::new(rt.alloc());
-    assert_eq!(rt;
-        text(rt.alloc(), &channel)?.as_str(),
-        "GenericStateBroadcastChannel"
-    );
+    assert!(rt; shows(rt.alloc(), &channel, "GenericStateBroadcastChannel"));
     Ok(())
 }
 
 #[test]
 fn a_channel_shows_its_name(rt: HostRuntime) -> Result<(), Fail> {
     let channel: LocalChannel<u32, 2, u64> = LocalChannel::new(rt.alloc());
-    assert_eq!(rt; text(rt.alloc(), &channel)?.as_str(), "Channel");
+    assert!(rt; shows(rt.alloc(), &channel, "Channel"));
     Ok(())
 }
 
 #[test]
 fn ways_of_giving_show_their_names(rt: HostRuntime) -> Result<(), Fail> {
-    assert_eq!(rt; text(rt.alloc(), &TakesValue)?.as_str(), "TakesValue");
-    assert_eq!(rt; text(rt.alloc(), &ClonesValue)?.as_str(), "ClonesValue");
+    assert!(rt; shows(rt.alloc(), &TakesValue, "TakesValue"));
+    assert!(rt; shows(rt.alloc(), &ClonesValue, "ClonesValue"));
     Ok(())
 }
 
@@ -68,9 +62,9 @@ fn ways_of_giving_show_their_names(rt: HostRuntime) -> Result<(), Fail> {
 fn a_wait_shows_its_name(rt: HostRuntime) -> Result<(), Fail> {
     let mut event: EventState<u64> = EventState::new(rt.alloc(), false);
     let wait = event.wait().ok().ok_or("room")?;
-    let shown = text(rt.alloc(), &wait);
+    let shown = shows(rt.alloc(), &wait, "GenericWaitForEventFuture");
     wait.cancel(&mut event);
-    assert_eq!(rt; shown?.as_str(), "GenericWaitForEventFuture");
+    assert!(rt; shown);
     Ok(())
 }
 
@@ -78,9 +72,9 @@ fn a_wait_shows_its_name(rt: HostRuntime) -> Result<(), Fail> {
 fn a_receive_shows_its_name(rt: HostRuntime) -> Result<(), Fail> {
     let mut channel: LocalOneshotChannel<u32, u64> = LocalOneshotChannel::new(rt.alloc());
     let receive = channel.receive().ok().ok_or("room")?;
-    let shown = text(rt.alloc(), &receive);
+    let shown = shows(rt.alloc(), &receive, "ChannelReceiveFuture");
     receive.cancel(&mut channel);
-    assert_eq!(rt; shown?.as_str(), "ChannelReceiveFuture");
+    assert!(rt; shown);
     Ok(())
 }
 
@@ -88,9 +82,9 @@ fn a_receive_shows_its_name(rt: HostRuntime) -> Result<(), Fail> {
 fn a_send_shows_its_name(rt: HostRuntime) -> Result<(), Fail> {
     let mut channel: LocalChannel<u32, 2, u64> = LocalChannel::new(rt.alloc());
     let send = channel.send(5).ok().ok_or("room")?;
-    let shown = text(rt.alloc(), &send);
+    let shown = shows(rt.alloc(), &send, "ChannelSendFuture");
     let unsent = send.cancel(&mut channel);
-    assert_eq!(rt; shown?.as_str(), "ChannelSendFuture");
+    assert!(rt; shown);
     assert_eq!(rt; unsent, Some(5));
     Ok(())
 }
@@ -99,8 +93,8 @@ fn a_send_shows_its_name(rt: HostRuntime) -> Result<(), Fail> {
 fn a_stream_shows_its_name(rt: HostRuntime) -> Result<(), Fail> {
     let mut channel: LocalChannel<u32, 2, u64> = LocalChannel::new(rt.alloc());
     let stream = channel.stream().ok().ok_or("room")?;
-    let shown = text(rt.alloc(), &stream);
+    let shown = shows(rt.alloc(), &stream, "ChannelStream");
     stream.cancel(&mut channel);
-    assert_eq!(rt; shown?.as_str(), "ChannelStream");
+    assert!(rt; shown);
     Ok(())
 }

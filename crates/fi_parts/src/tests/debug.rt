@@ -7,36 +7,71 @@ use std::alloc::Global;
 use std::fmt;
 use std::test::Fail;
 
-fn text<D: fmt::Debug>(alloc: Global, value: &D) -> Result<String, Fail> {
-    Ok(format!(in alloc; "{value:?}")?)
+fn shows<D: fmt::Debug>(alloc: Global, value: &D, wanted: &str) -> bool {
+    match format!(in alloc; "{value:?}") {
+        Ok(text) => text.as_str() == wanted,
+        Err(_) => false,
+    }
 }
 
 #[test]
-fn containers_show_their_names(rt: HostRuntime) -> Result<(), Fail> {
-    let alloc = rt.alloc();
-    let mut list = LinkedList::<u32>::new(alloc);
-    assert_eq!(rt; text(alloc, &list)?.as_str(), "LinkedList");
-    assert_eq!(rt; text(alloc, &list.drain())?.as_str(), "Drain");
-    assert_eq!(rt;
-        text(alloc, &list.reverse_drain())?.as_str(),
-        "ReverseDrain"
-    );
-    let heap = PairingHeap::<u32>::new(alloc);
-    assert_eq!(rt; text(alloc, &heap)?.as_str(), "PairingHeap");
-    let outbox = Outbox::<u32>::new(alloc);
-    assert_eq!(rt; text(alloc, &outbox)?.as_str(), "Outbox");
-    let line = Line::<u32, u64>::new(alloc);
-    assert_eq!(rt; text(alloc, &line)?.as_str(), "Line");
-    let waits = Waits::<u32, u64>::new(alloc);
-    assert_eq!(rt; text(alloc, &waits)?.as_str(), "Waits");
-    let deadlines = Deadlines::<u64>::new(alloc);
-    assert_eq!(rt; text(alloc, &deadlines)?.as_str(), "Deadlines");
+fn a_list_shows_its_name(rt: HostRuntime) -> Result<(), Fail> {
+    let list = LinkedList::<u32>::new(rt.alloc());
+    assert!(rt; shows(rt.alloc(), &list, "LinkedList"));
     Ok(())
 }
 
 #[test]
-fn values_show_their_fields(rt: HostRuntime) -> Result<(), Fail> {
-    let alloc = rt.alloc();
+fn a_drain_shows_its_name(rt: HostRuntime) -> Result<(), Fail> {
+    let mut list = LinkedList::<u32>::new(rt.alloc());
+    assert!(rt; shows(rt.alloc(), &list.drain(), "Drain"));
+    Ok(())
+}
+
+#[test]
+fn a_reverse_drain_shows_its_name(rt: HostRuntime) -> Result<(), Fail> {
+    let mut list = LinkedList::<u32>::new(rt.alloc());
+    assert!(rt; shows(rt.alloc(), &list.reverse_drain(), "ReverseDrain"));
+    Ok(())
+}
+
+#[test]
+fn a_heap_shows_its_name(rt: HostRuntime) -> Result<(), Fail> {
+    let heap = PairingHeap::<u32>::new(rt.alloc());
+    assert!(rt; shows(rt.alloc(), &heap, "PairingHeap"));
+    Ok(())
+}
+
+#[test]
+fn an_outbox_shows_its_name(rt: HostRuntime) -> Result<(), Fail> {
+    let outbox = Outbox::<u32>::new(rt.alloc());
+    assert!(rt; shows(rt.alloc(), &outbox, "Outbox"));
+    Ok(())
+}
+
+#[test]
+fn a_line_shows_its_name(rt: HostRuntime) -> Result<(), Fail> {
+    let line = Line::<u32, u64>::new(rt.alloc());
+    assert!(rt; shows(rt.alloc(), &line, "Line"));
+    Ok(())
+}
+
+#[test]
+fn waits_show_their_name(rt: HostRuntime) -> Result<(), Fail> {
+    let waits = Waits::<u32, u64>::new(rt.alloc());
+    assert!(rt; shows(rt.alloc(), &waits, "Waits"));
+    Ok(())
+}
+
+#[test]
+fn deadlines_show_their_name(rt: HostRuntime) -> Result<(), Fail> {
+    let deadlines = Deadlines::<u64>::new(rt.alloc());
+    assert!(rt; shows(rt.alloc(), &deadlines, "Deadlines"));
+    Ok(())
+}
+
+#[test]
+fn an_entry_shows_its_fields(rt: HostRuntime) -> Result<(), Fail> {
     let future = Future {
         asks: 5,
         phase: Phase::Registered(7),
@@ -45,14 +80,21 @@ fn values_show_their_fields(rt: HostRuntime) -> Result<(), Fail> {
         ticket: Ticket(3),
         future,
     };
-    assert_eq!(rt;
-        text(alloc, &entry)?.as_str(),
-        "Entry { ticket: Ticket(3), future: Future { asks: 5, phase: Registered(7) } }"
-    );
-    assert_eq!(rt; text(alloc, &Phase::<u64>::Told)?.as_str(), "Told");
-    assert_eq!(rt;
-        text(alloc, &Leftover::of(Some(1), None))?.as_str(),
-        "Leftover { displaced: Some(1), unused: None }"
+    let wanted = "Entry { ticket: Ticket(3), future: Future { asks: 5, phase: Registered(7) } }";
+    assert!(rt; shows(rt.alloc(), &entry, wanted));
+    Ok(())
+}
+
+#[test]
+fn values_show_their_fields(rt: HostRuntime) -> Result<(), Fail> {
+    assert!(rt; shows(rt.alloc(), &Phase::<u64>::Told, "Told"));
+    let leftover = Leftover::of(Some(1), None);
+    assert!(rt;
+        shows(
+            rt.alloc(),
+            &leftover,
+            "Leftover { displaced: Some(1), unused: None }"
+        )
     );
     Ok(())
 }
@@ -61,8 +103,8 @@ fn values_show_their_fields(rt: HostRuntime) -> Result<(), Fail> {
 fn clocks_as_in_the_rust_crate(rt: HostRuntime) -> Result<(), Fail> {
     let clock = MockClock::new();
     clock.set_time(50);
-    assert_eq!(rt; text(rt.alloc(), &clock)?.as_str(), "MockClock { now: 50 }");
+    assert!(rt; shows(rt.alloc(), &clock, "MockClock { now: 50 }"));
     let clock = StdClock::new(rt)?;
-    assert_eq!(rt; text(rt.alloc(), &clock)?.as_str(), "StdClock");
+    assert!(rt; shows(rt.alloc(), &clock, "StdClock"));
     Ok(())
 }
