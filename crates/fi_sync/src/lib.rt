@@ -19,6 +19,8 @@ mod state_broadcast;
 #[cfg(test)]
 mod tests;
 mod timer;
+#[cfg(test)]
+mod uses;
 mod wakes;
 
 pub use channel::{Channel, GenericChannel, UnbufferedChannel};

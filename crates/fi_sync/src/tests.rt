@@ -3,6 +3,8 @@ ghost use Rattle.futures.specs.Poll.{OnPending};
 ghost use Rattle.fi_channels.specs.Event.{IsSound, OwesNoWake};
 
 mod channel;
+mod channel_stream;
+mod contention;
 mod mutex;
 mod one_value;
 mod semaphore;
@@ -12,6 +14,7 @@ mod wakes;
 
 use crate::{ManualResetEvent, WaitForEventFuture};
 use fi_channels::EventState;
+use fi_parts::Fault;
 use futures::Future;
 use futures::executor::block_on;
 use futures::future::join;
@@ -43,6 +46,30 @@ fn poll_once<R: Wait + Abort, F: Future>(
     let polled = future.poll(&mut cx);
     cx.end(&polled);
     (polled, task)
+}
+
+// Polls a future that has to wait, and answers the task that did.
+fn waits<R: Wait + Abort, F: Future>(rt: &R, tasks: &Queue, future: &mut F) -> usize
+where
+    F::Output: Drop,
+    requires { F.can_poll future.old }
+{
+    let (polled, task) = poll_once(rt, tasks, future);
+    assert!(*rt; polled.is_pending());
+    task
+}
+
+// Whether a receive is ready with this value, or with None.
+fn receives<R: Wait + Abort, F: Future<Output = Result<Option<u64>, Fault>>>(
+    rt: &R,
+    tasks: &Queue,
+    receive: &mut F,
+    value: Option<u64>,
+) -> bool
+    requires { F.can_poll receive.old }
+{
+    let (polled, _) = poll_once(rt, tasks, receive);
+    polled == Poll::Ready(Ok(value))
 }
 
 // A wait that a task of its own has polled, and that task.

@@ -1,8 +1,9 @@
 //! The thread-safe channel of many values.
 
-use super::{are_woken, poll_once, sends, shares};
-use crate::Channel;
-use fi_channels::TryReceiveError;
+use super::{are_woken, poll_once, receives, sends, shares, waits};
+use crate::{Channel, UnbufferedChannel};
+use fi_channels::{SendFault, TryReceiveError};
+use futures::Future;
 use futures::executor::block_on;
 use futures::task::{Doorbell, Poll, Queue};
 use std::alloc::AllocGlobal;
@@ -13,25 +14,92 @@ use std::test::Fail;
 use std::thread;
 use std::thread::Threads;
 
+// Whether a send is ready, with its value accepted.
+fn is_sent<R: Wait + Abort, F: Future<Output = Result<(), SendFault<u64>>>>(
+    rt: &R,
+    tasks: &Queue,
+    send: &mut F,
+) -> bool
+    requires { F.can_poll send.old }
+{
+    let (polled, _) = poll_once(rt, tasks, send);
+    matches!(polled, Poll::Ready(Ok(())))
+}
+
+// Whether a send is told that the channel is closed, and gets this value back.
+fn is_sent_back<R: Wait + Abort, F: Future<Output = Result<(), SendFault<u64>>>>(
+    rt: &R,
+    tasks: &Queue,
+    send: &mut F,
+    value: u64,
+) -> bool
+    requires { F.can_poll send.old }
+{
+    match poll_once(rt, tasks, send).0 {
+        Poll::Ready(Err(SendFault::Closed(back))) => back == value,
+        _ => false,
+    }
+}
+
 #[test]
 fn channel_two_places(rt: HostRuntime) -> Result<(), Fail> {
     let tasks = &Queue::new(&rt, Doorbell::spinning())?;
     let channel = Channel::<u64, 2, HostRuntime>::new(rt.alloc(), rt);
-    let mut a = channel.send(1).ok().ok_or("memory")?;
-    let mut b = channel.send(2).ok().ok_or("memory")?;
-    let mut c = channel.send(3).ok().ok_or("memory")?;
-    let (polled, _) = poll_once(&rt, tasks, &mut a);
-    assert!(rt; matches!(polled, Poll::Ready(Ok(()))));
-    let (polled, _) = poll_once(&rt, tasks, &mut b);
-    assert!(rt; matches!(polled, Poll::Ready(Ok(()))));
-    let (polled, third) = poll_once(&rt, tasks, &mut c);
-    assert!(rt; polled.is_pending());
+    assert!(rt; channel.try_send(1).is_ok());
+    let mut b = channel.send(2).ok().expect(&rt, "memory");
+    assert!(rt; is_sent(&rt, tasks, &mut b));
+    let mut c = channel.send(3).ok().expect(&rt, "memory");
+    let third = waits(&rt, tasks, &mut c);
     assert!(rt; channel.try_receive() == Ok(1) && are_woken(&rt, tasks, &[third]));
     assert!(rt; channel.try_receive() == Ok(2) && channel.try_receive() == Ok(3));
     assert!(rt; channel.try_receive() == Err(TryReceiveError::Empty));
-    let (polled, _) = poll_once(&rt, tasks, &mut c);
-    assert!(rt; matches!(polled, Poll::Ready(Ok(()))) && c.is_terminated());
+    assert!(rt; is_sent(&rt, tasks, &mut c) && c.is_terminated());
     assert!(rt; are_woken(&rt, tasks, &[]));
+    Ok(())
+}
+
+#[test]
+fn channel_rendezvous(rt: HostRuntime) -> Result<(), Fail> {
+    let tasks = &Queue::new(&rt, Doorbell::spinning())?;
+    let channel = UnbufferedChannel::<u64, HostRuntime>::new(rt.alloc(), rt);
+    let mut a = channel.receive().expect(&rt, "memory");
+    let first = waits(&rt, tasks, &mut a);
+    let mut b = channel.receive().expect(&rt, "memory");
+    let second = waits(&rt, tasks, &mut b);
+    let mut send = channel.send(7).ok().expect(&rt, "memory");
+    let third = waits(&rt, tasks, &mut send);
+    assert!(rt; are_woken(&rt, tasks, &[first]));
+    drop(a);
+    assert!(rt; are_woken(&rt, tasks, &[second]));
+    assert!(rt; receives(&rt, tasks, &mut b, Some(7)) && are_woken(&rt, tasks, &[third]));
+    assert!(rt; is_sent(&rt, tasks, &mut send));
+    Ok(())
+}
+
+#[test]
+fn channel_close(rt: HostRuntime) -> Result<(), Fail> {
+    let tasks = &Queue::new(&rt, Doorbell::spinning())?;
+    let channel = Channel::<u64, 1, HostRuntime>::new(rt.alloc(), rt);
+    assert!(rt; channel.try_send(1).is_ok());
+    let mut b = channel.send(2).ok().expect(&rt, "memory");
+    let second = waits(&rt, tasks, &mut b);
+    let mut c = channel.send(3).ok().expect(&rt, "memory");
+    let third = waits(&rt, tasks, &mut c);
+    assert!(rt; channel.close().is_newly_closed() && are_woken(&rt, tasks, &[second, third]));
+    assert!(rt; is_sent_back(&rt, tasks, &mut b, 2) && b.cancel().is_none());
+    assert!(rt; c.cancel() == Some(3) && !channel.close().is_newly_closed());
+    Ok(())
+}
+
+#[test]
+fn channel_close_leaves_what_is_stored(rt: HostRuntime) -> Result<(), Fail> {
+    let tasks = &Queue::new(&rt, Doorbell::spinning())?;
+    let channel = Channel::<u64, 1, HostRuntime>::new(rt.alloc(), rt);
+    assert!(rt; channel.try_send(1).is_ok() && channel.close().is_newly_closed());
+    let mut a = channel.receive().expect(&rt, "memory");
+    assert!(rt; receives(&rt, tasks, &mut a, Some(1)));
+    let mut b = channel.receive().expect(&rt, "memory");
+    assert!(rt; receives(&rt, tasks, &mut b, None));
     Ok(())
 }
 
@@ -41,12 +109,10 @@ fn channel_cancelled_send(rt: HostRuntime) -> Result<(), Fail> {
     let tasks = &Queue::new(&rt, Doorbell::spinning())?;
     let channel = Channel::<u64, 1, HostRuntime>::new(rt.alloc(), rt);
     assert!(rt; channel.try_send(1).is_ok());
-    let mut b = channel.send(2).ok().ok_or("memory")?;
-    let (polled, second) = poll_once(&rt, tasks, &mut b);
-    assert!(rt; polled.is_pending());
-    let mut c = channel.send(3).ok().ok_or("memory")?;
-    let (polled, third) = poll_once(&rt, tasks, &mut c);
-    assert!(rt; polled.is_pending());
+    let mut b = channel.send(2).ok().expect(&rt, "memory");
+    let second = waits(&rt, tasks, &mut b);
+    let mut c = channel.send(3).ok().expect(&rt, "memory");
+    let third = waits(&rt, tasks, &mut c);
     assert!(rt; b.cancel() == Some(2) && b.is_terminated());
     assert!(rt; channel.try_receive() == Ok(1) && are_woken(&rt, tasks, &[second, third]));
     assert!(rt; c.cancel().is_none() && channel.try_receive() == Ok(3));

@@ -1,10 +1,10 @@
 //! The thread-safe channels of one value.
 
-use super::{are_woken, poll_once, sends, shares};
+use super::{are_woken, receives, sends, shares, waits};
 use crate::{OneshotBroadcastChannel, OneshotChannel};
 use fi_parts::{ChannelSendError, CloseStatus};
 use futures::executor::block_on;
-use futures::task::{Doorbell, Poll, Queue};
+use futures::task::{Doorbell, Queue};
 use std::alloc::AllocGlobal;
 use std::process::Abort;
 use std::random::RandomSource;
@@ -19,15 +19,11 @@ fn oneshot_one_value(rt: HostRuntime) -> Result<(), Fail> {
     let channel = OneshotChannel::<u64, HostRuntime>::new(rt.alloc(), rt);
     let mut a = channel.receive().expect(&rt, "memory");
     let mut b = channel.receive().expect(&rt, "memory");
-    let (polled, first) = poll_once(&rt, tasks, &mut a);
-    assert!(rt; polled.is_pending());
-    let (polled, second) = poll_once(&rt, tasks, &mut b);
-    assert!(rt; polled.is_pending());
+    let first = waits(&rt, tasks, &mut a);
+    let second = waits(&rt, tasks, &mut b);
     assert!(rt; channel.send(5).is_ok() && are_woken(&rt, tasks, &[first, second]));
-    let (polled, _) = poll_once(&rt, tasks, &mut b);
-    assert!(rt; polled == Poll::Ready(Ok(Some(5))) && b.is_terminated());
-    let (polled, _) = poll_once(&rt, tasks, &mut a);
-    assert!(rt; polled == Poll::Ready(Ok(None)));
+    assert!(rt; receives(&rt, tasks, &mut b, Some(5)) && b.is_terminated());
+    assert!(rt; receives(&rt, tasks, &mut a, None));
     assert!(rt; channel.send(7) == Err(ChannelSendError(7)));
     assert!(rt; channel.close() == CloseStatus::AlreadyClosed);
     Ok(())
@@ -38,20 +34,15 @@ fn broadcast_clones(rt: HostRuntime) -> Result<(), Fail> {
     let tasks = &Queue::new(&rt, Doorbell::spinning())?;
     let channel = OneshotBroadcastChannel::<u64, HostRuntime>::new(rt.alloc(), rt);
     let mut a = channel.receive().expect(&rt, "memory");
-    let (polled, first) = poll_once(&rt, tasks, &mut a);
-    assert!(rt; polled.is_pending());
+    let first = waits(&rt, tasks, &mut a);
     let mut b = channel.receive().expect(&rt, "memory");
-    let (polled, second) = poll_once(&rt, tasks, &mut b);
-    assert!(rt; polled.is_pending());
+    let second = waits(&rt, tasks, &mut b);
     assert!(rt; channel.send(5).is_ok() && are_woken(&rt, tasks, &[first, second]));
-    let (polled, _) = poll_once(&rt, tasks, &mut a);
-    assert!(rt; polled == Poll::Ready(Ok(Some(5))));
-    let (polled, _) = poll_once(&rt, tasks, &mut b);
-    assert!(rt; polled == Poll::Ready(Ok(Some(5))));
+    assert!(rt; receives(&rt, tasks, &mut a, Some(5)));
+    assert!(rt; receives(&rt, tasks, &mut b, Some(5)));
     assert!(rt; channel.close() == CloseStatus::AlreadyClosed);
     let mut c = channel.receive().expect(&rt, "memory");
-    let (polled, _) = poll_once(&rt, tasks, &mut c);
-    assert!(rt; polled == Poll::Ready(Ok(Some(5))));
+    assert!(rt; receives(&rt, tasks, &mut c, Some(5)));
     assert!(rt; channel.send(6) == Err(ChannelSendError(6)));
     Ok(())
 }

@@ -1,6 +1,6 @@
 //! The thread-safe timer.
 
-use super::{are_woken, poll_once, sends, shares};
+use super::{are_woken, poll_once, sends, shares, waits};
 use crate::TimerService;
 use fi_parts::Clock;
 use futures::executor::block_on;
@@ -33,18 +33,18 @@ fn timer_expirations(rt: HostRuntime) -> Result<(), Fail> {
     let time = &AtomicU64::new(200);
     let timer = TimerService::new(rt.alloc(), rt, Shown { time });
     let mut a = timer.deadline(999).expect(&rt, "memory");
-    let (polled, _) = poll_once(&rt, tasks, &mut a);
-    assert!(rt; polled.is_pending() && timer.next_expiration() == Some(999));
+    waits(&rt, tasks, &mut a);
+    assert!(rt; timer.next_expiration() == Some(999));
     let mut b = timer
         .delay(Duration::from_millis(300))
         .expect(&rt, "memory");
-    let (polled, second) = poll_once(&rt, tasks, &mut b);
-    assert!(rt; polled.is_pending() && timer.next_expiration() == Some(500));
+    let second = waits(&rt, tasks, &mut b);
+    assert!(rt; timer.next_expiration() == Some(500));
     let mut c = timer
         .delay(Duration::from_millis(500))
         .expect(&rt, "memory");
-    let (polled, third) = poll_once(&rt, tasks, &mut c);
-    assert!(rt; polled.is_pending() && timer.next_expiration() == Some(500));
+    let third = waits(&rt, tasks, &mut c);
+    assert!(rt; timer.next_expiration() == Some(500));
     time.store(500, Ordering::SeqCst);
     timer.check_expirations();
     assert!(rt; are_woken(&rt, tasks, &[second]));
@@ -56,6 +56,23 @@ fn timer_expirations(rt: HostRuntime) -> Result<(), Fail> {
     time.store(700, Ordering::SeqCst);
     timer.check_expirations();
     assert!(rt; are_woken(&rt, tasks, &[third]));
+    Ok(())
+}
+
+// A delay past the last moment ends there.
+#[test]
+fn timer_saturates(rt: HostRuntime) -> Result<(), Fail> {
+    let tasks = &Queue::new(&rt, Doorbell::spinning())?;
+    let time = &AtomicU64::new(u64::MAX - 5);
+    let timer = TimerService::new(rt.alloc(), rt, Shown { time });
+    let mut wait = timer.delay(Duration::from_millis(10)).expect(&rt, "memory");
+    let task = waits(&rt, tasks, &mut wait);
+    assert!(rt; timer.next_expiration() == Some(u64::MAX));
+    time.store(u64::MAX, Ordering::SeqCst);
+    timer.check_expirations();
+    assert!(rt; are_woken(&rt, tasks, &[task]));
+    let (polled, _) = poll_once(&rt, tasks, &mut wait);
+    assert!(rt; polled == Poll::Ready(Ok(())));
     Ok(())
 }
 
