@@ -1,5 +1,6 @@
 -- One block that is not in the list comes or goes, with its slot.
-use Rattle.std.proofs.Common.{◌≡◌, ◌≢◌, ℕ, true, false, slice_index_or, List, [], ◌∷◌, map, Option, Some, None, IsSome, refl, sym, ap, subst, ◌∙◌, inl, inr}
+use Rattle.std.proofs.Common.{◌≡◌, ◌≢◌, ℕ, true, false, slice_index_or, List, [], ◌∷◌, map, Option, Some, None, IsSome, refl, sym}
+use Rattle.std.proofs.Common.{ap, subst, ◌∙◌, inl, inr}
 use Rattle.std.proofs.lemmas.Bool.{cases_eq, both_ways, true≢false, or_parts}
 use Rattle.std.specs.Cmp.{nat_cmp_total}
 use Rattle.std.specs.FinMap as fin
@@ -25,7 +26,8 @@ some_same e = cc
 
 module _ {T : Type 0} where
   -- only the block at p and the slot k change
-  pub record Change (store store' : Slab (BlockPtr T)) (s t : LinkedBlocks T) (k : ℕ) (p : BlockPtr T) (o : Option (BlockPtr T)) : Type 0 where
+  pub record Change (store store' : Slab (BlockPtr T)) (s t : LinkedBlocks T) (k : ℕ) (p : BlockPtr T) (o : Option (BlockPtr T)) : Type
+      0 where
     pub others : (q : BlockPtr T) → q ≢ p → block_at t q ≡ block_at s q
     pub slab : Updates store store' k o
     pub was : (q : BlockPtr T) → get store k ≡ Some q → q ≡ p
@@ -38,7 +40,8 @@ module _ {T : Type 0} where
     pub before : is_linked (links_at s p) ≡ false
     pub after : is_linked (links_at t p) ≡ false
 
-  module _ (store store' : Slab (BlockPtr T)) (s t : LinkedBlocks T) (k : ℕ) (p : BlockPtr T) (o : Option (BlockPtr T)) (sound : IsSound store s) (change : Change store store' s t k p o) where
+  module _ (store store' : Slab (BlockPtr T)) (s t : LinkedBlocks T) (k : ℕ) (p : BlockPtr T) (o : Option (BlockPtr T))
+      (sound : IsSound store s) (change : Change store store' s t k p o) where
     pub stored : IsStored (data_of t) store'
     stored =
         record {
@@ -49,7 +52,8 @@ module _ {T : Type 0} where
                     subst (λ z. slot_in (data_of t z) ≡ Some j) (sym now.0) (now.1 ∙ ap Some (sym same))
                 | inr ne ↦
                     let old = sound.stored.held j q (sym (change.slab.others j ne) ∙ at) in
-                    ap (λ b. slot_in (data_in b)) (change.others q (λ e. ne (change.was_slot j (subst (λ z. slot_in (data_of s z) ≡ Some j) e old)))) ∙ old
+                    ap (λ b. slot_in (data_in b)) (change.others q (λ e. ne (change.was_slot j
+                    (subst (λ z. slot_in (data_of s z) ≡ Some j) e old)))) ∙ old
               ];
           stored = λ q j e.
               elim (cases_alike q p) [
@@ -75,7 +79,8 @@ module _ {T : Type 0} where
         from : (r : Option (BlockPtr T)) → get store j ≡ r → item_by (data_of t) r ≡ item_by (data_of s) r
         from None e = refl
         from (Some q) e =
-            ap (λ b. item_in (data_in b)) (change.others q (λ same. ne (change.was_slot j (subst (λ z. slot_in (data_of s z) ≡ Some j) same (sound.stored.held j q e)))))
+            ap (λ b. item_in (data_in b)) (change.others q (λ same. ne (change.was_slot j
+            (subst (λ z. slot_in (data_of s z) ≡ Some j) same (sound.stored.held j q e)))))
 
     slots_kept : (xs : List (BlockPtr T)) → names p xs ≡ false → map (slot_by (data_of t)) xs ≡ map (slot_by (data_of s)) xs
     slots_kept [] off = refl
@@ -85,22 +90,26 @@ module _ {T : Type 0} where
         (λ i. slot_by (λ q. data_in (change.others x ne i)) x ∷ slots_kept xs parts.1 i)
 
     pub order_after : map (slot_by (data_of t)) (chain_of t) ≡ map (slot_by (data_of s)) (chain_of s)
-    order_after = ap (map (slot_by (data_of t))) (order-kept s t sound.chained kept) ∙ slots_kept (chain_of s) (sym (sound.chained.flags p) ∙ change.before)
+    order_after = ap (map (slot_by (data_of t))) (order-kept s t sound.chained kept) ∙ slots_kept (chain_of s)
+        (sym (sound.chained.flags p) ∙ change.before)
 
-    pub view_inserted : (v : T) → item_by (data_of t) (get store' k) ≡ Some v → view_of store' t ≡ with_live (view_of store s) (fin.insert (live_by (data_of s) store.slots) k v)
+    pub view_inserted : (v : T) → item_by (data_of t) (get store' k) ≡ Some v → view_of store' t
+        ≡ with_live (view_of store s) (fin.insert (live_by (data_of s) store.slots) k v)
     view_inserted v here = λ i. record { live = lives i; order = order_after i; visits = change.visits i }
       where
         each : (q : ℕ) → fin.get (live_by (data_of t) store'.slots) q ≡ fin.get (fin.insert (live_by (data_of s) store.slots) k v) q
         each q =
             elim (cases_eq q k) [
               | inl same ↦ rw same (get-live_by (data_of t) store' k ∙ here ∙ sym (get-insert_same _ k v))
-              | inr ne ↦ get-live_by (data_of t) store' q ∙ item_other q ne ∙ sym (get-live_by (data_of s) store q) ∙ sym (get-insert_other _ k v q ne)
+              | inr ne ↦ get-live_by (data_of t) store' q ∙ item_other q ne ∙ sym (get-live_by (data_of s) store q) ∙ sym
+                  (get-insert_other _ k v q ne)
             ]
 
         lives : live_by (data_of t) store'.slots ≡ fin.insert (live_by (data_of s) store.slots) k v
         lives = fin.same_map nat_cmp_total fin.nat_cmp-IsAntisymmetric _ _ each
 
-    pub view_removed : item_by (data_of t) (get store' k) ≡ None → view_of store' t ≡ with_live (view_of store s) (fin.remove (live_by (data_of s) store.slots) k)
+    pub view_removed : item_by (data_of t) (get store' k) ≡ None → view_of store' t
+        ≡ with_live (view_of store s) (fin.remove (live_by (data_of s) store.slots) k)
     view_removed here = λ i. record { live = lives i; order = order_after i; visits = change.visits i }
       where
         each : (q : ℕ) → fin.get (live_by (data_of t) store'.slots) q ≡ fin.get (fin.remove (live_by (data_of s) store.slots) k) q
@@ -119,7 +128,8 @@ module _ {T : Type 0} where
   off_alike q p ne = ne_alike p q (λ e. ne (sym e))
 
   -- a block that was taken
-  pub Change-freed : (store store' : Slab (BlockPtr T)) (s t : LinkedBlocks T) (k : ℕ) (p : BlockPtr T) → IsSound store s → get store k ≡ Some p → Updates store store' k None → t.blocks.owner.blocks ≡ without_at s.blocks.owner.blocks p.ptr → block_at t p ≡ None
+  pub Change-freed : (store store' : Slab (BlockPtr T)) (s t : LinkedBlocks T) (k : ℕ) (p : BlockPtr T) → IsSound store s → get store k
+      ≡ Some p → Updates store store' k None → t.blocks.owner.blocks ≡ without_at s.blocks.owner.blocks p.ptr → block_at t p ≡ None
       → SameList s t → is_linked (links_at s p) ≡ false → Change store store' s t k p None
   Change-freed store store' s t k p sound at updates blocks gone rest before =
       record {
@@ -137,7 +147,9 @@ module _ {T : Type 0} where
       }
 
   -- a block that was put
-  pub Change-claimed : (store store' : Slab (BlockPtr T)) (s t : LinkedBlocks T) (k : ℕ) (p : BlockPtr T) (b : Block T) → IsSound store s → get store k ≡ None → Updates store store' k (Some p) → t.blocks.owner.blocks ≡ (p.ptr, b) ∷ s.blocks.owner.blocks → block_at s p ≡ None
+  pub Change-claimed : (store store' : Slab (BlockPtr T)) (s t : LinkedBlocks T) (k : ℕ) (p : BlockPtr T) (b : Block T)
+      → IsSound store s → get store k ≡ None → Updates store store' k (Some p) → t.blocks.owner.blocks
+      ≡ (p.ptr, b) ∷ s.blocks.owner.blocks → block_at s p ≡ None
       → SameList s t → b.links ≡ loose → b.slot ≡ k → Change store store' s t k p (Some p)
   Change-claimed store store' s t k p b sound vacant updates blocks fresh rest links slot =
       let here : block_at t p ≡ Some b = ap (λ bs. at_ptr bs p.ptr) blocks ∙ at-cons_same p.ptr b s.blocks.owner.blocks in
@@ -155,11 +167,16 @@ module _ {T : Type 0} where
         after = ap (λ b. is_linked (links_in b)) here ∙ ap (λ l. l.linked) links;
       }
 
-  pub sound_slots : (store store' : Slab (BlockPtr T)) (s : LinkedBlocks T) → store'.slots ≡ store.slots → IsSound store s → IsSound store' s
+  pub sound_slots : (store store' : Slab (BlockPtr T)) (s : LinkedBlocks T) → store'.slots ≡ store.slots → IsSound store s
+      → IsSound store' s
   sound_slots store store' s e sound =
       let at : (k : ℕ) → get store' k ≡ get store k = λ k. ap (λ l. slice_index_or l k None) e in
       record {
-        stored = record { held = λ k p here. sound.stored.held k p (sym (at k) ∙ here); stored = λ p k here. at k ∙ sound.stored.stored p k here };
+        stored = record {
+          held = λ k p here. sound.stored.held k p (sym (at k) ∙ here);
+          stored =
+              λ p k here. at k ∙ sound.stored.stored p k here;
+        };
         chained = sound.chained;
       }
 
@@ -169,9 +186,17 @@ module _ {T : Type 0} where
 
   linked_empty : (s : LinkedBlocks T) → s.blocks.owner.blocks ≡ [] → s.first ≡ None → s.last ≡ None → Linked (links_at s) s.first s.last []
   linked_empty s none first last =
-      record { chain = Chain-nil (links_at s); first_is = first; last_is = last; flags = λ k. ap (λ o. is_linked (links_in o)) (no_block s none k); distinct = tt }
+      record {
+        chain = Chain-nil (links_at s);
+        first_is = first;
+        last_is = last;
+        flags =
+            λ k. ap (λ o. is_linked (links_in o)) (no_block s none k);
+        distinct = tt;
+      }
 
-  pub sound_empty : (store : Slab (BlockPtr T)) (s : LinkedBlocks T) → store.slots ≡ [] → s.blocks.owner.blocks ≡ [] → s.first ≡ None → s.last ≡ None → IsSound store s
+  pub sound_empty : (store : Slab (BlockPtr T)) (s : LinkedBlocks T) → store.slots ≡ [] → s.blocks.owner.blocks ≡ [] → s.first ≡ None
+      → s.last ≡ None → IsSound store s
   sound_empty store s slots none first last =
       record {
         stored = record {
@@ -181,7 +206,8 @@ module _ {T : Type 0} where
         chained = chained-is s [] (linked_empty s none first last);
       }
 
-  pub order_empty : (store : Slab (BlockPtr T)) (s : LinkedBlocks T) → store.slots ≡ [] → s.blocks.owner.blocks ≡ [] → s.first ≡ None → s.last ≡ None → map (slot_by (data_of s)) (chain_of s) ≡ []
+  pub order_empty : (store : Slab (BlockPtr T)) (s : LinkedBlocks T) → store.slots ≡ [] → s.blocks.owner.blocks ≡ [] → s.first ≡ None
+      → s.last ≡ None → map (slot_by (data_of s)) (chain_of s) ≡ []
   order_empty store s slots none first last = ap (map (slot_by (data_of s))) (order-is s [] (linked_empty s none first last))
 
   pub live_empty : (store : Slab (BlockPtr T)) (s : LinkedBlocks T) → store.slots ≡ [] → live_by (data_of s) store.slots ≡ fin.empty
@@ -190,21 +216,26 @@ module _ {T : Type 0} where
 
   -- the item under one slot is written
 
-  item-here : (s : LinkedBlocks T) (p : BlockPtr T) (o : Option (Block T)) (w : T) → IsSome (block_at s p) → IsSome o → (item_in (data_of (reitemed s p o w) p) ≡ Some w) × (slot_in (data_of (reitemed s p o w) p) ≡ slot_in (data_in o)) × (links_at (reitemed s p o w) p ≡ links_in o)
+  item-here : (s : LinkedBlocks T) (p : BlockPtr T) (o : Option (Block T)) (w : T) → IsSome (block_at s p) → IsSome o
+      → (item_in (data_of (reitemed s p o w) p) ≡ Some w) × (slot_in (data_of (reitemed s p o w) p) ≡ slot_in (data_in o))
+      × (links_at (reitemed s p o w) p ≡ links_in o)
   item-here s p None w live some_o = absurd (true≢false (sym some_o))
   item-here s p (Some b) w live some_o =
       let at = at-with_same s.blocks.owner.blocks p.ptr (record b { item = w }) live in
       (ap (λ o. item_in (data_in o)) at, ap (λ o. slot_in (data_in o)) at, ap links_in at)
 
-  item-elsewhere : (s : LinkedBlocks T) (p : BlockPtr T) (o : Option (Block T)) (w : T) (q : BlockPtr T) → q ≢ p → block_at (reitemed s p o w) q ≡ block_at s q
+  item-elsewhere : (s : LinkedBlocks T) (p : BlockPtr T) (o : Option (Block T)) (w : T) (q : BlockPtr T) → q ≢ p
+      → block_at (reitemed s p o w) q ≡ block_at s q
   item-elsewhere s p None w q ne = refl
   item-elsewhere s p (Some b) w q ne = at-with_other s.blocks.owner.blocks p.ptr (record b { item = w }) q.ptr (off_alike q p ne)
 
-  ends_same : (s : LinkedBlocks T) (p : BlockPtr T) (o : Option (Block T)) (w : T) → ((reitemed s p o w).first ≡ s.first) × ((reitemed s p o w).last ≡ s.last) × ((reitemed s p o w).blocks.visits.count ≡ s.blocks.visits.count)
+  ends_same : (s : LinkedBlocks T) (p : BlockPtr T) (o : Option (Block T)) (w : T) → ((reitemed s p o w).first ≡ s.first)
+      × ((reitemed s p o w).last ≡ s.last) × ((reitemed s p o w).blocks.visits.count ≡ s.blocks.visits.count)
   ends_same s p None w = (refl, refl, refl)
   ends_same s p (Some b) w = (refl, refl, refl)
 
-  module _ (store : Slab (BlockPtr T)) (s : LinkedBlocks T) (k : ℕ) (p : BlockPtr T) (w : T) (sound : IsSound store s) (at : get store k ≡ Some p) where
+  module _ (store : Slab (BlockPtr T)) (s : LinkedBlocks T) (k : ℕ) (p : BlockPtr T) (w : T) (sound : IsSound store s)
+      (at : get store k ≡ Some p) where
     abbrev after_item : LinkedBlocks T
     after_item = with_item s p w
 
@@ -233,7 +264,11 @@ module _ {T : Type 0} where
     pub sound_item : IsSound store after_item
     sound_item =
         record {
-          stored = record { held = λ j q e. slots_same q ∙ sound.stored.held j q e; stored = λ q j e. sound.stored.stored q j (sym (slots_same q) ∙ e) };
+          stored = record {
+            held = λ j q e. slots_same q ∙ sound.stored.held j q e;
+            stored =
+                λ q j e. sound.stored.stored q j (sym (slots_same q) ∙ e);
+          };
           chained = chained-kept s after_item sound.chained kept_item;
         }
 
@@ -257,13 +292,17 @@ module _ {T : Type 0} where
             from : (r : Option (BlockPtr T)) → get store j ≡ r → item_by (data_of after_item) r ≡ item_by (data_of s) r
             from None e = refl
             from (Some q) e =
-                ap (λ o. item_in (data_in o)) (item-elsewhere s p (block_at s p) w q (λ same. ne (some_same (sym (sound.stored.held j q e) ∙ ap (λ z. slot_in (data_of s z)) same ∙ sound.stored.held k p at))))
+                ap (λ o. item_in (data_in o)) (item-elsewhere s p (block_at s p) w q
+                (λ same. ne (some_same (sym (sound.stored.held j q e) ∙ ap (λ z. slot_in (data_of s z)) same ∙ sound.stored.held k p
+                at))))
 
         each : (q : ℕ) → fin.get (live_by (data_of after_item) store.slots) q ≡ fin.get (fin.insert (live_by (data_of s) store.slots) k w) q
         each q =
             elim (cases_eq q k) [
-              | inl same ↦ rw same (get-live_by (data_of after_item) store k ∙ ap (item_by (data_of after_item)) at ∙ (item-here s p (block_at s p) w live_p live_p).0 ∙ sym (get-insert_same _ k w))
-              | inr ne ↦ get-live_by (data_of after_item) store q ∙ item_same q ne ∙ sym (get-live_by (data_of s) store q) ∙ sym (get-insert_other _ k w q ne)
+              | inl same ↦ rw same (get-live_by (data_of after_item) store k ∙ ap (item_by (data_of after_item)) at ∙
+                  (item-here s p (block_at s p) w live_p live_p).0 ∙ sym (get-insert_same _ k w))
+              | inr ne ↦ get-live_by (data_of after_item) store q ∙ item_same q ne ∙ sym (get-live_by (data_of s) store q) ∙ sym
+                  (get-insert_other _ k w q ne)
             ]
 
         lives : live_by (data_of after_item) store.slots ≡ fin.insert (live_by (data_of s) store.slots) k w

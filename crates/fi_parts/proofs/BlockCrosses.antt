@@ -22,7 +22,10 @@ use Rattle.core.specs.declared.alloc.Allocator.{Ghosts}
 module _ (B : RattleType) where
   own-Keyless : IsSend B → (bs : List (Ptr × B.Denot)) → Keyless (blocks_own B bs)
   own-Keyless s [] = tt
-  own-Keyless s (b ∷ bs) = ((lies B s b.0 b.1, frees.frees (record { memory = record { seal = tt } }) (bare (lone B.mir)) b.0), own-Keyless s bs)
+  own-Keyless s (b ∷ bs) = (
+    (lies B s b.0 b.1, frees.frees (record { memory = record { seal = tt } }) (bare (lone B.mir)) b.0),
+    own-Keyless s bs,
+  )
 
   lent-Common : IsSync B → (bs : List (Ptr × B.Denot)) → Common (blocks_lent B bs)
   lent-Common y [] κ = tt
@@ -32,11 +35,16 @@ module _ (T : RattleType) where
   pub BlockOwner-send : IsSend T → IsSend (owner.the_row T)
   BlockOwner-send s =
       let O = owner.the_type T in let all : AllSend (fields O) = (search sendable, tt) in
-      owning_send O all (λ d. own-Keyless (block.the_row T) (the_send T s) d.blocks) (λ k. quiet (to O) (exits_of k (fields O)) ((struct_send (shape O) all).leaving k))
+      owning_send O all (λ d. own-Keyless (block.the_row T) (the_send T s) d.blocks)
+      (λ k. quiet (to O) (exits_of k (fields O)) ((struct_send (shape O) all).leaving k))
 
   pub BlockOwner-sync : IsSync T → IsSync (owner.the_row T)
   BlockOwner-sync y = let O = owner.the_type T in record {
-    shared = λ d b o κ. ((struct_sync (shape O) (search sendable, tt)).shared (to O d) b o κ, lent-Common (block.the_row T) (the_sync T y) d.blocks κ);
+    shared = λ d b o κ. (
+      (struct_sync (shape O) (search sendable, tt)).shared (to O d) b o κ,
+      lent-Common (block.the_row T)
+          (the_sync T y) d.blocks κ,
+    );
   }
 
 room : (τ : Ty) (p : Ptr) → Keyless (room_for τ p)

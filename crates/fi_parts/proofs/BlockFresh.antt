@@ -39,7 +39,8 @@ module _ (T : RattleType) where
 
 module _ {M : Type 1} {𝓤 : Ura M} {𝓛 : Logic 𝓤} {K : Type 0} {Γ : List (Item 𝓤)} {G : Goal 𝓤 𝓛.H} where
   -- a fact that two entries show is learned, and they stay
-  pub knows : K → {i j : Item 𝓤} (φ : Type 0) → ent 𝓤 (sep 𝓤 (mean 𝓛 i) (mean 𝓛 j)) (fact 𝓤 φ) → (φ → Seq K 𝓛 (i ∷ j ∷ Γ) G) → Seq K 𝓛 (i ∷ j ∷ Γ) G
+  pub knows : K → {i j : Item 𝓤} (φ : Type 0) → ent 𝓤 (sep 𝓤 (mean 𝓛 i) (mean 𝓛 j)) (fact 𝓤 φ) → (φ → Seq K 𝓛 (i ∷ j ∷ Γ) G)
+      → Seq K 𝓛 (i ∷ j ∷ Γ) G
   knows t {i} {j} φ h k =
       let shown : Seq K 𝓛 (i ∷ j ∷ Γ) (prop (fact 𝓤 φ)) = use2 𝓛 (raw (fact 𝓤 φ)) h $ keep t (0 ∷ []) $ done t in
       record { prf = fact_use 𝓤 φ shown.prf (λ x. (k x).prf) }
@@ -49,24 +50,34 @@ module _ (T : RattleType) {M : Type 1} {𝓤 : Ura M} (𝓛 : Logic 𝓤) (𝓜 
 
   room_of : (p : Ptr) (x : (B T).Denot) (b o : ℕ) → ent 𝓤 (sem 𝓛 (part_at (B T) full_share x b o)) (H.room (lone (B T).mir) b o)
   room_of p x b o = qed 𝓛 (‵ (part_at (B T) full_share x b o) ∷ []) ∵
-      use1 𝓛 (some (λ (v : Val). ‵ (fat full_share (lone (B T).mir) b o v) ⊛ ‵ ((B T).own_val x (v ∷ [])))) (part_out 𝓛 (B T) refl full_share x b o) $ pick ! (λ v. split ! $ keep ! (0 ∷ []) $ by ! (𝓛.laws.at_room (lone (B T).mir) b o v))
+      use1 𝓛 (some (λ (v : Val). ‵ (fat full_share (lone (B T).mir) b o v) ⊛ ‵ ((B T).own_val x (v ∷ []))))
+      (part_out 𝓛 (B T) refl full_share x b o) $ pick ! (λ v. split ! $ keep ! (0 ∷ []) $ by ! (𝓛.laws.at_room (lone (B T).mir) b o v))
 
-  clash : (p : Ptr) (x y : (B T).Denot) → ent 𝓤 (sep 𝓤 (sem 𝓛 (lies_at (B T) full_share p x)) (sem 𝓛 (lies_at (B T) full_share p y))) (never 𝓤)
+  clash : (p : Ptr) (x y : (B T).Denot) → ent 𝓤 (sep 𝓤 (sem 𝓛 (lies_at (B T) full_share p x)) (sem 𝓛 (lies_at (B T) full_share p y)))
+      (never 𝓤)
   clash (block_ptr b o) x y =
-      qed 𝓛 (‵ (part_at (B T) full_share x b o) ∷ ‵ (part_at (B T) full_share y b o) ∷ []) ∵ use1 𝓛 (‵ (froom (lone (B T).mir) b o)) (room_of (block_ptr b o) x b o) $ move ! (1 ∷ []) $
-      use1 𝓛 (‵ (froom (lone (B T).mir) b o)) (room_of (block_ptr b o) y b o) $ by ! (𝓜.room-room (lone (B T).mir) (lone (B T).mir) b o o o (start T o) (start T o))
+      qed 𝓛 (‵ (part_at (B T) full_share x b o) ∷ ‵ (part_at (B T) full_share y b o) ∷ []) ∵ use1 𝓛 (‵ (froom (lone (B T).mir) b o))
+      (room_of (block_ptr b o) x b o) $ move ! (1 ∷ []) $
+      use1 𝓛 (‵ (froom (lone (B T).mir) b o)) (room_of (block_ptr b o) y b o) $ by !
+      (𝓜.room-room (lone (B T).mir) (lone (B T).mir) b o o o (start T o) (start T o))
   clash null_ptr x y = fst∗ 𝓤 (never 𝓤) (never 𝓤)
 
-  apart : (p : Ptr) (x : (B T).Denot) (n : Ptr × (B T).Denot) → ent 𝓤 (sep 𝓤 (sem 𝓛 (lies_at (B T) full_share p x)) (sem 𝓛 (lies_at (B T) full_share n.0 n.1))) (fact 𝓤 (same_ptr n.0 p ≡ false))
-  apart p x n = (elim (same_ptr n.0 p) as (λ y. same_ptr n.0 p ≡ y → ent 𝓤 (sep 𝓤 (sem 𝓛 (lies_at (B T) full_share p x)) (sem 𝓛 (lies_at (B T) full_share n.0 n.1))) (fact 𝓤 (same_ptr n.0 p ≡ false))) [
-    | true ↦ λ e. via 𝓤 (never 𝓤) (subst (λ (s : Ptr). ent 𝓤 (sep 𝓤 (sem 𝓛 (lies_at (B T) full_share p x)) (sem 𝓛 (lies_at (B T) full_share s n.1))) (never 𝓤)) (sym (same_ptr_eq n.0 p e)) (clash p x n.1)) (never_e 𝓤 _)
-    | false ↦ λ e. fact_i 𝓤 (same_ptr n.0 p ≡ false) _ e
-  ]) refl
+  apart : (p : Ptr) (x : (B T).Denot) (n : Ptr × (B T).Denot) → ent 𝓤
+      (sep 𝓤 (sem 𝓛 (lies_at (B T) full_share p x)) (sem 𝓛 (lies_at (B T) full_share n.0 n.1))) (fact 𝓤 (same_ptr n.0 p ≡ false))
+  apart p x n = (elim (same_ptr n.0 p) as (λ y. same_ptr n.0 p ≡ y
+      → ent 𝓤 (sep 𝓤 (sem 𝓛 (lies_at (B T) full_share p x)) (sem 𝓛 (lies_at (B T) full_share n.0 n.1)))
+      (fact 𝓤 (same_ptr n.0 p ≡ false))) [
+        | true ↦ λ e. via 𝓤 (never 𝓤) (subst (λ (s : Ptr). ent 𝓤 (sep 𝓤 (sem 𝓛 (lies_at (B T) full_share p x))
+            (sem 𝓛 (lies_at (B T) full_share s n.1))) (never 𝓤)) (sym (same_ptr_eq n.0 p e)) (clash p x n.1)) (never_e 𝓤 _)
+        | false ↦ λ e. fact_i 𝓤 (same_ptr n.0 p ≡ false) _ e
+      ]) refl
 
-  pub fresh : (p : Ptr) (x : (B T).Denot) (bs : List (Ptr × (B T).Denot)) → ent 𝓤 (sep 𝓤 (sem 𝓛 (lies_at (B T) full_share p x)) (sem 𝓛 (blocks_own (B T) bs))) (fact 𝓤 (at_ptr bs p ≡ None))
+  pub fresh : (p : Ptr) (x : (B T).Denot) (bs : List (Ptr × (B T).Denot))
+      → ent 𝓤 (sep 𝓤 (sem 𝓛 (lies_at (B T) full_share p x)) (sem 𝓛 (blocks_own (B T) bs))) (fact 𝓤 (at_ptr bs p ≡ None))
   unfolding at_ptr
   fresh p x [] = fact_i 𝓤 (None ≡ None) _ refl
   fresh p x (n ∷ bs) =
-      qed 𝓛 (‵ (lies_at (B T) full_share p x) ∷ ‵ (blocks_own (B T) (n ∷ bs)) ∷ []) ∵ move ! (1 ∷ []) $ fsplit ! $ fsplit ! $ move ! (3 ∷ 0 ∷ []) $
+      qed 𝓛 (‵ (lies_at (B T) full_share p x) ∷ ‵ (blocks_own (B T) (n ∷ bs)) ∷ []) ∵ move ! (1 ∷ []) $ fsplit ! $ fsplit ! $ move !
+      (3 ∷ 0 ∷ []) $
       knows ! (same_ptr n.0 p ≡ false) (apart p x n) (λ here. move ! (0 ∷ 3 ∷ []) $ knows ! (at_ptr bs p ≡ None) (fresh p x bs) (λ rest.
       by ! (fact_i 𝓤 (at_ptr (n ∷ bs) p ≡ None) _ (cond-false (same_ptr n.0 p) _ _ here ∙ rest))))

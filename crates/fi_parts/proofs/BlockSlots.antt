@@ -1,5 +1,6 @@
 -- The blocks as live slots and a list of slots.
-use Rattle.std.proofs.Common.{◌≡◌, ℕ, zero, suc, ◌+◌, ◌<◌, true, false, eqb, ◌||◌, List, [], ◌∷◌, map, get_or, Option, Some, None, is_some, IsSome, refl, sym, ap, subst, ◌∙◌, inl, inr, arith, zero-add}
+use Rattle.std.proofs.Common.{◌≡◌, ℕ, zero, suc, ◌+◌, ◌<◌, true, false, eqb, ◌||◌, List, [], ◌∷◌, map, get_or, Option, Some, None}
+use Rattle.std.proofs.Common.{is_some, IsSome, refl, sym, ap, subst, ◌∙◌, inl, inr, arith, zero-add}
 use Rattle.std.proofs.lemmas.Bool.{eq-eqb, ne_eqb, true≢false, or_left, or_right, or_from}
 use Rattle.std.specs.Ordering.{nat_cmp}
 use Rattle.std.specs.FinMap as fin
@@ -47,14 +48,17 @@ module _ {T : Type 0} where
       let shift : k + suc i ≡ suc k + i = omega arith in
       get-insert_other _ k v (k + suc i) (λ same. omega arith) ∙ rw shift (items_at (suc k) rest i)
 
-  get_or-each : (f : Option (BlockPtr T) → Option T) → f None ≡ None → (slots : List (Option (BlockPtr T))) (i : ℕ) → get_or (map f slots) i None ≡ f (get_or slots i None)
+  get_or-each : (f : Option (BlockPtr T) → Option T) → f None ≡ None → (slots : List (Option (BlockPtr T))) (i : ℕ)
+      → get_or (map f slots) i None ≡ f (get_or slots i None)
   get_or-each f none [] i = sym none
   get_or-each f none (o ∷ rest) zero = refl
   get_or-each f none (o ∷ rest) (suc i) = get_or-each f none rest i
 
   -- the item under a slot
-  pub get-live_by : (d : BlockPtr T → Option (T × ℕ)) (store : Slab (BlockPtr T)) (q : ℕ) → fin.get (live_by d store.slots) q ≡ item_by d (get store q)
-  get-live_by d store q = ap (fin.get (live_by d store.slots)) (sym (zero-add q)) ∙ items_at 0 (map (item_by d) store.slots) q ∙ get_or-each (item_by d) refl store.slots q
+  pub get-live_by : (d : BlockPtr T → Option (T × ℕ)) (store : Slab (BlockPtr T)) (q : ℕ) → fin.get (live_by d store.slots) q
+      ≡ item_by d (get store q)
+  get-live_by d store q = ap (fin.get (live_by d store.slots)) (sym (zero-add q)) ∙ items_at 0 (map (item_by d) store.slots) q ∙
+      get_or-each (item_by d) refl store.slots q
 
   pub slot_or-of : (o : Option (T × ℕ)) (k : ℕ) → slot_in o ≡ Some k → slot_or o ≡ k
   slot_or-of None k e = absurd (cc)
@@ -68,14 +72,17 @@ module _ {T : Type 0} where
   live-slot_in None k e = absurd (cc)
   live-slot_in (Some b) k e = refl
 
-  pub live_of_slot : (store : Slab (BlockPtr T)) (s : LinkedBlocks T) (k : ℕ) (p : BlockPtr T) → IsStored (data_of s) store → get store k ≡ Some p → IsSome (block_at s p)
+  pub live_of_slot : (store : Slab (BlockPtr T)) (s : LinkedBlocks T) (k : ℕ) (p : BlockPtr T) → IsStored (data_of s) store
+      → get store k ≡ Some p → IsSome (block_at s p)
   live_of_slot store s k p ok at = live-slot_in (block_at s p) k (ok.held k p at)
 
   -- a key that has an item is a key of the slab
-  pub key_of_live : (store : Slab (BlockPtr T)) (s : LinkedBlocks T) (k : ℕ) → IsSome (fin.get (live_by (data_of s) store.slots) k) → ContainsKey store k
+  pub key_of_live : (store : Slab (BlockPtr T)) (s : LinkedBlocks T) (k : ℕ) → IsSome (fin.get (live_by (data_of s) store.slots) k)
+      → ContainsKey store k
   key_of_live store s k has = from (get store k) (sym (get-live_by (data_of s) store k)) has
     where
-      from : (o : Option (BlockPtr T)) → item_by (data_of s) o ≡ fin.get (live_by (data_of s) store.slots) k → IsSome (fin.get (live_by (data_of s) store.slots) k) → IsSome o
+      from : (o : Option (BlockPtr T)) → item_by (data_of s) o ≡ fin.get (live_by (data_of s) store.slots) k
+          → IsSome (fin.get (live_by (data_of s) store.slots) k) → IsSome o
       from (Some n) e there = refl
       from None e there = absurd (true≢false (sym there ∙ ap is_some (sym e)))
 
@@ -96,19 +103,24 @@ module _ {T : Type 0} where
     same_slot : (k : ℕ) (p x : BlockPtr T) → get store k ≡ Some p → IsSome (block_at s x) → eqb k (slot_by (data_of s) x) ≡ alike p x
     same_slot k p x at live =
         elim (cases_alike p x) [
-          | inl is ↦ eq-eqb k _ (sym (slot_or-of (data_of s x) k (subst (λ z. slot_in (data_of s z) ≡ Some k) is (ok.held k p at)))) ∙ sym (alike-from p x is)
+          | inl is ↦ eq-eqb k _ (sym (slot_or-of (data_of s x) k (subst (λ z. slot_in (data_of s z) ≡ Some k) is (ok.held k p at)))) ∙
+              sym (alike-from p x is)
           | inr ne ↦
-              ne_eqb k _ (λ is. ne (some_same (sym at ∙ ok.stored x k (slot_in-live (block_at s x) live ∙ ap Some (sym is))))) ∙ sym (ne_alike p x ne)
+              ne_eqb k _ (λ is. ne (some_same (sym at ∙ ok.stored x k (slot_in-live (block_at s x) live ∙ ap Some (sym is))))) ∙ sym
+              (ne_alike p x ne)
         ]
 
-    pub holds_slot : (k : ℕ) (p : BlockPtr T) (xs : List (BlockPtr T)) → get store k ≡ Some p → AllLive xs → holds k (map (slot_by (data_of s)) xs) ≡ names p xs
+    pub holds_slot : (k : ℕ) (p : BlockPtr T) (xs : List (BlockPtr T)) → get store k ≡ Some p → AllLive xs
+        → holds k (map (slot_by (data_of s)) xs) ≡ names p xs
     holds_slot k p [] at all = refl
     holds_slot k p (x ∷ xs) at all = λ i. same_slot k p x at (head_live x xs all) i || holds_slot k p xs at (tail_live x xs all) i
 
-    pub without_slot : (k : ℕ) (p : BlockPtr T) (xs : List (BlockPtr T)) → get store k ≡ Some p → AllLive xs → order.without k (map (slot_by (data_of s)) xs) ≡ map (slot_by (data_of s)) (without p xs)
+    pub without_slot : (k : ℕ) (p : BlockPtr T) (xs : List (BlockPtr T)) → get store k ≡ Some p → AllLive xs
+        → order.without k (map (slot_by (data_of s)) xs) ≡ map (slot_by (data_of s)) (without p xs)
     without_slot k p [] at all = refl
     without_slot k p (x ∷ xs) at all =
-        (elim (alike p x) as (λ y. alike p x ≡ y → order.without k (map (slot_by (data_of s)) (x ∷ xs)) ≡ map (slot_by (data_of s)) (without p (x ∷ xs))) [
+        (elim (alike p x) as (λ y. alike p x ≡ y → order.without k (map (slot_by (data_of s)) (x ∷ xs))
+        ≡ map (slot_by (data_of s)) (without p (x ∷ xs))) [
           | true ↦ λ e.
               let here : eqb k (slot_by (data_of s) x) ≡ true = same_slot k p x at (head_live x xs all) ∙ e in
               rw (here, e) (without_slot k p xs at (tail_live x xs all))
@@ -135,12 +147,14 @@ module _ {T : Type 0} where
   each_in f None = None
   each_in f (Some p) = Some (f p)
 
-  pub last_or-each : (f : BlockPtr T → ℕ) (p : Option (BlockPtr T)) (xs : List (BlockPtr T)) → last_or (each_in f p) (map f xs) ≡ each_in f (last_or p xs)
+  pub last_or-each : (f : BlockPtr T → ℕ) (p : Option (BlockPtr T)) (xs : List (BlockPtr T)) → last_or (each_in f p) (map f xs)
+      ≡ each_in f (last_or p xs)
   last_or-each f p [] = refl
   last_or-each f p (x ∷ xs) = last_or-each f (Some x) xs
 
   -- the last slot is that of the last block
-  pub last_slot : (s : LinkedBlocks T) → IsChained s → last_or None (map (slot_by (data_of s)) (chain_of s)) ≡ each_in (slot_by (data_of s)) s.last
+  pub last_slot : (s : LinkedBlocks T) → IsChained s → last_or None (map (slot_by (data_of s)) (chain_of s))
+      ≡ each_in (slot_by (data_of s)) s.last
   last_slot s chained = last_or-each (slot_by (data_of s)) None (chain_of s) ∙ ap (each_in (slot_by (data_of s))) (sym chained.last_is)
 
   pub last_live : (s : LinkedBlocks T) (p : BlockPtr T) → IsChained s → s.last ≡ Some p → IsSome (block_at s p)

@@ -1,5 +1,6 @@
 -- The blocks are taken one by one, each once, until none is left.
-use Rattle.std.proofs.Common.{◌≡◌, ◌≢◌, ℕ, suc, ◌+◌, ◌≤◌, List, [], ◌∷◌, Option, Some, None, IsSome, Contains, inl, inr, refl, sym, ap, subst, ◌∙◌, arith}
+use Rattle.std.proofs.Common.{◌≡◌, ◌≢◌, ℕ, suc, ◌+◌, ◌≤◌, List, [], ◌∷◌, Option, Some, None, IsSome, Contains, inl, inr, refl}
+use Rattle.std.proofs.Common.{sym, ap, subst, ◌∙◌, arith}
 use denote.RawPtr.{Ptr}
 use Rattle.slab.specs.Slab.{Slab, entries, entries_from}
 use Rattle.slab.proofs.SlabLemmas.{Contains-cons, Contains-cons_cases, Contains-entries}
@@ -24,11 +25,13 @@ module _ {T : Type 0} where
   Drains [] bs = bs ≡ []
   Drains (e ∷ rest) bs = IsSome (at_ptr bs e.1.ptr) × (at_ptr (without_at bs e.1.ptr) e.1.ptr ≡ None → Drains rest (without_at bs e.1.ptr))
 
-  pub drains-live : (e : ℕ × BlockPtr T) (rest : List (ℕ × BlockPtr T)) (bs : List (Ptr × Block T)) → Drains (e ∷ rest) bs → IsSome (at_ptr bs e.1.ptr)
+  pub drains-live : (e : ℕ × BlockPtr T) (rest : List (ℕ × BlockPtr T)) (bs : List (Ptr × Block T)) → Drains (e ∷ rest) bs
+      → IsSome (at_ptr bs e.1.ptr)
   unfolding Drains
   drains-live e rest bs d = d.0
 
-  pub drains-next : (e : ℕ × BlockPtr T) (rest : List (ℕ × BlockPtr T)) (bs cs : List (Ptr × Block T)) → Drains (e ∷ rest) bs → cs ≡ without_at bs e.1.ptr → at_ptr cs e.1.ptr ≡ None → Drains rest cs
+  pub drains-next : (e : ℕ × BlockPtr T) (rest : List (ℕ × BlockPtr T)) (bs cs : List (Ptr × Block T)) → Drains (e ∷ rest) bs → cs
+      ≡ without_at bs e.1.ptr → at_ptr cs e.1.ptr ≡ None → Drains rest cs
   unfolding Drains
   drains-next e rest bs cs d is gone = subst (Drains rest) (sym is) (d.1 (ap (λ l. at_ptr l e.1.ptr) (sym is) ∙ gone))
 
@@ -49,7 +52,11 @@ module _ {T : Type 0} where
   unfolding Rising
   rising-entries k [] = tt
   rising-entries k (None ∷ rest) = rising_more k (k + 1) (entries_from (k + 1) rest) (omega arith) (rising-entries (k + 1) rest)
-  rising-entries k (Some p ∷ rest) = (omega arith, subst (λ j. Rising j (entries_from (k + 1) rest)) (omega arith) (rising-entries (k + 1) rest))
+  rising-entries k (Some p ∷ rest) = (
+    omega arith,
+    subst (λ j. Rising j (entries_from (k + 1) rest)) (omega arith)
+        (rising-entries (k + 1) rest),
+  )
 
   rising-above : (k : ℕ) (es : List (ℕ × BlockPtr T)) (e : ℕ × BlockPtr T) → Rising k es → Contains es e → k ≤ e.0
   unfolding Rising
@@ -63,10 +70,13 @@ module _ {T : Type 0} where
   slot_at : List (Ptr × Block T) → BlockPtr T → Option ℕ
   slot_at bs p = slot_in (data_in (at_ptr bs p.ptr))
 
-  drains : (j : ℕ) (es : List (ℕ × BlockPtr T)) (bs : List (Ptr × Block T)) → Rising j es → ((e : ℕ × BlockPtr T) → Contains es e → slot_at bs e.1 ≡ Some e.0) → ((p : BlockPtr T) (k : ℕ) → slot_at bs p ≡ Some k → Contains es (k, p)) → Drains es bs
+  drains : (j : ℕ) (es : List (ℕ × BlockPtr T)) (bs : List (Ptr × Block T)) → Rising j es
+      → ((e : ℕ × BlockPtr T) → Contains es e → slot_at bs e.1 ≡ Some e.0)
+      → ((p : BlockPtr T) (k : ℕ) → slot_at bs p ≡ Some k → Contains es (k, p)) → Drains es bs
   unfolding Drains slot_at Rising
   drains j [] [] r held stored = refl
-  drains j [] (b ∷ bs) r held stored = absurd (Contains-nil _ (stored (record { ptr = b.0 }) b.1.slot (ap (λ o. slot_in (data_in o)) (at-cons_same b.0 b.1 bs))))
+  drains j [] (b ∷ bs) r held stored = absurd (Contains-nil _ (stored (record { ptr = b.0 }) b.1.slot
+      (ap (λ o. slot_in (data_in o)) (at-cons_same b.0 b.1 bs))))
   drains j (x ∷ rest) bs r held stored =
       let here : slot_at bs x.1 ≡ Some x.0 = held x (0, omega arith, refl) in (
         live-slot_in (at_ptr bs x.1.ptr) x.0 here,
@@ -78,8 +88,10 @@ module _ {T : Type 0} where
             let off : e.1 ≢ x.1 = λ is. (let same : e.0 ≡ x.0 = some_same (sym there ∙ ap (slot_at bs) is ∙ here) in omega arith) in
             ap (λ o. slot_in (data_in o)) (at-without_other bs x.1.ptr e.1.ptr (ne_alike x.1 e.1 (λ is. off (sym is)))) ∙ there)
             (λ p k at.
-            let off : p ≢ x.1 = λ is. none_some (sym (ap (λ o. slot_in (data_in o)) gone) ∙ sym (ap (slot_at (without_at bs x.1.ptr)) is) ∙ at) in
-            let before : slot_at bs p ≡ Some k = sym (ap (λ o. slot_in (data_in o)) (at-without_other bs x.1.ptr p.ptr (ne_alike x.1 p (λ is. off (sym is))))) ∙ at in
+            let off : p ≢ x.1 = λ is. none_some (sym (ap (λ o. slot_in (data_in o)) gone) ∙ sym
+            (ap (slot_at (without_at bs x.1.ptr)) is) ∙ at) in
+            let before : slot_at bs p ≡ Some k = sym (ap (λ o. slot_in (data_in o))
+            (at-without_other bs x.1.ptr p.ptr (ne_alike x.1 p (λ is. off (sym is))))) ∙ at in
             elim (Contains-cons_cases x (k, p) rest (stored p k before)) [
               | inl is ↦ absurd (off (ap (λ (y : ℕ × BlockPtr T). y.1) (sym is)))
               | inr later ↦ later

@@ -1,5 +1,6 @@
 -- The list names live slots, each once.
-use Rattle.std.proofs.Common.{◌≡◌, ℕ, ◌≤◌, true, List, [], ◌∷◌, length, map, Option, Some, None, is_some, IsSome, refl, sym, ap, ◌∙◌, inl, inr}
+use Rattle.std.proofs.Common.{◌≡◌, ℕ, ◌≤◌, true, List, [], ◌∷◌, length, map, Option, Some, None, is_some, IsSome, refl, sym, ap}
+use Rattle.std.proofs.Common.{◌∙◌, inl, inr}
 use Rattle.std.proofs.lemmas.Bool.{eqb-true, or_cases, false≢true}
 use Rattle.std.proofs.lemmas.Map.Steps.{length-le_from_distinct_below}
 use Rattle.slab.specs.Slab.{Slab, get}
@@ -18,7 +19,8 @@ use Rattle.fi_parts.proofs.BlockSlots.{AllLive, tail_live, head_live, slot_in-li
 
 module _ {T : Type 0} (store : Slab (BlockPtr T)) (s : LinkedBlocks T) (ok : IsStored (data_of s) store) where
   -- a slot that the list has is that of a live block
-  named : (k : ℕ) (xs : List (BlockPtr T)) → AllLive store s ok xs → holds k (map (slot_by (data_of s)) xs) ≡ true → (p : BlockPtr T) × (get store k ≡ Some p) × IsSome (block_at s p)
+  named : (k : ℕ) (xs : List (BlockPtr T)) → AllLive store s ok xs → holds k (map (slot_by (data_of s)) xs) ≡ true → (p : BlockPtr T)
+      × (get store k ≡ Some p) × IsSome (block_at s p)
   named k [] all at = absurd (false≢true at)
   named k (x ∷ xs) all at =
       elim (or_cases _ _ at) [
@@ -46,12 +48,14 @@ module _ {T : Type 0} (store : Slab (BlockPtr T)) (s : LinkedBlocks T) (sound : 
       record {
         live = λ k at.
             let found = named store s sound.stored k (chain_of s) all at in
-            ap is_some (get-live_by (data_of s) store k ∙ ap (item_by (data_of s)) found.1) ∙ item_some store s sound.stored (block_at s found.0) found.2;
+            ap is_some (get-live_by (data_of s) store k ∙ ap (item_by (data_of s)) found.1) ∙ item_some store s sound.stored
+            (block_at s found.0) found.2;
         apart = apart store s sound.stored (chain_of s) all sound.chained.distinct;
       }
 
   pub order-le : length (view_of store s).order ≤ length store.slots
   order-le =
       let all = chain_live store s sound.stored sound.chained in
-      length-le_from_distinct_below (view_of store s).order (length store.slots) (IsDistinct-from_Apart _ (apart store s sound.stored (chain_of s) all sound.chained.distinct))
+      length-le_from_distinct_below (view_of store s).order (length store.slots)
+      (IsDistinct-from_Apart _ (apart store s sound.stored (chain_of s) all sound.chained.distinct))
       (λ q at. let found = named store s sound.stored q (chain_of s) all at in ContainsKey-within store q (ap is_some found.1))

@@ -1,5 +1,6 @@
 -- What the first seat of the heap says of the futures.
-use Rattle.std.proofs.Common.{◌≡◌, ◌≢◌, ◌≤◌, ◌<◌, ℕ, true, false, ◌&&◌, nat_lt, nat_le, ◌==◌, cond, Option, Some, None, unwrap_or, refl, sym, ap, ◌∙◌, inl, inr, arith}
+use Rattle.std.proofs.Common.{◌≡◌, ◌≢◌, ◌≤◌, ◌<◌, ℕ, true, false, ◌&&◌, nat_lt, nat_le, ◌==◌, cond, Option, Some, None, unwrap_or}
+use Rattle.std.proofs.Common.{refl, sym, ap, ◌∙◌, inl, inr, arith}
 use Rattle.std.proofs.lemmas.Bool.{cases_Bool, ltb-false, leb-true, le-leb, both_ways, false_from_ne_true, and_parts}
 use Rattle.std.specs.FinMap as map
 use Rattle.std.specs.FinSet as set

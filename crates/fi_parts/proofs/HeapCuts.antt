@@ -1,13 +1,17 @@
 -- A node in a tree, and the tree without it.
-use Rattle.std.proofs.Common.{◌≡◌, ◌≢◌, ℕ, zero, suc, ◌+◌, ◌≤◌, true, false, Option, Some, None, is_some, IfSome, refl, sym, ap, subst, ◌∙◌, inl, inr, arith}
+use Rattle.std.proofs.Common.{◌≡◌, ◌≢◌, ℕ, zero, suc, ◌+◌, ◌≤◌, true, false, Option, Some, None, is_some, IfSome, refl, sym, ap}
+use Rattle.std.proofs.Common.{subst, ◌∙◌, inl, inr, arith}
 use Rattle.std.proofs.lemmas.Bool.{cases_eq, true≢false}
 use Rattle.std.specs.declared.cmp.Ordering.{Ordering}
 use Rattle.fi_parts.specs.declared.heap_nodes.Back.{Back}
 use Rattle.fi_parts.specs.declared.heap_nodes.Back.TheVariants.{Root, Parent, Sibling}
 use Rattle.fi_parts.specs.declared.heap_nodes.HeapLinks.{HeapLinks}
-use Rattle.fi_parts.specs.HeapForests.{Forest, nil, node, Tree, no_tree, tree, head, top, one_at, count, count_in, child_to, next_to, linked, backed, pointed, root_to, IsBackLinked, Makes, Strings, Roots, Below, Ordered, OrderedIn}
+use Rattle.fi_parts.specs.HeapForests.{Forest, nil, node, Tree, no_tree, tree, head, top, one_at, count, count_in, child_to}
+use Rattle.fi_parts.specs.HeapForests.{next_to, linked, backed, pointed, root_to, IsBackLinked, Makes, Strings, Roots, Below}
+use Rattle.fi_parts.specs.HeapForests.{Ordered, OrderedIn}
 use Rattle.fi_parts.specs.HeapPieces.{flag, Pieces, Parts}
-use Rattle.fi_parts.proofs.HeapForests.{one_at-same, one_at-other, not_there, linked-same, linked-other, backed-other, Makes-alike, Makes-backed, Strings-made, Ordered-under}
+use Rattle.fi_parts.proofs.HeapForests.{one_at-same, one_at-other, not_there, linked-same, linked-other, backed-other}
+use Rattle.fi_parts.proofs.HeapForests.{Makes-alike, Makes-backed, Strings-made, Ordered-under}
 use Rattle.fi_parts.proofs.HeapPieces.{flag-le, flag-some, flag-same}
 
 -- the way from the root to a list of trees: the nodes passed, with what stands on their other sides
@@ -35,8 +39,10 @@ along k (past y kids path) = one_at k y + (count k kids + along k path)
 -- the links make the way, which ends in a link to this slot
 abbrev Leads : (ℕ → Option HeapLinks) → Path → Option ℕ → Type 0
 Leads g (from_root r) to = g r ≡ Some (record { child = to; next = None; back = Root })
-Leads g (into y rest path) to = (g y ≡ Some (record { child = to; next = head rest; back = back_from path })) × Makes g (Sibling y) rest × Leads g path (Some y)
-Leads g (past y kids path) to = (g y ≡ Some (record { child = head kids; next = to; back = back_from path })) × Makes g (Parent y) kids × Leads g path (Some y)
+Leads g (into y rest path) to = (g y ≡ Some (record { child = to; next = head rest; back = back_from path })) × Makes g (Sibling y) rest
+    × Leads g path (Some y)
+Leads g (past y kids path) to = (g y ≡ Some (record { child = head kids; next = to; back = back_from path })) × Makes g (Parent y) kids
+    × Leads g path (Some y)
 
 count-plug : (k : ℕ) (path : Path) (f : Forest) → count_in k (plug path f) ≡ along k path + count k f
 count-plug k (from_root r) f = refl
@@ -58,7 +64,8 @@ join g (from_root r) f leads made = (leads, made)
 join g (into y rest path) f leads made = join g path (node y f rest) leads.2 (leads.0, made, leads.1)
 join g (past y kids path) f leads made = join g path (node y kids f) leads.2 (leads.0, leads.1, made)
 
-Leads-alike : (g h : ℕ → Option HeapLinks) (path : Path) (to : Option ℕ) → ((k : ℕ) → 1 ≤ along k path → h k ≡ g k) → Leads g path to → Leads h path to
+Leads-alike : (g h : ℕ → Option HeapLinks) (path : Path) (to : Option ℕ) → ((k : ℕ) → 1 ≤ along k path → h k ≡ g k) → Leads g path to
+    → Leads h path to
 Leads-alike g h (from_root r) to same leads = same r (let here = one_at-same r in omega arith) ∙ leads
 Leads-alike g h (into y rest path) to same leads = (
   same y (let here = one_at-same y in omega arith) ∙ leads.0,
@@ -86,7 +93,8 @@ pointed-other g (from_root r) to k none = linked-other g r _ k (differs-along k 
 pointed-other g (into y rest path) to k none = linked-other g y _ k (differs-along k y (omega arith))
 pointed-other g (past y kids path) to k none = linked-other g y _ k (differs-along k y (omega arith))
 
-Leads-pointed : (g : ℕ → Option HeapLinks) (path : Path) (old to : Option ℕ) → ((k : ℕ) → along k path ≤ 1) → Leads g path old → Leads (pointed g (back_from path) to) path to
+Leads-pointed : (g : ℕ → Option HeapLinks) (path : Path) (old to : Option ℕ) → ((k : ℕ) → along k path ≤ 1) → Leads g path old
+    → Leads (pointed g (back_from path) to) path to
 Leads-pointed g (from_root r) old to apart leads = linked-same g r _ ∙ ap (λ l. child_to l to) leads
 Leads-pointed g (into y rest path) old to apart leads =
     let here = one_at-same y in
@@ -154,8 +162,10 @@ module _ {T : Type 0} (cmp : T → T → Ordering) (v : ℕ → Option T) where
 
   split-order : (path : Path) (f : Forest) → OrderedIn cmp v (plug path f) → OrderedAlong path × Ordered cmp v (Some (above path)) f
   split-order (from_root r) f ordered = (tt, ordered)
-  split-order (into y rest path) f ordered = let outer = split-order path (node y f rest) ordered in ((outer.1.0, outer.1.2, outer.0), outer.1.1)
-  split-order (past y kids path) f ordered = let outer = split-order path (node y kids f) ordered in ((outer.1.0, outer.1.1, outer.0), outer.1.2)
+  split-order (into y rest path) f ordered = let outer =
+      split-order path (node y f rest) ordered in ((outer.1.0, outer.1.2, outer.0), outer.1.1)
+  split-order (past y kids path) f ordered = let outer =
+      split-order path (node y kids f) ordered in ((outer.1.0, outer.1.1, outer.0), outer.1.2)
 
   join-order : (path : Path) (f : Forest) → OrderedAlong path → Ordered cmp v (Some (above path)) f → OrderedIn cmp v (plug path f)
   join-order (from_root r) f way ordered = ordered
@@ -174,13 +184,16 @@ abbrev pub without : (ℕ → Option HeapLinks) → ℕ → HeapLinks → ℕ �
 without g x l = pointed (linked g x None) l.back l.next
 
 -- what the cut of a node asks, and what pieces it leaves
-pub record Cut {T : Type 0} (cmp : T → T → Ordering) (g : ℕ → Option HeapLinks) (v : ℕ → Option T) (root : Option ℕ) (x : ℕ) (l : HeapLinks) : Type 0 where
+pub record Cut {T : Type 0} (cmp : T → T → Ordering) (g : ℕ → Option HeapLinks) (v : ℕ → Option T) (root : Option ℕ) (x : ℕ)
+    (l : HeapLinks) : Type 0 where
   pub back_linked : IsBackLinked (linked g x None) l.back
   pub next_linked : IfSome l.next (λ k. is_some (without g x l k) ≡ true)
-  pub parts : (h : ℕ → Option HeapLinks) → h ≡ backed (without g x l) l.next l.back → is_some (h x) ≡ false → ((k : ℕ) → k ≢ x → is_some (h k) ≡ is_some (g k)) → Parts cmp h v (root_to root l.back l.next) None l.child None
+  pub parts : (h : ℕ → Option HeapLinks) → h ≡ backed (without g x l) l.next l.back → is_some (h x) ≡ false
+      → ((k : ℕ) → k ≢ x → is_some (h k) ≡ is_some (g k)) → Parts cmp h v (root_to root l.back l.next) None l.child None
 
 module _ {T : Type 0} (cmp : T → T → Ordering) (g : ℕ → Option HeapLinks) (v : ℕ → Option T) where
-  tally-cut : (h : ℕ → Option HeapLinks) (x n : ℕ) (k : ℕ) → is_some (h x) ≡ false → ((k : ℕ) → k ≢ x → is_some (h k) ≡ is_some (g k)) → one_at k x + n ≡ flag (g k) → n ≡ flag (h k)
+  tally-cut : (h : ℕ → Option HeapLinks) (x n : ℕ) (k : ℕ) → is_some (h x) ≡ false → ((k : ℕ) → k ≢ x → is_some (h k) ≡ is_some (g k))
+      → one_at k x + n ≡ flag (g k) → n ≡ flag (h k)
   tally-cut h x n k here others was =
       elim (cases_eq k x) [
         | inl same ↦
@@ -194,7 +207,8 @@ module _ {T : Type 0} (cmp : T → T → Ordering) (g : ℕ → Option HeapLinks
             omega arith
       ]
 
-  cut-root : (x : ℕ) (kids : Forest) → Pieces cmp g v (tree x kids) no_tree nil nil → Cut cmp g v (Some x) x (record { child = head kids; next = None; back = Root })
+  cut-root : (x : ℕ) (kids : Forest) → Pieces cmp g v (tree x kids) no_tree nil nil
+      → Cut cmp g v (Some x) x (record { child = head kids; next = None; back = Root })
   cut-root x kids p =
       let here = one_at-same x in
       let was = p.tally x in
@@ -214,7 +228,8 @@ module _ {T : Type 0} (cmp : T → T → Ordering) (g : ℕ → Option HeapLinks
           pieces = record {
             main_made = tt;
             held_made = tt;
-            rest_made = Strings-made h (Parent x) kids (Makes-alike g h (Parent x) kids (λ k at. ap (λ f. f k) is ∙ linked-other g x None k (not_there k x kids at off_kids)) p.main_made.1);
+            rest_made = Strings-made h (Parent x) kids (Makes-alike g h (Parent x) kids
+                (λ k at. ap (λ f. f k) is ∙ linked-other g x None k (not_there k x kids at off_kids)) p.main_made.1);
             pairs_made = tt;
             main_ordered = tt;
             held_ordered = tt;
@@ -256,7 +271,8 @@ module _ {T : Type 0} (cmp : T → T → Ordering) (g : ℕ → Option HeapLinks
     at_last = backed then (head rest) (back_from path)
 
     rest-then : Makes then (Sibling x) rest
-    rest-then = Makes-alike g then (Sibling x) rest (λ k at. let one = once k in then-same k (omega arith) (not_there k x rest at x-off.2)) made.1.2
+    rest-then = Makes-alike g then (Sibling x) rest (λ k at. let one =
+        once k in then-same k (omega arith) (not_there k x rest at x-off.2)) made.1.2
 
     rest-last : Makes at_last (back_from path) rest
     rest-last = Makes-backed then (Sibling x) (back_from path) rest (λ k. let one = once k in omega arith) rest-then
@@ -269,7 +285,8 @@ module _ {T : Type 0} (cmp : T → T → Ordering) (g : ℕ → Option HeapLinks
     kids-last : Makes at_last (Parent x) kids
     kids-last =
         Makes-alike g at_last (Parent x) kids
-        (λ k at. let one = once k in backed-other then rest (back_from path) k (omega arith) ∙ then-same k (omega arith) (not_there k x kids at x-off.1)) made.1.1
+        (λ k at. let one = once k in backed-other then rest (back_from path) k (omega arith) ∙ then-same k (omega arith)
+        (not_there k x kids at x-off.1)) made.1.1
 
     head-linked : (f : Forest) (back : Back) → Makes then back f → IfSome (head f) (λ k. is_some (then k) ≡ true)
     head-linked nil back m = tt
@@ -310,12 +327,14 @@ module _ {T : Type 0} (cmp : T → T → Ordering) (g : ℕ → Option HeapLinks
       };
     }
 
-  cut-tree : (x r : ℕ) (kids : Forest) (l : HeapLinks) → g x ≡ Some l → Pieces cmp g v (tree r kids) no_tree nil nil → Cut cmp g v (Some r) x l
+  cut-tree : (x r : ℕ) (kids : Forest) (l : HeapLinks) → g x ≡ Some l → Pieces cmp g v (tree r kids) no_tree nil nil
+      → Cut cmp g v (Some r) x l
   cut-tree x r kids l is p =
       elim (cases_eq x r) [
         | inl same ↦
             let q = subst (λ (z : ℕ). Pieces cmp g v (tree z kids) no_tree nil nil) (sym same) p in
-            subst (λ (z : ℕ). Cut cmp g v (Some z) x l) same (subst (λ (m : HeapLinks). Cut cmp g v (Some x) x m) (some_links (sym q.main_made.0 ∙ is)) (cut-root x kids q))
+            subst (λ (z : ℕ). Cut cmp g v (Some z) x l) same (subst (λ (m : HeapLinks). Cut cmp g v (Some x) x m)
+            (some_links (sym q.main_made.0 ∙ is)) (cut-root x kids q))
         | inr ne ↦
             let was = p.tally x in
             let one : flag (g x) ≡ 1 = flag-some (g x) (ap is_some is) in
@@ -323,15 +342,18 @@ module _ {T : Type 0} (cmp : T → T → Ordering) (g : ℕ → Option HeapLinks
             let found = find x kids (from_root r) (omega arith) in
             let q = subst (λ (t : Tree). Pieces cmp g v t no_tree nil nil) found.is p in
             subst (λ (t : Tree). Cut cmp g v (top t) x l) (sym found.is)
-            (subst (λ (m : HeapLinks). Cut cmp g v (top (plug found.path (node x found.kids found.rest))) x m) (some_links (sym (cut-links found.path x found.kids found.rest q) ∙ is)) (cut-path found.path x found.kids found.rest q))
+            (subst (λ (m : HeapLinks). Cut cmp g v (top (plug found.path (node x found.kids found.rest))) x m)
+            (some_links (sym (cut-links found.path x found.kids found.rest q) ∙ is)) (cut-path found.path x found.kids found.rest q))
       ]
 
   pub cut : (root : Option ℕ) (x : ℕ) (l : HeapLinks) → g x ≡ Some l → Parts cmp g v root None None None → Cut cmp g v root x l
   cut root x l is P = from P.main P.held P.rest P.pairs P.main_top P.held_top P.rest_head P.pairs_head P.pieces
     where
-      from : (m t : Tree) (ts us : Forest) → top m ≡ root → top t ≡ None → head ts ≡ None → head us ≡ None → Pieces cmp g v m t ts us → Cut cmp g v root x l
+      from : (m t : Tree) (ts us : Forest) → top m ≡ root → top t ≡ None → head ts ≡ None → head us ≡ None → Pieces cmp g v m t ts us
+          → Cut cmp g v root x l
       from m (tree y ky) ts us mt ht rt pt p = absurd (cc)
       from m no_tree (node y ky ry) us mt ht rt pt p = absurd (cc)
       from m no_tree nil (node y ky ry) mt ht rt pt p = absurd (cc)
-      from no_tree no_tree nil nil mt ht rt pt p = let one : flag (g x) ≡ 1 = flag-some (g x) (ap is_some is) in let was = p.tally x in absurd (omega arith)
+      from no_tree no_tree nil nil mt ht rt pt p = let one : flag (g x) ≡ 1 = flag-some (g x) (ap is_some is) in let was =
+          p.tally x in absurd (omega arith)
       from (tree r kids) no_tree nil nil mt ht rt pt p = subst (λ (o : Option ℕ). Cut cmp g v o x l) mt (cut-tree x r kids l is p)

@@ -1,5 +1,6 @@
 -- Forests that links make: what a change of the links leaves, and what the order says.
-use Rattle.std.proofs.Common.{◌≡◌, ◌≢◌, ℕ, zero, suc, ◌+◌, ◌≤◌, ◌<◌, true, false, eqb, List, [], ◌∷◌, length, Option, Some, None, is_some, refl, sym, ap, subst, ◌∙◌, inl, inr, arith}
+use Rattle.std.proofs.Common.{◌≡◌, ◌≢◌, ℕ, zero, suc, ◌+◌, ◌≤◌, ◌<◌, true, false, eqb, List, [], ◌∷◌, length, Option, Some, None}
+use Rattle.std.proofs.Common.{is_some, refl, sym, ap, subst, ◌∙◌, inl, inr, arith}
 use Rattle.std.proofs.lemmas.Bool.{eq-eqb, ne_eqb, cond-true, cond-false, cases_eq, false≢true, or_cases}
 use Rattle.std.proofs.lemmas.Map.Steps.{length-le_from_distinct_below}
 use Rattle.std.specs.List.{IsDistinct, AllByRecursion, list_any}
@@ -10,7 +11,9 @@ use Rattle.std.specs.declared.cmp.Ordering.TheVariants.{Less, Equal, Greater}
 use Rattle.fi_parts.specs.declared.heap_nodes.Back.{Back}
 use Rattle.fi_parts.specs.declared.heap_nodes.Back.TheVariants.{Parent, Sibling}
 use Rattle.fi_parts.specs.declared.heap_nodes.HeapLinks.{HeapLinks}
-use Rattle.fi_parts.specs.HeapForests.{Forest, nil, node, Tree, no_tree, tree, head, one_at, count, count_in, roots, child_of, next_of, child_to, back_to, placed, linked, backed, adopted_before, adopted, Makes, Strings, Holds, Roots, span, at_most, Below, Ordered, OrderedIn}
+use Rattle.fi_parts.specs.HeapForests.{Forest, nil, node, Tree, no_tree, tree, head, one_at, count, count_in, roots, child_of}
+use Rattle.fi_parts.specs.HeapForests.{next_of, child_to, back_to, placed, linked, backed, adopted_before, adopted, Makes}
+use Rattle.fi_parts.specs.HeapForests.{Strings, Holds, Roots, span, at_most, Below, Ordered, OrderedIn}
 
 -- counts
 
@@ -58,7 +61,8 @@ linked-same g x w = cond-true (eqb x x) _ _ (eq-eqb x x refl)
 pub linked-other : (g : ℕ → Option HeapLinks) (x : ℕ) (w : Option HeapLinks) (k : ℕ) → k ≢ x → linked g x w k ≡ g k
 linked-other g x w k ne = cond-false (eqb k x) _ _ (ne_eqb k x ne)
 
-pub linked-some : (g : ℕ → Option HeapLinks) (x : ℕ) (w : Option HeapLinks) → is_some w ≡ is_some (g x) → (k : ℕ) → is_some (linked g x w k) ≡ is_some (g k)
+pub linked-some : (g : ℕ → Option HeapLinks) (x : ℕ) (w : Option HeapLinks) → is_some w ≡ is_some (g x) → (k : ℕ)
+    → is_some (linked g x w k) ≡ is_some (g k)
 linked-some g x w some k =
     elim (cases_eq k x) [
       | inl same ↦ rw same (ap is_some (linked-same g x w) ∙ some)
@@ -71,7 +75,8 @@ backed-other g (node x kids rest) back k none = linked-other g x _ k (differs k 
 
 -- the same links at each slot of a forest make the same forest
 
-pub Makes-alike : (g h : ℕ → Option HeapLinks) (back : Back) (f : Forest) → ((k : ℕ) → 1 ≤ count k f → h k ≡ g k) → Makes g back f → Makes h back f
+pub Makes-alike : (g h : ℕ → Option HeapLinks) (back : Back) (f : Forest) → ((k : ℕ) → 1 ≤ count k f → h k ≡ g k) → Makes g back f
+    → Makes h back f
 Makes-alike g h back nil same made = tt
 Makes-alike g h back (node x kids rest) same made = (
   same x (count-head x kids rest) ∙ made.0,
@@ -122,7 +127,8 @@ Holds-root g no_tree made = tt
 Holds-root g (tree x kids) made = (ap is_some made.0, ap child_of made.0, made.1)
 
 -- another way back from the first
-pub Makes-backed : (g : ℕ → Option HeapLinks) (old back : Back) (f : Forest) → ((k : ℕ) → count k f ≤ 1) → Makes g old f → Makes (backed g (head f) back) back f
+pub Makes-backed : (g : ℕ → Option HeapLinks) (old back : Back) (f : Forest) → ((k : ℕ) → count k f ≤ 1) → Makes g old f
+    → Makes (backed g (head f) back) back f
 Makes-backed g old back nil apart made = tt
 Makes-backed g old back (node x kids rest) apart made =
     let here = one_at-same x in
@@ -136,7 +142,8 @@ Makes-backed g old back (node x kids rest) apart made =
 
 -- adopting
 
-pub placed-is : (o : Option HeapLinks) (child next : Option ℕ) (back : Back) → is_some o ≡ true → child_of o ≡ child → placed o next back ≡ Some (record { child = child; next = next; back = back })
+pub placed-is : (o : Option HeapLinks) (child next : Option ℕ) (back : Back) → is_some o ≡ true → child_of o ≡ child
+    → placed o next back ≡ Some (record { child = child; next = next; back = back })
 placed-is None child next back some e = absurd (false≢true some)
 placed-is (Some l) child next back some e = λ i. Some (record { child = e i; next = next; back = back })
 
@@ -171,12 +178,14 @@ module _ (g : ℕ → Option HeapLinks) (p c : ℕ) (kp kc : Forest) (apart : (k
   -- at the slots other than the two, only the way back changes
   before-other : (k : ℕ) → one_at k p ≡ 0 → one_at k c ≡ 0 → adopted_before g (head kp) p c k ≡ backs g kp c k
   before-other k not_p not_c =
-      linked-other (moves g kp p c) p (takes g kp p c) k (differs k p not_p) ∙ linked-other (backs g kp c) c (told g kp p c) k (differs k c not_c)
+      linked-other (moves g kp p c) p (takes g kp p c) k (differs k p not_p) ∙ linked-other (backs g kp c) c (told g kp p c) k
+      (differs k c not_c)
 
   before-p : adopted_before g (head kp) p c p ≡ child_to (g p) (Some c)
   before-p =
       linked-same (moves g kp p c) p (takes g kp p c)
-      ∙ ap (λ l. child_to l (Some c)) (linked-other (backs g kp c) c (told g kp p c) p (differs p c p-apart.0) ∙ backed-other g kp (Sibling c) p p-apart.1)
+      ∙ ap (λ l. child_to l (Some c)) (linked-other (backs g kp c) c (told g kp p c) p (differs p c p-apart.0) ∙ backed-other g kp
+      (Sibling c) p p-apart.1)
 
   before-c : adopted_before g (head kp) p c c ≡ placed (g c) (head kp) (Parent p)
   before-c =
@@ -191,8 +200,11 @@ module _ (g : ℕ → Option HeapLinks) (p c : ℕ) (kp kc : Forest) (apart : (k
     ap child_of before-p ∙ child_to-is (g p) (Some c) hp.0,
     (
       before-c ∙ placed-is (g c) (head kc) (head kp) (Parent p) hc.0 hc.1,
-      Makes-alike g _ (Parent c) kc (λ k at. let once = apart k in before-other k (omega arith) (in_kc k at) ∙ backed-other g kp (Sibling c) k (omega arith)) hc.2,
-      Makes-alike (backs g kp c) _ (Sibling c) kp (λ k at. let once = apart k in before-other k (in_kp k at) (omega arith)) (Makes-backed g (Parent p) (Sibling c) kp (λ k. let once = apart k in omega arith) hp.2),
+      Makes-alike g _ (Parent c) kc (λ k at. let once = apart k in before-other k (omega arith) (in_kc k at) ∙ backed-other g kp
+          (Sibling c) k (omega arith)) hc.2,
+      Makes-alike (backs g kp c) _ (Sibling c) kp (λ k at. let once =
+          apart k in before-other k (in_kp k at) (omega arith)) (Makes-backed g (Parent p) (Sibling c) kp (λ k. let once =
+          apart k in omega arith) hp.2),
     ),
   )
     where
@@ -206,7 +218,8 @@ module _ (g : ℕ → Option HeapLinks) (p c : ℕ) (kp kc : Forest) (apart : (k
   before-apart k none = before-other k (omega arith) (omega arith) ∙ backed-other g kp (Sibling c) k (omega arith)
 
   pub Holds-adopted : Holds g (tree p kp) → Holds g (tree c kc) → Holds (adopted g p c) (tree p (node c kc kp))
-  Holds-adopted hp hc = subst (λ (older : Option ℕ). Holds (adopted_before g older p c) (tree p (node c kc kp))) (sym hp.1) (Holds-before hp hc)
+  Holds-adopted hp hc = subst (λ (older : Option ℕ). Holds (adopted_before g older p c) (tree p (node c kc kp))) (sym hp.1)
+      (Holds-before hp hc)
 
   -- and leave every other slot
   pub adopted-apart : Holds g (tree p kp) → (k : ℕ) → count_in k (tree p kp) + count_in k (tree c kc) ≡ 0 → adopted g p c k ≡ g k
@@ -285,22 +298,26 @@ module _ {T : Type 0} (cmp : T → T → Ordering) where
     at_most-chain (Some x) (Some y) (Some z) e f = le_chain x y z (cmp x y) (cmp y z) refl refl e f
 
     -- a value above a forest is at most each value in it
-    pub at_most-all : (values : ℕ → Option T) (above : ℕ) (f : Forest) → Ordered cmp values (Some above) f → (k : ℕ) → 1 ≤ count k f → at_most cmp (values above) (values k) ≡ true
+    pub at_most-all : (values : ℕ → Option T) (above : ℕ) (f : Forest) → Ordered cmp values (Some above) f → (k : ℕ) → 1 ≤ count k f
+        → at_most cmp (values above) (values k) ≡ true
     at_most-all values above nil ordered k at = absurd (omega arith)
     at_most-all values above (node x kids rest) ordered k at =
         elim (cases_eq k x) [
           | inl same ↦ rw same ordered.0
           | inr ne ↦
               let none = one_at-other k x ne in
-              among (count k kids) (omega arith) (λ at. at_most-all values x kids ordered.1 k (omega arith)) (λ at. at_most-all values above rest ordered.2 k at)
+              among (count k kids) (omega arith) (λ at. at_most-all values x kids ordered.1 k (omega arith))
+              (λ at. at_most-all values above rest ordered.2 k at)
         ]
       where
-        among : (n : ℕ) → 1 ≤ n + count k rest → (1 ≤ n → at_most cmp (values x) (values k) ≡ true) → (1 ≤ count k rest → at_most cmp (values above) (values k) ≡ true) → at_most cmp (values above) (values k) ≡ true
+        among : (n : ℕ) → 1 ≤ n + count k rest → (1 ≤ n → at_most cmp (values x) (values k) ≡ true)
+            → (1 ≤ count k rest → at_most cmp (values above) (values k) ≡ true) → at_most cmp (values above) (values k) ≡ true
         among zero more within after = after (omega arith)
         among (suc n) more within after = at_most-chain (values above) (values x) (values k) ordered.0 (within (omega arith))
 
   -- the same values at a forest's slots are in the same order
-  pub Ordered-alike : (v w : ℕ → Option T) (above : Option ℕ) (f : Forest) → ((k : ℕ) → above ≡ Some k → w k ≡ v k) → ((k : ℕ) → 1 ≤ count k f → w k ≡ v k) → Ordered cmp v above f → Ordered cmp w above f
+  pub Ordered-alike : (v w : ℕ → Option T) (above : Option ℕ) (f : Forest) → ((k : ℕ) → above ≡ Some k → w k ≡ v k)
+      → ((k : ℕ) → 1 ≤ count k f → w k ≡ v k) → Ordered cmp v above f → Ordered cmp w above f
   Ordered-alike v w above nil over same ordered = tt
   Ordered-alike v w above (node x kids rest) over same ordered = (
     below above over ordered.0,

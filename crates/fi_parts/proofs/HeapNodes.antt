@@ -12,7 +12,8 @@ use Rattle.fi_parts.specs.declared.heap_nodes.HeapNodes.{HeapNodes}
 use Rattle.fi_parts.specs.declared.heap_nodes.Back.{Back}
 use Rattle.fi_parts.specs.declared.heap_nodes.Back.TheVariants.{Parent, Sibling}
 use Rattle.fi_parts.specs.HeapForests.{linked, backed, child_of, child_to, next_to, back_to, placed, adopted, adopted_before}
-use Rattle.fi_parts.specs.HeapNodes.{value_in, links_in, is_in, values_of, links_of, live_of, members_of, IsLinked, relinked, with_links, Relinks, Keeps, KeepsValues, TakesOut, PutsIn}
+use Rattle.fi_parts.specs.HeapNodes.{value_in, links_in, is_in, values_of, links_of, live_of, members_of, IsLinked, relinked}
+use Rattle.fi_parts.specs.HeapNodes.{with_links, Relinks, Keeps, KeepsValues, TakesOut, PutsIn}
 use Rattle.fi_parts.specs.Picked.{picked, chosen}
 use Rattle.fi_parts.proofs.Picked.{get-picked, contains-chosen}
 use Rattle.fi_parts.proofs.HeapForests.{linked-same, linked-other, linked-some}
@@ -58,7 +59,8 @@ module _ {T : Type 0} where
 
   pub Relinks-with_links : (s : HeapNodes T) (x : ℕ) (w : Option HeapLinks) → ContainsKey s.store x → Relinks s (with_links s x w) x w
   Relinks-with_links s x w live =
-      let updates = Updates-set s.store (with_links s x w).store x (relinked (get s.store x) w) (ContainsKey-within s.store x live) refl in record {
+      let updates = Updates-set s.store (with_links s x w).store x (relinked (get s.store x) w) (ContainsKey-within s.store x live)
+      refl in record {
         links = λ i. λ k. links-at updates k i;
         values = λ i. λ k. values-at updates k i;
         size = length-set s.store.slots x _;
@@ -73,14 +75,16 @@ module _ {T : Type 0} where
       values-is None = refl
       values-is (Some n) = refl
 
-      links-at : Updates s.store (with_links s x w).store x (relinked (get s.store x) w) → (k : ℕ) → links_of (with_links s x w) k ≡ linked (links_of s) x w k
+      links-at : Updates s.store (with_links s x w).store x (relinked (get s.store x) w) → (k : ℕ) → links_of (with_links s x w) k
+          ≡ linked (links_of s) x w k
       links-at updates k =
           elim (cases_eq k x) [
             | inl same ↦ rw same (ap (picked links_in) updates.changed ∙ links-is (get s.store x) live ∙ sym (linked-same (links_of s) x w))
             | inr ne ↦ ap (picked links_in) (updates.others k ne) ∙ sym (linked-other (links_of s) x w k ne)
           ]
 
-      values-at : Updates s.store (with_links s x w).store x (relinked (get s.store x) w) → (k : ℕ) → values_of (with_links s x w) k ≡ values_of s k
+      values-at : Updates s.store (with_links s x w).store x (relinked (get s.store x) w) → (k : ℕ) → values_of (with_links s x w) k
+          ≡ values_of s k
       values-at updates k =
           elim (cases_eq k x) [
             | inl same ↦ rw same (ap (picked value_in) updates.changed ∙ values-is (get s.store x))
@@ -128,13 +132,17 @@ module _ {T : Type 0} where
   linked-kept s t keeps k at = keeps.linked k ∙ at
 
   -- the three writes of an adoption
-  pub adopted-links : (s t u w : HeapNodes T) (p c : ℕ) (older : Option ℕ) → child_of (links_of s p) ≡ older → links_of t ≡ backed (links_of s) older (Sibling c) → Relinks t u c (placed (links_of t c) older (Parent p)) → Relinks u w p (child_to (links_of u p) (Some c)) → links_of w ≡ adopted (links_of s) p c
+  pub adopted-links : (s t u w : HeapNodes T) (p c : ℕ) (older : Option ℕ) → child_of (links_of s p) ≡ older → links_of t
+      ≡ backed (links_of s) older (Sibling c) → Relinks t u c (placed (links_of t c) older (Parent p))
+      → Relinks u w p (child_to (links_of u p) (Some c)) → links_of w ≡ adopted (links_of s) p c
   adopted-links s t u w p c older is back place child =
       let moved = λ (b : ℕ → Option HeapLinks). linked b c (placed (b c) older (Parent p)) in
       let told = λ (m : ℕ → Option HeapLinks). linked m p (child_to (m p) (Some c)) in
-      child.links ∙ ap told place.links ∙ ap (λ (b : ℕ → Option HeapLinks). told (moved b)) back ∙ ap (λ (o : Option ℕ). adopted_before (links_of s) o p c) (sym is)
+      child.links ∙ ap told place.links ∙ ap (λ (b : ℕ → Option HeapLinks). told (moved b)) back ∙ ap
+      (λ (o : Option ℕ). adopted_before (links_of s) o p c) (sym is)
 
-  pub KeepsValues-relinks : (s t : HeapNodes T) (x : ℕ) (w : Option HeapLinks) → Relinks s t x w → is_some w ≡ is_some (links_of s x) → KeepsValues s t
+  pub KeepsValues-relinks : (s t : HeapNodes T) (x : ℕ) (w : Option HeapLinks) → Relinks s t x w → is_some w ≡ is_some (links_of s x)
+      → KeepsValues s t
   KeepsValues-relinks s t x w r some = record {
     values = r.values;
     linked = λ k. ap (λ f. is_some (f k)) r.links ∙ linked-some (links_of s) x w some k;

@@ -1,13 +1,18 @@
 -- How the pieces of a heap change while trees are popped, melded and chained.
-use Rattle.std.proofs.Common.{IfSome, ◌⊎◌, ◌≡◌, ℕ, suc, ◌+◌, ◌≤◌, ◌<◌, true, false, Option, Some, None, cond, is_some, refl, sym, ap, subst, ◌∙◌, inl, inr, arith}
+use Rattle.std.proofs.Common.{IfSome, ◌⊎◌, ◌≡◌, ℕ, suc, ◌+◌, ◌≤◌, ◌<◌, true, false, Option, Some, None, cond, is_some, refl, sym}
+use Rattle.std.proofs.Common.{ap, subst, ◌∙◌, inl, inr, arith}
 use Rattle.std.proofs.lemmas.Bool.{cases_eq, false≢true}
 use Rattle.std.specs.declared.cmp.Ordering.{Ordering}
 use Rattle.fi_parts.specs.declared.heap_nodes.Back.{Back}
 use Rattle.fi_parts.specs.declared.heap_nodes.Back.TheVariants.{Root, Parent}
 use Rattle.fi_parts.specs.declared.heap_nodes.HeapLinks.{HeapLinks}
-use Rattle.fi_parts.specs.HeapForests.{Forest, nil, node, Tree, no_tree, tree, head, top, one_at, count, count_in, roots, child_of, next_of, next_to, placed, linked, Makes, Strings, Holds, Roots, span, Ordered, OrderedIn}
+use Rattle.fi_parts.specs.HeapForests.{Forest, nil, node, Tree, no_tree, tree, head, top, one_at, count, count_in, roots}
+use Rattle.fi_parts.specs.HeapForests.{child_of, next_of, next_to, placed, linked, Makes, Strings, Holds, Roots, span, Ordered}
+use Rattle.fi_parts.specs.HeapForests.{OrderedIn}
 use Rattle.fi_parts.specs.HeapPieces.{flag, Pieces, Parts, Meldable, Melds}
-use Rattle.fi_parts.proofs.HeapForests.{one_at-same, one_at-other, linked-same, linked-other, not_there, Strings-alike, Roots-alike, Makes-alike, Holds-root, Holds-adopted, adopted-apart, roots-le, span-roots, placed-is, linked-some, not_in, some_same}
+use Rattle.fi_parts.proofs.HeapForests.{one_at-same, one_at-other, linked-same, linked-other, not_there, Strings-alike}
+use Rattle.fi_parts.proofs.HeapForests.{Roots-alike, Makes-alike, Holds-root, Holds-adopted, adopted-apart, roots-le, span-roots}
+use Rattle.fi_parts.proofs.HeapForests.{placed-is, linked-some, not_in, some_same}
 
 pub flag-le : (o : Option HeapLinks) → flag o ≤ 1
 flag-le None = omega arith
@@ -26,7 +31,8 @@ flag-same o q e = ap (λ b. cond b 1 0) e
 module _ {T : Type 0} (cmp : T → T → Ordering) (g : ℕ → Option HeapLinks) (v : ℕ → Option T) where
   -- the trees at the front of a chain
 
-  pub pop : (m : Tree) (a : ℕ) (kids rest us : Forest) → Pieces cmp g v m no_tree (node a kids rest) us → Pieces cmp g v m (tree a kids) rest us
+  pub pop : (m : Tree) (a : ℕ) (kids rest us : Forest) → Pieces cmp g v m no_tree (node a kids rest) us
+      → Pieces cmp g v m (tree a kids) rest us
   pop m a kids rest us p = record {
     main_made = p.main_made;
     held_made = (p.rest_made.0, p.rest_made.1, p.rest_made.3);
@@ -66,7 +72,8 @@ next_to-next (Some l) next some = refl
 
 module _ {T : Type 0} (cmp : T → T → Ordering) (g : ℕ → Option HeapLinks) (v : ℕ → Option T) where
   -- a held tree goes in front of the second chain
-  pub push : (m : Tree) (a : ℕ) (kids rest us : Forest) → Pieces cmp g v m (tree a kids) rest us → Pieces cmp (linked g a (next_to (g a) (head us))) v m no_tree rest (node a kids us)
+  pub push : (m : Tree) (a : ℕ) (kids rest us : Forest) → Pieces cmp g v m (tree a kids) rest us
+      → Pieces cmp (linked g a (next_to (g a) (head us))) v m no_tree rest (node a kids us)
   push m a kids rest us p =
       let h = linked g a (next_to (g a) (head us)) in
       let here = one_at-same a in
@@ -91,11 +98,13 @@ module _ {T : Type 0} (cmp : T → T → Ordering) (g : ℕ → Option HeapLinks
         held_ordered = tt;
         rest_ordered = p.rest_ordered;
         pairs_ordered = (tt, p.held_ordered, p.pairs_ordered);
-        tally = λ k. let kept = p.tally k in let same = flag-same (g k) (h k) (linked-some g a _ (next_to-some (g a) (head us)) k) in omega arith;
+        tally = λ k. let kept = p.tally k in let same = flag-same (g k) (h k)
+            (linked-some g a _ (next_to-some (g a) (head us)) k) in omega arith;
       }
 
   -- a held tree becomes the heap's
-  pub rooted : (a : ℕ) (kids : Forest) → Pieces cmp g v no_tree (tree a kids) nil nil → Pieces cmp (linked g a (placed (g a) None Root)) v (tree a kids) no_tree nil nil
+  pub rooted : (a : ℕ) (kids : Forest) → Pieces cmp g v no_tree (tree a kids) nil nil
+      → Pieces cmp (linked g a (placed (g a) None Root)) v (tree a kids) no_tree nil nil
   rooted a kids p =
       let h = linked g a (placed (g a) None Root) in
       let here = one_at-same a in
@@ -114,11 +123,13 @@ module _ {T : Type 0} (cmp : T → T → Ordering) (g : ℕ → Option HeapLinks
         held_ordered = tt;
         rest_ordered = tt;
         pairs_ordered = tt;
-        tally = λ k. let kept = p.tally k in let same = flag-same (g k) (h k) (linked-some g a _ (ap is_some is ∙ sym p.held_made.0) k) in omega arith;
+        tally = λ k. let kept = p.tally k in let same = flag-same (g k) (h k)
+            (linked-some g a _ (ap is_some is ∙ sym p.held_made.0) k) in omega arith;
       }
 
   -- a slot that isn't linked becomes a tree of its own
-  pub added : (m : Tree) (a : ℕ) → is_some (g a) ≡ false → Pieces cmp g v m no_tree nil nil → Pieces cmp (linked g a (Some (record { child = None; next = None; back = Root }))) v m (tree a nil) nil nil
+  pub added : (m : Tree) (a : ℕ) → is_some (g a) ≡ false → Pieces cmp g v m no_tree nil nil
+      → Pieces cmp (linked g a (Some (record { child = None; next = None; back = Root }))) v m (tree a nil) nil nil
   added m a free p =
       let new : Option HeapLinks = Some (record { child = None; next = None; back = Root }) in
       let h = linked g a new in
@@ -148,14 +159,18 @@ module _ {T : Type 0} (cmp : T → T → Ordering) (g : ℕ → Option HeapLinks
             ];
       }
 
-  module _ (m : Tree) (w l : ℕ) (kw kl rest us : Forest) (tally : (k : ℕ) → (count_in k m + (count_in k (tree w kw) + count_in k (tree l kl))) + (count k rest + count k us) ≡ flag (g k)) where
+  module _ (m : Tree) (w l : ℕ) (kw kl rest us : Forest) (tally : (k : ℕ)
+      → (count_in k m + (count_in k (tree w kw) + count_in k (tree l kl))) + (count k rest + count k us) ≡ flag (g k)) where
     apart : (k : ℕ) → count_in k (tree w kw) + count_in k (tree l kl) ≤ 1
     apart k = let was = tally k in let most = flag-le (g k) in omega arith
 
     -- one of two held trees adopts the other
-    pub adopt : (h : ℕ → Option HeapLinks) → Melds cmp g h v w l → ((k : ℕ) → is_some (h k) ≡ is_some (g k)) → Roots g m → Holds g (tree w kw) → Holds g (tree l kl) → Strings g rest → Strings g us → OrderedIn cmp v m → Ordered cmp v (Some w) kw → Ordered cmp v (Some l) kl → Ordered cmp v None rest → Ordered cmp v None us → Pieces cmp h v m (tree w (node l kl kw)) rest us
+    pub adopt : (h : ℕ → Option HeapLinks) → Melds cmp g h v w l → ((k : ℕ) → is_some (h k) ≡ is_some (g k)) → Roots g m
+        → Holds g (tree w kw) → Holds g (tree l kl) → Strings g rest → Strings g us → OrderedIn cmp v m → Ordered cmp v (Some w) kw
+        → Ordered cmp v (Some l) kl → Ordered cmp v None rest → Ordered cmp v None us → Pieces cmp h v m (tree w (node l kl kw)) rest us
     adopt h melds flags rm hw hl sr su om ow ol or ou =
-        let keeps = λ (k : ℕ) (none : count_in k (tree w kw) + count_in k (tree l kl) ≡ 0). ap (λ f. f k) melds.links ∙ adopted-apart g w l kw kl apart hw k none in
+        let keeps = λ (k : ℕ) (none : count_in k (tree w kw) + count_in k (tree l kl) ≡ 0). ap (λ f. f k) melds.links ∙ adopted-apart g
+        w l kw kl apart hw k none in
         let most = λ (k : ℕ). flag-le (g k) in record {
           main_made = Roots-alike g h m (λ k at. let was = tally k in let most = flag-le (g k) in keeps k (omega arith)) rm;
           held_made = subst (λ f. Holds f (tree w (node l kl kw))) (sym melds.links) (Holds-adopted g w l kw kl apart hw hl);
@@ -175,7 +190,8 @@ Into cmp g v h left right winner =
 
 module _ {T : Type 0} (cmp : T → T → Ordering) (v : ℕ → Option T) where
   -- the same pieces, where the slots at their fronts have other names
-  parts : (g : ℕ → Option HeapLinks) (m t : Tree) (ts us : Forest) (a b c d : Option ℕ) → top m ≡ a → top t ≡ b → head ts ≡ c → head us ≡ d → Pieces cmp g v m t ts us → (P : Parts cmp g v a b c d) × (roots P.rest ≡ roots ts)
+  parts : (g : ℕ → Option HeapLinks) (m t : Tree) (ts us : Forest) (a b c d : Option ℕ) → top m ≡ a → top t ≡ b → head ts ≡ c → head us
+      ≡ d → Pieces cmp g v m t ts us → (P : Parts cmp g v a b c d) × (roots P.rest ≡ roots ts)
   parts g m t ts us a b c d p q r s pieces = (
     record {
       main = m;
@@ -192,69 +208,86 @@ module _ {T : Type 0} (cmp : T → T → Ordering) (v : ℕ → Option T) where
   )
 
   module _ (g : ℕ → Option HeapLinks) where
-    next-is : (x : ℕ) (kids rest us : Forest) (a : ℕ) → ◌≡◌ {A = Option ℕ} (Some x) (Some a) → Strings g (node x kids rest) → head rest ≡ next_of (g a)
+    next-is : (x : ℕ) (kids rest us : Forest) (a : ℕ) → ◌≡◌ {A = Option ℕ} (Some x) (Some a) → Strings g (node x kids rest) → head rest
+        ≡ next_of (g a)
     next-is x kids rest us a e made = sym made.2 ∙ ap (λ q. next_of (g q)) (some_same e)
 
-    pub pop-parts : (a : ℕ) (ma pa : Option ℕ) → (P : Parts cmp g v ma None (Some a) pa) → (Q : Parts cmp g v ma (Some a) (next_of (g a)) pa) × (suc (roots Q.rest) ≡ roots P.rest)
+    pub pop-parts : (a : ℕ) (ma pa : Option ℕ) → (P : Parts cmp g v ma None (Some a) pa)
+        → (Q : Parts cmp g v ma (Some a) (next_of (g a)) pa) × (suc (roots Q.rest) ≡ roots P.rest)
     pop-parts a ma pa P = from P.main P.held P.rest P.pairs P.main_top P.held_top P.rest_head P.pairs_head P.pieces
       where
-        from : (m t : Tree) (ts us : Forest) → top m ≡ ma → top t ≡ None → head ts ≡ Some a → head us ≡ pa → Pieces cmp g v m t ts us → (Q : Parts cmp g v ma (Some a) (next_of (g a)) pa) × (suc (roots Q.rest) ≡ roots ts)
+        from : (m t : Tree) (ts us : Forest) → top m ≡ ma → top t ≡ None → head ts ≡ Some a → head us ≡ pa → Pieces cmp g v m t ts us
+            → (Q : Parts cmp g v ma (Some a) (next_of (g a)) pa) × (suc (roots Q.rest) ≡ roots ts)
         from m (tree y ky) ts us mt ht rt pt p = absurd (cc)
         from m no_tree nil us mt ht rt pt p = absurd (cc)
         from m no_tree (node x kids rest) us mt ht rt pt p =
-            let made = parts g m (tree x kids) rest us ma (Some a) (next_of (g a)) pa mt rt (next-is x kids rest us a rt p.rest_made) pt (pop cmp g v m x kids rest us p) in
+            let made = parts g m (tree x kids) rest us ma (Some a) (next_of (g a)) pa mt rt (next-is x kids rest us a rt p.rest_made) pt
+            (pop cmp g v m x kids rest us p) in
             (made.0, ap suc made.1)
 
     pub turn-parts : (ma pa : Option ℕ) → Parts cmp g v ma None None pa → Parts cmp g v ma None pa None
     turn-parts ma pa P = from P.main P.held P.rest P.pairs P.main_top P.held_top P.rest_head P.pairs_head P.pieces
       where
-        from : (m t : Tree) (ts us : Forest) → top m ≡ ma → top t ≡ None → head ts ≡ None → head us ≡ pa → Pieces cmp g v m t ts us → Parts cmp g v ma None pa None
+        from : (m t : Tree) (ts us : Forest) → top m ≡ ma → top t ≡ None → head ts ≡ None → head us ≡ pa → Pieces cmp g v m t ts us
+            → Parts cmp g v ma None pa None
         from m (tree y ky) ts us mt ht rt pt p = absurd (cc)
         from m no_tree (node x kids rest) us mt ht rt pt p = absurd (cc)
         from m no_tree nil us mt ht rt pt p = (parts g m no_tree us nil ma None pa None mt refl pt refl (turn cmp g v m us p)).0
 
-    pub push-parts : (a : ℕ) (ma ra pa : Option ℕ) → (P : Parts cmp g v ma (Some a) ra pa) → (Q : Parts cmp (linked g a (next_to (g a) pa)) v ma None ra (Some a)) × (roots Q.rest ≡ roots P.rest)
+    pub push-parts : (a : ℕ) (ma ra pa : Option ℕ) → (P : Parts cmp g v ma (Some a) ra pa)
+        → (Q : Parts cmp (linked g a (next_to (g a) pa)) v ma None ra (Some a)) × (roots Q.rest ≡ roots P.rest)
     push-parts a ma ra pa P = from P.main P.held P.rest P.pairs P.main_top P.held_top P.rest_head P.pairs_head P.pieces
       where
-        from : (m t : Tree) (ts us : Forest) → top m ≡ ma → top t ≡ Some a → head ts ≡ ra → head us ≡ pa → Pieces cmp g v m t ts us → (Q : Parts cmp (linked g a (next_to (g a) pa)) v ma None ra (Some a)) × (roots Q.rest ≡ roots ts)
+        from : (m t : Tree) (ts us : Forest) → top m ≡ ma → top t ≡ Some a → head ts ≡ ra → head us ≡ pa → Pieces cmp g v m t ts us
+            → (Q : Parts cmp (linked g a (next_to (g a) pa)) v ma None ra (Some a)) × (roots Q.rest ≡ roots ts)
         from m no_tree ts us mt ht rt pt p = absurd (cc)
         from m (tree x kids) ts us mt ht rt pt p =
-            subst (λ (y : ℕ). (Q : Parts cmp (linked g y (next_to (g y) pa)) v ma None ra (Some y)) × (roots Q.rest ≡ roots ts)) (some_same ht)
+            subst (λ (y : ℕ). (Q : Parts cmp (linked g y (next_to (g y) pa)) v ma None ra (Some y)) × (roots Q.rest ≡ roots ts))
+            (some_same ht)
             (subst (λ (d : Option ℕ). (Q : Parts cmp (linked g x (next_to (g x) d)) v ma None ra (Some x)) × (roots Q.rest ≡ roots ts)) pt
-            (parts (linked g x (next_to (g x) (head us))) m no_tree ts (node x kids us) ma None ra (Some x) mt refl rt refl (push cmp g v m x kids ts us p)))
+            (parts (linked g x (next_to (g x) (head us))) m no_tree ts (node x kids us) ma None ra (Some x) mt refl rt refl
+            (push cmp g v m x kids ts us p)))
 
     -- a slot that isn't linked becomes a tree of its own
-    pub add-parts : (a : ℕ) (ma : Option ℕ) → is_some (g a) ≡ false → Parts cmp g v ma None None None → Parts cmp (linked g a (Some (record { child = None; next = None; back = Root }))) v ma (Some a) None None
+    pub add-parts : (a : ℕ) (ma : Option ℕ) → is_some (g a) ≡ false → Parts cmp g v ma None None None
+        → Parts cmp (linked g a (Some (record { child = None; next = None; back = Root }))) v ma (Some a) None None
     add-parts a ma free P = from P.main P.held P.rest P.pairs P.main_top P.held_top P.rest_head P.pairs_head P.pieces
       where
-        from : (m t : Tree) (ts us : Forest) → top m ≡ ma → top t ≡ None → head ts ≡ None → head us ≡ None → Pieces cmp g v m t ts us → Parts cmp (linked g a (Some (record { child = None; next = None; back = Root }))) v ma (Some a) None None
+        from : (m t : Tree) (ts us : Forest) → top m ≡ ma → top t ≡ None → head ts ≡ None → head us ≡ None → Pieces cmp g v m t ts us
+            → Parts cmp (linked g a (Some (record { child = None; next = None; back = Root }))) v ma (Some a) None None
         from m (tree y ky) ts us mt ht rt pt p = absurd (cc)
         from m no_tree (node y ky ry) us mt ht rt pt p = absurd (cc)
         from m no_tree nil (node y ky ry) mt ht rt pt p = absurd (cc)
         from m no_tree nil nil mt ht rt pt p =
-            (parts (linked g a (Some (record { child = None; next = None; back = Root }))) m (tree a nil) nil nil ma (Some a) None None mt refl refl refl (added cmp g v m a free p)).0
+            (parts (linked g a (Some (record { child = None; next = None; back = Root }))) m (tree a nil) nil nil ma (Some a) None None
+            mt refl refl refl (added cmp g v m a free p)).0
 
-    pub root-parts : (a : ℕ) → Parts cmp g v None (Some a) None None → Parts cmp (linked g a (placed (g a) None Root)) v (Some a) None None None
+    pub root-parts : (a : ℕ) → Parts cmp g v None (Some a) None None
+        → Parts cmp (linked g a (placed (g a) None Root)) v (Some a) None None None
     root-parts a P = from P.main P.held P.rest P.pairs P.main_top P.held_top P.rest_head P.pairs_head P.pieces
       where
-        from : (m t : Tree) (ts us : Forest) → top m ≡ None → top t ≡ Some a → head ts ≡ None → head us ≡ None → Pieces cmp g v m t ts us → Parts cmp (linked g a (placed (g a) None Root)) v (Some a) None None None
+        from : (m t : Tree) (ts us : Forest) → top m ≡ None → top t ≡ Some a → head ts ≡ None → head us ≡ None
+            → Pieces cmp g v m t ts us → Parts cmp (linked g a (placed (g a) None Root)) v (Some a) None None None
         from (tree y ky) t ts us mt ht rt pt p = absurd (cc)
         from no_tree no_tree ts us mt ht rt pt p = absurd (cc)
         from no_tree (tree x kids) (node y ky ry) us mt ht rt pt p = absurd (cc)
         from no_tree (tree x kids) nil (node y ky ry) mt ht rt pt p = absurd (cc)
         from no_tree (tree x kids) nil nil mt ht rt pt p =
             subst (λ (y : ℕ). Parts cmp (linked g y (placed (g y) None Root)) v (Some y) None None None) (some_same ht)
-            (parts (linked g x (placed (g x) None Root)) (tree x kids) no_tree nil nil (Some x) None None None refl refl refl refl (rooted cmp g v x kids p)).0
+            (parts (linked g x (placed (g x) None Root)) (tree x kids) no_tree nil nil (Some x) None None None refl refl refl refl
+            (rooted cmp g v x kids p)).0
 
     module _ (h : ℕ → Option HeapLinks) (flags : (k : ℕ) → is_some (h k) ≡ is_some (g k)) where
       into-same : (x y a b winner : ℕ) → x ≡ a → y ≡ b → Into cmp g v h a b winner → Into cmp g v h x y winner
       into-same x y a b winner e f into =
           subst (λ (q : ℕ). Into cmp g v h q y winner) (sym e) (subst (λ (q : ℕ). Into cmp g v h a q winner) (sym f) into)
 
-      pub meld-parts : (a b winner : ℕ) (ma pa : Option ℕ) → Into cmp g v h a b winner → (P : Parts cmp g v ma (Some a) (Some b) pa) → (Q : Parts cmp h v ma (Some winner) (next_of (g b)) pa) × (suc (roots Q.rest) ≡ roots P.rest)
+      pub meld-parts : (a b winner : ℕ) (ma pa : Option ℕ) → Into cmp g v h a b winner → (P : Parts cmp g v ma (Some a) (Some b) pa)
+          → (Q : Parts cmp h v ma (Some winner) (next_of (g b)) pa) × (suc (roots Q.rest) ≡ roots P.rest)
       meld-parts a b winner ma pa into P = from P.main P.held P.rest P.pairs P.main_top P.held_top P.rest_head P.pairs_head P.pieces
         where
-          from : (m t : Tree) (ts us : Forest) → top m ≡ ma → top t ≡ Some a → head ts ≡ Some b → head us ≡ pa → Pieces cmp g v m t ts us → (Q : Parts cmp h v ma (Some winner) (next_of (g b)) pa) × (suc (roots Q.rest) ≡ roots ts)
+          from : (m t : Tree) (ts us : Forest) → top m ≡ ma → top t ≡ Some a → head ts ≡ Some b → head us ≡ pa
+              → Pieces cmp g v m t ts us → (Q : Parts cmp h v ma (Some winner) (next_of (g b)) pa) × (suc (roots Q.rest) ≡ roots ts)
           from m no_tree ts us mt ht rt pt p = absurd (cc)
           from m (tree x kx) nil us mt ht rt pt p = absurd (cc)
           from m (tree x kx) (node y ky rest) us mt ht rt pt p =
@@ -262,19 +295,26 @@ module _ {T : Type 0} (cmp : T → T → Ordering) (v : ℕ → Option T) where
               let hy : Holds g (tree y ky) = (p.rest_made.0, p.rest_made.1, p.rest_made.3) in
               elim (into-same x y a b winner (some_same ht) (some_same rt) into) [
                 | inl won ↦
-                    let made = parts h m (tree x (node y ky kx)) rest us ma (Some winner) (next_of (g b)) pa mt (ap Some (sym won.0)) after pt
-                    (adopt cmp g v m x y kx ky rest us (λ k. let was = p.tally k in omega arith) h won.1 flags p.main_made p.held_made hy p.rest_made.4 p.pairs_made p.main_ordered p.held_ordered p.rest_ordered.1 p.rest_ordered.2 p.pairs_ordered) in
+                    let made = parts h m (tree x (node y ky kx)) rest us ma (Some winner) (next_of (g b)) pa mt (ap Some (sym won.0))
+                    after pt
+                    (adopt cmp g v m x y kx ky rest us (λ k. let was = p.tally k in omega arith) h won.1 flags p.main_made p.held_made
+                    hy p.rest_made.4 p.pairs_made p.main_ordered p.held_ordered p.rest_ordered.1 p.rest_ordered.2 p.pairs_ordered) in
                     (made.0, ap suc made.1)
                 | inr won ↦
-                    let made = parts h m (tree y (node x kx ky)) rest us ma (Some winner) (next_of (g b)) pa mt (ap Some (sym won.0)) after pt
-                    (adopt cmp g v m y x ky kx rest us (λ k. let was = p.tally k in omega arith) h won.1 flags p.main_made hy p.held_made p.rest_made.4 p.pairs_made p.main_ordered p.rest_ordered.1 p.held_ordered p.rest_ordered.2 p.pairs_ordered) in
+                    let made = parts h m (tree y (node x kx ky)) rest us ma (Some winner) (next_of (g b)) pa mt (ap Some (sym won.0))
+                    after pt
+                    (adopt cmp g v m y x ky kx rest us (λ k. let was = p.tally k in omega arith) h won.1 flags p.main_made hy
+                    p.held_made p.rest_made.4 p.pairs_made p.main_ordered p.rest_ordered.1 p.held_ordered p.rest_ordered.2
+                    p.pairs_ordered) in
                     (made.0, ap suc made.1)
               ]
 
-      pub meld-root : (a b winner : ℕ) → Into cmp g v h a b winner → Parts cmp g v (Some a) (Some b) None None → Parts cmp h v None (Some winner) None None
+      pub meld-root : (a b winner : ℕ) → Into cmp g v h a b winner → Parts cmp g v (Some a) (Some b) None None
+          → Parts cmp h v None (Some winner) None None
       meld-root a b winner into P = from P.main P.held P.rest P.pairs P.main_top P.held_top P.rest_head P.pairs_head P.pieces
         where
-          from : (m t : Tree) (ts us : Forest) → top m ≡ Some a → top t ≡ Some b → head ts ≡ None → head us ≡ None → Pieces cmp g v m t ts us → Parts cmp h v None (Some winner) None None
+          from : (m t : Tree) (ts us : Forest) → top m ≡ Some a → top t ≡ Some b → head ts ≡ None → head us ≡ None
+              → Pieces cmp g v m t ts us → Parts cmp h v None (Some winner) None None
           from no_tree t ts us mt ht rt pt p = absurd (cc)
           from (tree x kx) no_tree ts us mt ht rt pt p = absurd (cc)
           from (tree x kx) (tree y ky) (node z kz rz) us mt ht rt pt p = absurd (cc)
@@ -284,10 +324,12 @@ module _ {T : Type 0} (cmp : T → T → Ordering) (v : ℕ → Option T) where
               elim (into-same x y a b winner (some_same mt) (some_same ht) into) [
                 | inl won ↦
                     (parts h no_tree (tree x (node y ky kx)) nil nil None (Some winner) None None refl (ap Some (sym won.0)) refl refl
-                    (adopt cmp g v no_tree x y kx ky nil nil (λ k. let was = p.tally k in omega arith) h won.1 flags tt hx p.held_made tt tt tt p.main_ordered p.held_ordered tt tt)).0
+                    (adopt cmp g v no_tree x y kx ky nil nil (λ k. let was = p.tally k in omega arith) h won.1 flags tt hx p.held_made
+                    tt tt tt p.main_ordered p.held_ordered tt tt)).0
                 | inr won ↦
                     (parts h no_tree (tree y (node x kx ky)) nil nil None (Some winner) None None refl (ap Some (sym won.0)) refl refl
-                    (adopt cmp g v no_tree y x ky kx nil nil (λ k. let was = p.tally k in omega arith) h won.1 flags tt p.held_made hx tt tt tt p.held_ordered p.main_ordered tt tt)).0
+                    (adopt cmp g v no_tree y x ky kx nil nil (λ k. let was = p.tally k in omega arith) h won.1 flags tt p.held_made hx
+                    tt tt tt p.held_ordered p.main_ordered tt tt)).0
               ]
 
     -- what a call asks of the pieces
@@ -337,10 +379,12 @@ module _ {T : Type 0} (cmp : T → T → Ordering) (v : ℕ → Option T) where
         from (node x kids rest) e made = subst (λ (q : ℕ). is_some (g q) ≡ true) (some_same e) made.0
 
     -- the chain from here on, where each linked slot is below n
-    pub span-rest : (n : ℕ) (ma ha ra pa : Option ℕ) → ((k : ℕ) → is_some (g k) ≡ true → k < n) → (P : Parts cmp g v ma ha ra pa) → span g n ra ≡ roots P.rest
+    pub span-rest : (n : ℕ) (ma ha ra pa : Option ℕ) → ((k : ℕ) → is_some (g k) ≡ true → k < n) → (P : Parts cmp g v ma ha ra pa)
+        → span g n ra ≡ roots P.rest
     span-rest n ma ha ra pa below P =
         let fits : roots P.rest ≤ n =
-        roots-le P.rest n (λ k. let was = P.pieces.tally k in let most = flag-le (g k) in omega arith) (λ k at. below k (some-flag (g k) (let was = P.pieces.tally k in omega arith))) in
+        roots-le P.rest n (λ k. let was = P.pieces.tally k in let most =
+        flag-le (g k) in omega arith) (λ k at. below k (some-flag (g k) (let was = P.pieces.tally k in omega arith))) in
         ap (span g n) (sym P.rest_head) ∙ span-roots g n P.rest fits P.pieces.rest_made
 
 -- what a meld asks of the links

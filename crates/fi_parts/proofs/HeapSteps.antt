@@ -9,11 +9,14 @@ use Rattle.fi_parts.specs.HeapPieces.{Parts}
 use Rattle.fi_parts.specs.HeapNodes.{values_of, links_of, IsLinked, Relinks, Keeps, KeepsValues, InParts, IsHeap, MeldsInto, TakesOut}
 use Rattle.fi_parts.proofs.HeapPieces.{pop-parts, push-parts, meld-parts, meld-root, root-parts, span-rest, add-parts}
 use Rattle.fi_parts.proofs.HeapCuts.{cut, without}
-use Rattle.fi_parts.proofs.HeapNodes.{is_within, Keeps-relinks, next_to-some, placed-some, Keeps-then, TakesOut-then, TakesOut-unlinked, KeepsValues-then, KeepsValues-relinks, values-kept}
+use Rattle.fi_parts.proofs.HeapNodes.{is_within, Keeps-relinks, next_to-some, placed-some, Keeps-then, TakesOut-then}
+use Rattle.fi_parts.proofs.HeapNodes.{TakesOut-unlinked, KeepsValues-then, KeepsValues-relinks, values-kept}
 
 module _ {T : Type 0} (cmp : T → T → Ordering) where
   -- the measure of a loop over a chain falls with the number of its trees
-  pub fewer : (s t : HeapNodes T) (ma ha ra pa mb hb rb pb : Option ℕ) (rx : Option ℕ) → rx ≡ ra → (P : InParts cmp s ma ha ra pa) (Q : InParts cmp t mb hb rb pb) → suc (roots Q.rest) ≤ roots P.rest → suc (span (links_of t) (length t.store.slots) rb) ≤ span (links_of s) (length s.store.slots) rx
+  pub fewer : (s t : HeapNodes T) (ma ha ra pa mb hb rb pb : Option ℕ) (rx : Option ℕ) → rx ≡ ra
+      → (P : InParts cmp s ma ha ra pa) (Q : InParts cmp t mb hb rb pb) → suc (roots Q.rest) ≤ roots P.rest
+      → suc (span (links_of t) (length t.store.slots) rb) ≤ span (links_of s) (length s.store.slots) rx
   fewer s t ma ha ra pa mb hb rb pb rx is P Q less =
       let at = ap (span (links_of s) (length s.store.slots)) is in
       let before = span-rest cmp (values_of s) (links_of s) (length s.store.slots) ma ha ra pa (is_within s) P in
@@ -24,20 +27,28 @@ module _ {T : Type 0} (cmp : T → T → Ordering) where
   pub at-root : (s : HeapNodes T) (r ha ra pa : Option ℕ) → s.root ≡ r → InParts cmp s r ha ra pa → InParts cmp s s.root ha ra pa
   at-root s r ha ra pa e P = subst (λ (m : Option ℕ). InParts cmp s m ha ra pa) (sym e) P
 
-  pub pop-next : (s : HeapNodes T) (a : ℕ) (ma pa : Option ℕ) (l : HeapLinks) → links_of s a ≡ Some l → (P : InParts cmp s ma None (Some a) pa) → (Q : InParts cmp s ma (Some a) l.next pa) × (suc (roots Q.rest) ≡ roots P.rest)
+  pub pop-next : (s : HeapNodes T) (a : ℕ) (ma pa : Option ℕ) (l : HeapLinks) → links_of s a ≡ Some l
+      → (P : InParts cmp s ma None (Some a) pa) → (Q : InParts cmp s ma (Some a) l.next pa) × (suc (roots Q.rest) ≡ roots P.rest)
   pop-next s a ma pa l is P =
-      subst (λ (o : Option HeapLinks). (Q : InParts cmp s ma (Some a) (next_of o) pa) × (suc (roots Q.rest) ≡ roots P.rest)) is (pop-parts cmp (values_of s) (links_of s) a ma pa P)
+      subst (λ (o : Option HeapLinks). (Q : InParts cmp s ma (Some a) (next_of o) pa) × (suc (roots Q.rest) ≡ roots P.rest)) is
+      (pop-parts cmp (values_of s) (links_of s) a ma pa P)
 
-  pub meld-next : (s t : HeapNodes T) (a b winner : ℕ) (ma pa : Option ℕ) (l : HeapLinks) → links_of s b ≡ Some l → MeldsInto cmp s t a b winner → Keeps s t → (P : InParts cmp s ma (Some a) (Some b) pa) → (Q : InParts cmp t ma (Some winner) l.next pa) × (suc (roots Q.rest) ≡ roots P.rest)
+  pub meld-next : (s t : HeapNodes T) (a b winner : ℕ) (ma pa : Option ℕ) (l : HeapLinks) → links_of s b ≡ Some l
+      → MeldsInto cmp s t a b winner → Keeps s t → (P : InParts cmp s ma (Some a) (Some b) pa)
+      → (Q : InParts cmp t ma (Some winner) l.next pa) × (suc (roots Q.rest) ≡ roots P.rest)
   meld-next s t a b winner ma pa l is melds keeps P =
-      subst (λ (v : ℕ → Option T). (Q : Parts cmp (links_of t) v ma (Some winner) l.next pa) × (suc (roots Q.rest) ≡ roots P.rest)) (sym keeps.values)
-      (subst (λ (o : Option HeapLinks). (Q : Parts cmp (links_of t) (values_of s) ma (Some winner) (next_of o) pa) × (suc (roots Q.rest) ≡ roots P.rest)) is
+      subst (λ (v : ℕ → Option T). (Q : Parts cmp (links_of t) v ma (Some winner) l.next pa) × (suc (roots Q.rest) ≡ roots P.rest))
+      (sym keeps.values)
+      (subst (λ (o : Option HeapLinks). (Q : Parts cmp (links_of t) (values_of s) ma (Some winner) (next_of o) pa)
+      × (suc (roots Q.rest) ≡ roots P.rest)) is
       (meld-parts cmp (values_of s) (links_of s) (links_of t) keeps.linked a b winner ma pa melds P))
 
-  pub push-next : (s t : HeapNodes T) (a : ℕ) (ma ra pa : Option ℕ) → Relinks s t a (next_to (links_of s a) pa) → (P : InParts cmp s ma (Some a) ra pa) → (Q : InParts cmp t ma None ra (Some a)) × (roots Q.rest ≡ roots P.rest)
+  pub push-next : (s t : HeapNodes T) (a : ℕ) (ma ra pa : Option ℕ) → Relinks s t a (next_to (links_of s a) pa)
+      → (P : InParts cmp s ma (Some a) ra pa) → (Q : InParts cmp t ma None ra (Some a)) × (roots Q.rest ≡ roots P.rest)
   push-next s t a ma ra pa relinks P =
       subst (λ (v : ℕ → Option T). (Q : Parts cmp (links_of t) v ma None ra (Some a)) × (roots Q.rest ≡ roots P.rest)) (sym relinks.values)
-      (subst (λ (g : ℕ → Option HeapLinks). (Q : Parts cmp g (values_of s) ma None ra (Some a)) × (roots Q.rest ≡ roots P.rest)) (sym relinks.links)
+      (subst (λ (g : ℕ → Option HeapLinks). (Q : Parts cmp g (values_of s) ma None ra (Some a)) × (roots Q.rest ≡ roots P.rest))
+      (sym relinks.links)
       (push-parts cmp (values_of s) (links_of s) a ma ra pa P))
 
   -- one turn of the pairing: what it leaves, and that fewer trees are left
@@ -46,17 +57,23 @@ module _ {T : Type 0} (cmp : T → T → Ordering) where
     pub less : suc (roots parts.rest) ≤ roots P.rest
     pub kept : Keeps s u
 
-  relinks-at : (t0 t u : HeapNodes T) (pair0 pair : ℕ) (pa : Option ℕ) → t0 ≡ t → pair0 ≡ pair → Relinks t0 u pair0 (next_to (links_of t0 pair0) pa) → Relinks t u pair (next_to (links_of t pair) pa)
+  relinks-at : (t0 t u : HeapNodes T) (pair0 pair : ℕ) (pa : Option ℕ) → t0 ≡ t → pair0 ≡ pair
+      → Relinks t0 u pair0 (next_to (links_of t0 pair0) pa) → Relinks t u pair (next_to (links_of t pair) pa)
   relinks-at t0 t u pair0 pair pa e f relinks =
-      subst (λ (p : ℕ). Relinks t u p (next_to (links_of t p) pa)) f (subst (λ (x : HeapNodes T). Relinks x u pair0 (next_to (links_of x pair0) pa)) e relinks)
+      subst (λ (p : ℕ). Relinks t u p (next_to (links_of t p) pa)) f
+      (subst (λ (x : HeapNodes T). Relinks x u pair0 (next_to (links_of x pair0) pa)) e relinks)
 
-  pub pair-two : (s t t0 u : HeapNodes T) (left right pair pair0 : ℕ) (ma rest pa : Option ℕ) (l r : HeapLinks) → links_of s left ≡ Some l → l.next ≡ Some right → links_of s right ≡ Some r → rest ≡ r.next → t0 ≡ t → pair0 ≡ pair → MeldsInto cmp s t left right pair → Keeps s t → Relinks t0 u pair0 (next_to (links_of t0 pair0) pa) → (P : InParts cmp s ma None (Some left) pa) → Turned s u ma (Some left) rest pa P pair0
+  pub pair-two : (s t t0 u : HeapNodes T) (left right pair pair0 : ℕ) (ma rest pa : Option ℕ) (l r : HeapLinks) → links_of s left
+      ≡ Some l → l.next ≡ Some right → links_of s right ≡ Some r → rest ≡ r.next → t0 ≡ t → pair0 ≡ pair
+      → MeldsInto cmp s t left right pair → Keeps s t → Relinks t0 u pair0 (next_to (links_of t0 pair0) pa)
+      → (P : InParts cmp s ma None (Some left) pa) → Turned s u ma (Some left) rest pa P pair0
   pair-two s t t0 u left right pair pair0 ma rest pa l r at_left next at_right after same_store same_pair melds keeps written P =
       let relinks = relinks-at t0 t u pair0 pair pa same_store same_pair written in
       let popped = pop-next s left ma pa l at_left P in
       let second = subst (λ (n : Option ℕ). (Q : InParts cmp s ma (Some left) n pa) × (suc (roots Q.rest) ≡ roots P.rest)) next popped in
       let melded = meld-next s t left right pair ma pa r at_right melds keeps second.0 in
-      let third = subst (λ (n : Option ℕ). (Q : InParts cmp t ma (Some pair) n pa) × (suc (roots Q.rest) ≡ roots second.0.rest)) (sym after) melded in
+      let third = subst (λ (n : Option ℕ). (Q : InParts cmp t ma (Some pair) n pa) × (suc (roots Q.rest) ≡ roots second.0.rest))
+      (sym after) melded in
       let pushed = push-next t u pair ma rest pa relinks third.0 in
       subst (λ (p : ℕ). Turned s u ma (Some left) rest pa P p) (sym same_pair) (record {
         parts = pushed.0;
@@ -64,11 +81,14 @@ module _ {T : Type 0} (cmp : T → T → Ordering) where
         kept = Keeps-then s t u keeps (Keeps-relinks t u pair _ relinks (next_to-some (links_of t pair) pa));
       })
 
-  pub pair-one : (s t0 u : HeapNodes T) (left pair0 : ℕ) (ma rest pa : Option ℕ) (l : HeapLinks) → links_of s left ≡ Some l → rest ≡ l.next → t0 ≡ s → pair0 ≡ left → Relinks t0 u pair0 (next_to (links_of t0 pair0) pa) → (P : InParts cmp s ma None (Some left) pa) → Turned s u ma (Some left) rest pa P pair0
+  pub pair-one : (s t0 u : HeapNodes T) (left pair0 : ℕ) (ma rest pa : Option ℕ) (l : HeapLinks) → links_of s left ≡ Some l → rest
+      ≡ l.next → t0 ≡ s → pair0 ≡ left → Relinks t0 u pair0 (next_to (links_of t0 pair0) pa)
+      → (P : InParts cmp s ma None (Some left) pa) → Turned s u ma (Some left) rest pa P pair0
   pair-one s t0 u left pair0 ma rest pa l at_left after same_store same_pair written P =
       let relinks = relinks-at t0 s u pair0 left pa same_store same_pair written in
       let popped = pop-next s left ma pa l at_left P in
-      let second = subst (λ (n : Option ℕ). (Q : InParts cmp s ma (Some left) n pa) × (suc (roots Q.rest) ≡ roots P.rest)) (sym after) popped in
+      let second = subst (λ (n : Option ℕ). (Q : InParts cmp s ma (Some left) n pa) × (suc (roots Q.rest) ≡ roots P.rest)) (sym after)
+      popped in
       let pushed = push-next s u left ma rest pa relinks second.0 in
       subst (λ (p : ℕ). Turned s u ma (Some left) rest pa P p) (sym same_pair) (record {
         parts = pushed.0;
@@ -78,38 +98,53 @@ module _ {T : Type 0} (cmp : T → T → Ordering) where
 
   -- a node is cut out of the heap's tree
 
-  pub cut-step : (s s1 s2 s3 : HeapNodes T) (x : ℕ) (l : HeapLinks) → links_of s x ≡ Some l → IsHeap cmp s → Relinks s s1 x None → links_of s2 ≡ pointed (links_of s1) l.back l.next → s2.root ≡ root_to s1.root l.back l.next → KeepsValues s1 s2 → links_of s3 ≡ backed (links_of s2) l.next l.back → Keeps s2 s3 → InParts cmp s3 s3.root None l.child None × TakesOut s s3 x
+  pub cut-step : (s s1 s2 s3 : HeapNodes T) (x : ℕ) (l : HeapLinks) → links_of s x ≡ Some l → IsHeap cmp s → Relinks s s1 x None
+      → links_of s2 ≡ pointed (links_of s1) l.back l.next → s2.root ≡ root_to s1.root l.back l.next → KeepsValues s1 s2 → links_of s3
+      ≡ backed (links_of s2) l.next l.back → Keeps s2 s3 → InParts cmp s3 s3.root None l.child None × TakesOut s s3 x
   cut-step s s1 s2 s3 x l is heap cleared pointed_is root_is kept_1 backed_is kept_2 =
       let links : links_of s3 ≡ backed (without (links_of s) x l) l.next l.back =
-      backed_is ∙ ap (λ (f : ℕ → Option HeapLinks). backed f l.next l.back) (pointed_is ∙ ap (λ (f : ℕ → Option HeapLinks). pointed f l.back l.next) cleared.links) in
+      backed_is ∙ ap (λ (f : ℕ → Option HeapLinks). backed f l.next l.back)
+      (pointed_is ∙ ap (λ (f : ℕ → Option HeapLinks). pointed f l.back l.next) cleared.links) in
       let out = TakesOut-then s s1 s3 x (TakesOut-unlinked s s1 x cleared) (KeepsValues-then s1 s2 s3 kept_1 (values-kept s2 s3 kept_2)) in
       let made = (cut cmp (links_of s) (values_of s) s.root x l is heap).parts (links_of s3) links out.here out.others in
-      let root : s3.root ≡ root_to s.root l.back l.next = kept_2.root ∙ root_is ∙ ap (λ (r : Option ℕ). root_to r l.back l.next) cleared.root in
-      (at-root s3 _ None l.child None root (subst (λ (v : ℕ → Option T). Parts cmp (links_of s3) v (root_to s.root l.back l.next) None l.child None) (sym out.values) made), out)
+      let root : s3.root ≡ root_to s.root l.back l.next =
+      kept_2.root ∙ root_is ∙ ap (λ (r : Option ℕ). root_to r l.back l.next) cleared.root in (
+        at-root s3 _ None l.child None root (subst (λ (v : ℕ → Option T). Parts cmp (links_of s3) v (root_to s.root l.back l.next) None
+            l.child None) (sym out.values) made),
+        out,
+      )
 
-  pub cut-back : (s s1 : HeapNodes T) (x : ℕ) (l : HeapLinks) → links_of s x ≡ Some l → IsHeap cmp s → Relinks s s1 x None → IsBackLinked (links_of s1) l.back
+  pub cut-back : (s s1 : HeapNodes T) (x : ℕ) (l : HeapLinks) → links_of s x ≡ Some l → IsHeap cmp s → Relinks s s1 x None
+      → IsBackLinked (links_of s1) l.back
   cut-back s s1 x l is heap cleared =
-      subst (λ (f : ℕ → Option HeapLinks). IsBackLinked f l.back) (sym cleared.links) (cut cmp (links_of s) (values_of s) s.root x l is heap).back_linked
+      subst (λ (f : ℕ → Option HeapLinks). IsBackLinked f l.back) (sym cleared.links)
+      (cut cmp (links_of s) (values_of s) s.root x l is heap).back_linked
 
-  pub cut-next : (s s1 s2 : HeapNodes T) (x : ℕ) (l : HeapLinks) → links_of s x ≡ Some l → IsHeap cmp s → Relinks s s1 x None → links_of s2 ≡ pointed (links_of s1) l.back l.next → IfSome l.next (λ k. IsLinked s2 k)
+  pub cut-next : (s s1 s2 : HeapNodes T) (x : ℕ) (l : HeapLinks) → links_of s x ≡ Some l → IsHeap cmp s → Relinks s s1 x None
+      → links_of s2 ≡ pointed (links_of s1) l.back l.next → IfSome l.next (λ k. IsLinked s2 k)
   cut-next s s1 s2 x l is heap cleared pointed_is =
-      subst (λ (f : ℕ → Option HeapLinks). IfSome l.next (λ k. is_some (f k) ≡ true)) (sym (pointed_is ∙ ap (λ (f : ℕ → Option HeapLinks). pointed f l.back l.next) cleared.links)) (cut cmp (links_of s) (values_of s) s.root x l is heap).next_linked
+      subst (λ (f : ℕ → Option HeapLinks). IfSome l.next (λ k. is_some (f k) ≡ true))
+      (sym (pointed_is ∙ ap (λ (f : ℕ → Option HeapLinks). pointed f l.back l.next) cleared.links))
+      (cut cmp (links_of s) (values_of s) s.root x l is heap).next_linked
 
   -- one tree becomes the heap's
 
-  pub meld-root-step : (s t : HeapNodes T) (r a winner : ℕ) → MeldsInto cmp s t r a winner → Keeps s t → InParts cmp s (Some r) (Some a) None None → InParts cmp t None (Some winner) None None
+  pub meld-root-step : (s t : HeapNodes T) (r a winner : ℕ) → MeldsInto cmp s t r a winner → Keeps s t
+      → InParts cmp s (Some r) (Some a) None None → InParts cmp t None (Some winner) None None
   meld-root-step s t r a winner melds keeps P =
       subst (λ (v : ℕ → Option T). Parts cmp (links_of t) v None (Some winner) None None) (sym keeps.values)
       (meld-root cmp (values_of s) (links_of s) (links_of t) keeps.linked r a winner melds P)
 
-  pub root-step : (t u : HeapNodes T) (a : ℕ) → Relinks t u a (placed (links_of t a) None Root) → InParts cmp t None (Some a) None None → InParts cmp u (Some a) None None None
+  pub root-step : (t u : HeapNodes T) (a : ℕ) → Relinks t u a (placed (links_of t a) None Root) → InParts cmp t None (Some a) None None
+      → InParts cmp u (Some a) None None None
   root-step t u a relinks P =
       subst (λ (v : ℕ → Option T). Parts cmp (links_of u) v (Some a) None None None) (sym relinks.values)
       (subst (λ (f : ℕ → Option HeapLinks). Parts cmp f (values_of t) (Some a) None None None) (sym relinks.links)
       (root-parts cmp (values_of t) (links_of t) a P))
 
   -- a node alone is a tree
-  pub add-step : (s t : HeapNodes T) (a : ℕ) → is_some (links_of s a) ≡ false → IsHeap cmp s → Relinks s t a (Some (record { child = None; next = None; back = Root })) → InParts cmp t t.root (Some a) None None
+  pub add-step : (s t : HeapNodes T) (a : ℕ) → is_some (links_of s a) ≡ false → IsHeap cmp s
+      → Relinks s t a (Some (record { child = None; next = None; back = Root })) → InParts cmp t t.root (Some a) None None
   add-step s t a free P relinks =
       at-root t s.root (Some a) None None relinks.root
       (subst (λ (v : ℕ → Option T). Parts cmp (links_of t) v s.root (Some a) None None) (sym relinks.values)
@@ -121,7 +156,8 @@ module _ {T : Type 0} (cmp : T → T → Ordering) where
     pub parts : InParts cmp t None (Some a) None None
     pub kept : KeepsValues s t
 
-  pub holding-melded : (s t t0 : HeapNodes T) (r a winner winner0 : ℕ) → s.root ≡ Some r → t0 ≡ t → winner0 ≡ winner → MeldsInto cmp s t r a winner → Keeps s t → InParts cmp s s.root (Some a) None None → Holding s t0 winner0
+  pub holding-melded : (s t t0 : HeapNodes T) (r a winner winner0 : ℕ) → s.root ≡ Some r → t0 ≡ t → winner0 ≡ winner
+      → MeldsInto cmp s t r a winner → Keeps s t → InParts cmp s s.root (Some a) None None → Holding s t0 winner0
   holding-melded s t t0 r a winner winner0 root e f melds keeps P =
       subst (λ (p : ℕ). Holding s t0 p) (sym f)
       (subst (λ (x : HeapNodes T). Holding s x winner) (sym e) (record {
@@ -129,7 +165,8 @@ module _ {T : Type 0} (cmp : T → T → Ordering) where
         kept = values-kept s t keeps;
       }))
 
-  pub holding-alone : (s t0 : HeapNodes T) (a a0 : ℕ) → s.root ≡ None → t0 ≡ s → a0 ≡ a → InParts cmp s s.root (Some a) None None → Holding s t0 a0
+  pub holding-alone : (s t0 : HeapNodes T) (a a0 : ℕ) → s.root ≡ None → t0 ≡ s → a0 ≡ a → InParts cmp s s.root (Some a) None None
+      → Holding s t0 a0
   holding-alone s t0 a a0 root e f P =
       subst (λ (p : ℕ). Holding s t0 p) (sym f)
       (subst (λ (x : HeapNodes T). Holding s x a) (sym e) (record {
@@ -137,7 +174,8 @@ module _ {T : Type 0} (cmp : T → T → Ordering) where
         kept = record { values = refl; linked = λ k. refl };
       }))
 
-  pub rooted-heap : (s t u w : HeapNodes T) (a : ℕ) → Holding s t a → Relinks t u a (placed (links_of t a) None Root) → w ≡ record u { root = Some a } → IsHeap cmp w × KeepsValues s w
+  pub rooted-heap : (s t u w : HeapNodes T) (a : ℕ) → Holding s t a → Relinks t u a (placed (links_of t a) None Root) → w
+      ≡ record u { root = Some a } → IsHeap cmp w × KeepsValues s w
   rooted-heap s t u w a held relinks is =
       let kept = KeepsValues-then s t u held.kept (KeepsValues-relinks t u a _ relinks (placed-some (links_of t a) None Root)) in
       subst (λ (x : HeapNodes T). IsHeap cmp x × KeepsValues s x) (sym is) (

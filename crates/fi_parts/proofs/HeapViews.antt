@@ -1,5 +1,6 @@
 -- A heap as its callers see it, after each change of its store.
-use Rattle.std.proofs.Common.{◌≡◌, ◌≢◌, ℕ, Bool, true, false, not, eqb, [], get_or, Option, Some, None, is_some, IsSome, Bor, option_copied, refl, sym, ap, subst, ◌∙◌, inl, inr, arith}
+use Rattle.std.proofs.Common.{◌≡◌, ◌≢◌, ℕ, Bool, true, false, not, eqb, [], get_or, Option, Some, None, is_some, IsSome, Bor}
+use Rattle.std.proofs.Common.{option_copied, refl, sym, ap, subst, ◌∙◌, inl, inr, arith}
 use Rattle.std.proofs.lemmas.Bool.{cases_eq, false≢true, true≢false, eq-eqb, ne_eqb}
 use Rattle.std.specs.Ordering.{nat_cmp, is_le, ordering_reverse}
 use Rattle.std.specs.declared.cmp.Ordering.{Ordering}
@@ -15,9 +16,11 @@ use Rattle.fi_parts.specs.declared.heap_nodes.HeapNodes.{HeapNodes}
 use Rattle.fi_parts.specs.Heaped.{Heaped, IsLiveIn, with_values, MembersAreLive, IsLeastOf}
 use Rattle.fi_parts.specs.HeapForests.{Forest, nil, node, Tree, no_tree, tree, head, top, Roots, at_most}
 use Rattle.fi_parts.specs.HeapPieces.{flag, Pieces, Parts}
-use Rattle.fi_parts.specs.HeapNodes.{value_in, links_in, values_of, links_of, live_of, members_of, TakesOut, PutsIn, loose_node, revalued, with_value, InParts, IsHeap}
+use Rattle.fi_parts.specs.HeapNodes.{value_in, links_in, values_of, links_of, live_of, members_of, TakesOut, PutsIn, loose_node}
+use Rattle.fi_parts.specs.HeapNodes.{revalued, with_value, InParts, IsHeap}
 use Rattle.fi_parts.specs.Picked.{picked}
-use Rattle.fi_parts.proofs.Picked.{get-insert_same, get-insert_other, get-remove_same, get-remove_other, contains-insert_same, contains-insert_other, contains-remove_same, contains-remove_other}
+use Rattle.fi_parts.proofs.Picked.{get-insert_same, get-insert_other, get-remove_same, get-remove_other, contains-insert_same}
+use Rattle.fi_parts.proofs.Picked.{contains-insert_other, contains-remove_same, contains-remove_other}
 use Rattle.fi_parts.proofs.HeapForests.{one_at-other, Ordered-alike, OrderedIn-alike, at_most-all, some_same}
 use Rattle.fi_parts.proofs.HeapPieces.{flag-some, some-flag}
 use Rattle.fi_parts.proofs.HeapNodes.{get-live_of, contains-members_of, is_live, live-value, value-live}
@@ -32,7 +35,8 @@ module _ {T : Type 0} where
   live-same s t same =
       map.same_map nat_cmp_total map.nat_cmp-IsAntisymmetric _ _ (λ q. get-live_of t q ∙ ap (λ f. f q) same ∙ sym (get-live_of s q))
 
-  pub live-inserted : (s t : HeapNodes T) (x : ℕ) (v : T) → values_of t x ≡ Some v → ((k : ℕ) → k ≢ x → values_of t k ≡ values_of s k) → live_of t ≡ map.insert (live_of s) x v
+  pub live-inserted : (s t : HeapNodes T) (x : ℕ) (v : T) → values_of t x ≡ Some v → ((k : ℕ) → k ≢ x → values_of t k ≡ values_of s k)
+      → live_of t ≡ map.insert (live_of s) x v
   live-inserted s t x v here others = map.same_map nat_cmp_total map.nat_cmp-IsAntisymmetric _ _ each
     where
       each : (q : ℕ) → map.get (live_of t) q ≡ map.get (map.insert (live_of s) x v) q
@@ -42,7 +46,8 @@ module _ {T : Type 0} where
             | inr ne ↦ get-live_of t q ∙ others q ne ∙ sym (get-live_of s q) ∙ sym (get-insert_other (live_of s) x v q ne)
           ]
 
-  pub live-removed : (s t : HeapNodes T) (x : ℕ) → values_of t x ≡ None → ((k : ℕ) → k ≢ x → values_of t k ≡ values_of s k) → live_of t ≡ map.remove (live_of s) x
+  pub live-removed : (s t : HeapNodes T) (x : ℕ) → values_of t x ≡ None → ((k : ℕ) → k ≢ x → values_of t k ≡ values_of s k) → live_of t
+      ≡ map.remove (live_of s) x
   live-removed s t x here others = map.same_map nat_cmp_total map.nat_cmp-IsAntisymmetric _ _ each
     where
       each : (q : ℕ) → map.get (live_of t) q ≡ map.get (map.remove (live_of s) x) q
@@ -54,7 +59,8 @@ module _ {T : Type 0} where
 
   pub members-same : (s t : HeapNodes T) → links_of t ≡ links_of s → members_of t ≡ members_of s
   members-same s t same =
-      finite.same_set nat_cmp_total map.nat_cmp-IsAntisymmetric _ _ (λ q. contains-members_of t q ∙ ap (λ f. is_some (f q)) same ∙ sym (contains-members_of s q))
+      finite.same_set nat_cmp_total map.nat_cmp-IsAntisymmetric _ _
+      (λ q. contains-members_of t q ∙ ap (λ f. is_some (f q)) same ∙ sym (contains-members_of s q))
 
   pub members-inserted : (s t : HeapNodes T) (x : ℕ) → PutsIn s t x → members_of t ≡ finite.insert (members_of s) x
   members-inserted s t x puts = finite.same_set nat_cmp_total map.nat_cmp-IsAntisymmetric _ _ each
@@ -63,7 +69,8 @@ module _ {T : Type 0} where
       each q =
           elim (cases_eq q x) [
             | inl same ↦ rw same (contains-members_of t x ∙ puts.here ∙ sym (contains-insert_same (members_of s) x))
-            | inr ne ↦ contains-members_of t q ∙ puts.others q ne ∙ sym (contains-members_of s q) ∙ sym (contains-insert_other (members_of s) x q ne)
+            | inr ne ↦ contains-members_of t q ∙ puts.others q ne ∙ sym (contains-members_of s q) ∙ sym
+                (contains-insert_other (members_of s) x q ne)
           ]
 
   pub members-removed : (s t : HeapNodes T) (x : ℕ) → TakesOut s t x → members_of t ≡ finite.remove (members_of s) x
@@ -73,7 +80,8 @@ module _ {T : Type 0} where
       each q =
           elim (cases_eq q x) [
             | inl same ↦ rw same (contains-members_of t x ∙ takes.here ∙ sym (contains-remove_same (members_of s) x))
-            | inr ne ↦ contains-members_of t q ∙ takes.others q ne ∙ sym (contains-members_of s q) ∙ sym (contains-remove_other (members_of s) x q ne)
+            | inr ne ↦ contains-members_of t q ∙ takes.others q ne ∙ sym (contains-members_of s q) ∙ sym
+                (contains-remove_other (members_of s) x q ne)
           ]
 
   -- the same links, and the same values under the slots that are linked
@@ -91,7 +99,8 @@ module _ {T : Type 0} where
       from (Some l) e = absurd (true≢false e)
 
   -- a slot that isn't linked is written, and isn't linked afterwards
-  stays : (s t : HeapNodes T) (x : ℕ) (slot : Option (HeapNode T)) → Updates s.store t.store x slot → t.root ≡ s.root → is_some (links_of s x) ≡ false → picked links_in slot ≡ None → Stays s t
+  stays : (s t : HeapNodes T) (x : ℕ) (slot : Option (HeapNode T)) → Updates s.store t.store x slot → t.root ≡ s.root
+      → is_some (links_of s x) ≡ false → picked links_in slot ≡ None → Stays s t
   stays s t x slot updates root free loose = record {
     links = λ i. λ k. links-at k i;
     values = λ k at. ap (picked value_in) (updates.others k (λ same. true≢false (sym at ∙ ap (λ z. is_some (links_of s z)) same ∙ free)));
@@ -105,10 +114,12 @@ module _ {T : Type 0} where
             | inr ne ↦ ap (picked links_in) (updates.others k ne)
           ]
 
-  pub Stays-claimed : (s t : HeapNodes T) (x : ℕ) (value : T) → get s.store x ≡ None → Updates s.store t.store x (Some (loose_node value)) → t.root ≡ s.root → Stays s t
+  pub Stays-claimed : (s t : HeapNodes T) (x : ℕ) (value : T) → get s.store x ≡ None
+      → Updates s.store t.store x (Some (loose_node value)) → t.root ≡ s.root → Stays s t
   Stays-claimed s t x value free updates root = stays s t x _ updates root (ap (λ o. is_some (picked links_in o)) free) refl
 
-  pub Stays-freed : (s t : HeapNodes T) (x : ℕ) → is_some (links_of s x) ≡ false → Updates s.store t.store x None → t.root ≡ s.root → Stays s t
+  pub Stays-freed : (s t : HeapNodes T) (x : ℕ) → is_some (links_of s x) ≡ false → Updates s.store t.store x None → t.root ≡ s.root
+      → Stays s t
   Stays-freed s t x free updates root = stays s t x None updates root free refl
 
   pub Stays-refused : (s t : HeapNodes T) → t.store.slots ≡ s.store.slots → t.root ≡ s.root → Stays s t
@@ -118,11 +129,14 @@ module _ {T : Type 0} where
     root = root;
   }
 
-  Updates-valued : (s : HeapNodes T) (x : ℕ) (w : T) → ContainsKey s.store x → Updates s.store (with_value s x w).store x (revalued (get s.store x) w)
-  Updates-valued s x w live = Updates-set s.store (with_value s x w).store x (revalued (get s.store x) w) (ContainsKey-within s.store x live) refl
+  Updates-valued : (s : HeapNodes T) (x : ℕ) (w : T) → ContainsKey s.store x
+      → Updates s.store (with_value s x w).store x (revalued (get s.store x) w)
+  Updates-valued s x w live = Updates-set s.store (with_value s x w).store x (revalued (get s.store x) w)
+      (ContainsKey-within s.store x live) refl
 
   pub Stays-valued : (s : HeapNodes T) (x : ℕ) (w : T) → is_some (links_of s x) ≡ false → ContainsKey s.store x → Stays s (with_value s x w)
-  Stays-valued s x w free live = stays s (with_value s x w) x (revalued (get s.store x) w) (Updates-valued s x w live) refl free (loose (get s.store x) (links_none s x free))
+  Stays-valued s x w free live = stays s (with_value s x w) x (revalued (get s.store x) w) (Updates-valued s x w live) refl free
+      (loose (get s.store x) (links_none s x free))
     where
       loose : (o : Option (HeapNode T)) → picked links_in o ≡ None → picked links_in (revalued o w) ≡ None
       loose None e = refl
@@ -130,7 +144,8 @@ module _ {T : Type 0} where
 
   pub live-valued : (s : HeapNodes T) (x : ℕ) (w : T) → ContainsKey s.store x → live_of (with_value s x w) ≡ map.insert (live_of s) x w
   live-valued s x w live =
-      live-inserted s (with_value s x w) x w (ap (picked value_in) (Updates-valued s x w live).changed ∙ is (get s.store x) live) (λ k ne. ap (picked value_in) ((Updates-valued s x w live).others k ne))
+      live-inserted s (with_value s x w) x w (ap (picked value_in) (Updates-valued s x w live).changed ∙ is (get s.store x) live)
+      (λ k ne. ap (picked value_in) ((Updates-valued s x w live).others k ne))
     where
       is : (o : Option (HeapNode T)) → IsSome o → picked value_in (revalued o w) ≡ Some w
       is None some = absurd (false≢true some)
@@ -154,10 +169,14 @@ module _ {T : Type 0} where
             held_made = P.pieces.held_made;
             rest_made = P.pieces.rest_made;
             pairs_made = P.pieces.pairs_made;
-            main_ordered = OrderedIn-alike cmp (values_of s) (values_of t) P.main (λ k at. let was = P.pieces.tally k in same.values k (some-flag (links_of s k) (omega arith))) P.pieces.main_ordered;
-            held_ordered = OrderedIn-alike cmp (values_of s) (values_of t) P.held (λ k at. let was = P.pieces.tally k in same.values k (some-flag (links_of s k) (omega arith))) P.pieces.held_ordered;
-            rest_ordered = Ordered-alike cmp (values_of s) (values_of t) None P.rest (λ k e. absurd (cc)) (λ k at. let was = P.pieces.tally k in same.values k (some-flag (links_of s k) (omega arith))) P.pieces.rest_ordered;
-            pairs_ordered = Ordered-alike cmp (values_of s) (values_of t) None P.pairs (λ k e. absurd (cc)) (λ k at. let was = P.pieces.tally k in same.values k (some-flag (links_of s k) (omega arith))) P.pieces.pairs_ordered;
+            main_ordered = OrderedIn-alike cmp (values_of s) (values_of t) P.main (λ k at. let was =
+                P.pieces.tally k in same.values k (some-flag (links_of s k) (omega arith))) P.pieces.main_ordered;
+            held_ordered = OrderedIn-alike cmp (values_of s) (values_of t) P.held (λ k at. let was =
+                P.pieces.tally k in same.values k (some-flag (links_of s k) (omega arith))) P.pieces.held_ordered;
+            rest_ordered = Ordered-alike cmp (values_of s) (values_of t) None P.rest (λ k e. absurd (cc)) (λ k at. let was =
+                P.pieces.tally k in same.values k (some-flag (links_of s k) (omega arith))) P.pieces.rest_ordered;
+            pairs_ordered = Ordered-alike cmp (values_of s) (values_of t) None P.pairs (λ k e. absurd (cc)) (λ k at. let was =
+                P.pieces.tally k in same.values k (some-flag (links_of s k) (omega arith))) P.pieces.pairs_ordered;
             tally = P.pieces.tally;
           };
         }))
@@ -200,7 +219,8 @@ module _ {T : Type 0} where
     pub root-is-least : (total : IsTotalOrder cmp) (s : HeapNodes T) (r : ℕ) → s.root ≡ Some r → IsHeap cmp s → RootIsLeast s r
     root-is-least total s r root P = from P.main P.held P.rest P.pairs (P.main_top ∙ root) P.held_top P.rest_head P.pairs_head P.pieces
       where
-        from : (m t : Tree) (ts us : Forest) → top m ≡ Some r → top t ≡ None → head ts ≡ None → head us ≡ None → Pieces cmp (links_of s) (values_of s) m t ts us → RootIsLeast s r
+        from : (m t : Tree) (ts us : Forest) → top m ≡ Some r → top t ≡ None → head ts ≡ None → head us ≡ None
+            → Pieces cmp (links_of s) (values_of s) m t ts us → RootIsLeast s r
         from m (tree y ky) ts us mt ht rt pt p = absurd (cc)
         from m no_tree (node y ky ry) us mt ht rt pt p = absurd (cc)
         from m no_tree nil (node y ky ry) mt ht rt pt p = absurd (cc)
@@ -229,7 +249,8 @@ module _ {T : Type 0} where
         none None e = refl
         none (Some l) e = absurd (omega arith)
 
-        from : (m t : Tree) (ts us : Forest) → top m ≡ None → top t ≡ None → head ts ≡ None → head us ≡ None → Pieces cmp (links_of s) (values_of s) m t ts us → is_some (links_of s k) ≡ false
+        from : (m t : Tree) (ts us : Forest) → top m ≡ None → top t ≡ None → head ts ≡ None → head us ≡ None
+            → Pieces cmp (links_of s) (values_of s) m t ts us → is_some (links_of s k) ≡ false
         from m (tree y ky) ts us mt ht rt pt p = absurd (cc)
         from m no_tree (node y ky ry) us mt ht rt pt p = absurd (cc)
         from m no_tree nil (node y ky ry) mt ht rt pt p = absurd (cc)
@@ -238,7 +259,8 @@ module _ {T : Type 0} where
 
     pub members-empty : (s : HeapNodes T) → s.root ≡ None → IsHeap cmp s → members_of s ≡ finite.empty
     members-empty s root heap =
-        finite.same_set nat_cmp_total map.nat_cmp-IsAntisymmetric _ _ (λ q. contains-members_of s q ∙ no-root s root heap q ∙ sym (finite.contains-empty nat_cmp q))
+        finite.same_set nat_cmp_total map.nat_cmp-IsAntisymmetric _ _
+        (λ q. contains-members_of s q ∙ no-root s root heap q ∙ sym (finite.contains-empty nat_cmp q))
 
     -- what a caller sees of the least
     pub least-of : (total : IsTotalOrder cmp) (s : HeapNodes T) (r : ℕ) → s.root ≡ Some r → IsHeap cmp s → IsLeastOf cmp (heaped s) r
@@ -247,20 +269,23 @@ module _ {T : Type 0} where
           member = contains-members_of s r ∙ is.linked;
           live = ap is_some (get-live_of s r) ∙ live-value s r (is_live s r is.linked);
           none_less = λ other least value at here there.
-              none-less other least value (sym (contains-members_of s other) ∙ at) (sym (get-live_of s r) ∙ here) (sym (get-live_of s other) ∙ there) is;
+              none-less other least value (sym (contains-members_of s other) ∙ at) (sym (get-live_of s r) ∙ here)
+              (sym (get-live_of s other) ∙ there) is;
         }
       where
         some-value : {a b : T} → ◌≡◌ {A = Option T} (Some a) (Some b) → a ≡ b
         some-value e = cc
 
-        none-less : (other : ℕ) (least value : T) → is_some (links_of s other) ≡ true → values_of s r ≡ Some least → values_of s other ≡ Some value → RootIsLeast s r → cmp value least ≢ Less
+        none-less : (other : ℕ) (least value : T) → is_some (links_of s other) ≡ true → values_of s r ≡ Some least → values_of s other
+            ≡ Some value → RootIsLeast s r → cmp value least ≢ Less
         none-less other least value at here there is less =
             elim (cases_eq other r) [
               | inl same ↦
                   let alike : value ≡ least = some-value (sym there ∙ ap (values_of s) same ∙ here) in
                   itself least (ap (λ z. cmp z least) (sym alike) ∙ less)
               | inr ne ↦
-                  let le : is_le (cmp least value) ≡ true = ap (λ o. at_most cmp (Some least) o) (sym there) ∙ ap (λ o. at_most cmp o (values_of s other)) (sym here) ∙ is.least other at ne in
+                  let le : is_le (cmp least value) ≡ true = ap (λ o. at_most cmp (Some least) o) (sym there) ∙ ap
+                  (λ o. at_most cmp o (values_of s other)) (sym here) ∙ is.least other at ne in
                   less-or-not (cmp least value) le (sym (total.antisymm value least) ∙ less)
             ]
           where
@@ -290,38 +315,47 @@ module _ {T : Type 0} where
   pub members-live : (s : HeapNodes T) → MembersAreLive (heaped s)
   members-live s slot at = ap is_some (get-live_of s slot) ∙ live-value s slot (is_live s slot (sym (contains-members_of s slot) ∙ at))
 
-  pub value_none : (s : HeapNodes T) (x : ℕ) (r : Option (Bor T)) → option_copied r ≡ values_of s x → is_some r ≡ false → values_of s x ≡ None
+  pub value_none : (s : HeapNodes T) (x : ℕ) (r : Option (Bor T)) → option_copied r ≡ values_of s x → is_some r ≡ false → values_of s x
+      ≡ None
   value_none s x None e none = sym e
   value_none s x (Some b) e none = absurd (true≢false none)
 
-  pub live_from_get : (s : HeapNodes T) (x : ℕ) (r : Option (Bor T)) → option_copied r ≡ values_of s x → is_some r ≡ true → ContainsKey s.store x
+  pub live_from_get : (s : HeapNodes T) (x : ℕ) (r : Option (Bor T)) → option_copied r ≡ values_of s x → is_some r ≡ true
+      → ContainsKey s.store x
   live_from_get s x None e some = absurd (false≢true some)
   live_from_get s x (Some b) e some = value-live s x (ap is_some (sym e))
 
   -- the whole view after each change
 
-  pub view-claimed : (s t : HeapNodes T) (x : ℕ) (value : T) → get s.store x ≡ None → Updates s.store t.store x (Some (loose_node value)) → t.root ≡ s.root → heaped t ≡ with_values (heaped s) (map.insert (live_of s) x value)
+  pub view-claimed : (s t : HeapNodes T) (x : ℕ) (value : T) → get s.store x ≡ None
+      → Updates s.store t.store x (Some (loose_node value)) → t.root ≡ s.root → heaped t
+      ≡ with_values (heaped s) (map.insert (live_of s) x value)
   view-claimed s t x value free updates root =
       let live = live-inserted s t x value (ap (picked value_in) updates.changed) (λ k ne. ap (picked value_in) (updates.others k ne)) in
       let members = members-same s t (Stays-claimed s t x value free updates root).links in
       λ i. record { live = live i; members = members i }
 
-  pub view-freed : (s t : HeapNodes T) (x : ℕ) → is_some (links_of s x) ≡ false → Updates s.store t.store x None → t.root ≡ s.root → heaped t ≡ with_values (heaped s) (map.remove (live_of s) x)
+  pub view-freed : (s t : HeapNodes T) (x : ℕ) → is_some (links_of s x) ≡ false → Updates s.store t.store x None → t.root ≡ s.root
+      → heaped t ≡ with_values (heaped s) (map.remove (live_of s) x)
   view-freed s t x free updates root =
       let live = live-removed s t x (ap (picked value_in) updates.changed) (λ k ne. ap (picked value_in) (updates.others k ne)) in
       let members = members-same s t (Stays-freed s t x free updates root).links in
       λ i. record { live = live i; members = members i }
 
-  pub view-valued : (s : HeapNodes T) (x : ℕ) (w : T) → is_some (links_of s x) ≡ false → ContainsKey s.store x → heaped (with_value s x w) ≡ with_values (heaped s) (map.insert (live_of s) x w)
+  pub view-valued : (s : HeapNodes T) (x : ℕ) (w : T) → is_some (links_of s x) ≡ false → ContainsKey s.store x
+      → heaped (with_value s x w) ≡ with_values (heaped s) (map.insert (live_of s) x w)
   view-valued s x w free live =
       let values = live-valued s x w live in
       let members = members-same s (with_value s x w) (Stays-valued s x w free live).links in
       λ i. record { live = values i; members = members i }
 
   -- a root is there exactly if a member is
-  pub empty-or-not : (cmp : T → T → Ordering) (s : HeapNodes T) (r : Bool) → is_some s.root ≡ not r → IsHeap cmp s → r ≡ eqb (finite.len (members_of s)) 0
+  pub empty-or-not : (cmp : T → T → Ordering) (s : HeapNodes T) (r : Bool) → is_some s.root ≡ not r → IsHeap cmp s → r
+      ≡ eqb (finite.len (members_of s)) 0
   empty-or-not cmp s r is heap = sym (not-both (is_some s.root) r is) ∙ from s.root refl
     where
       from : (o : Option ℕ) → s.root ≡ o → not (is_some o) ≡ eqb (finite.len (members_of s)) 0
       from None e = sym (eq-eqb _ 0 (ap finite.len (members-empty cmp s e heap) ∙ finite.len-empty nat_cmp))
-      from (Some x) e = sym (ne_eqb (finite.len (members_of s)) 0 (λ none. true≢false (sym (contains-members_of s x ∙ root-linked cmp s x e heap) ∙ ap (λ m. finite.contains m x) (finite.empty_of_len (members_of s) none) ∙ finite.contains-empty nat_cmp x)))
+      from (Some x) e = sym (ne_eqb (finite.len (members_of s)) 0 (λ none. true≢false
+          (sym (contains-members_of s x ∙ root-linked cmp s x e heap) ∙ ap (λ m. finite.contains m x)
+          (finite.empty_of_len (members_of s) none) ∙ finite.contains-empty nat_cmp x)))

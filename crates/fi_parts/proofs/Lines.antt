@@ -1,5 +1,6 @@
 -- The entries of a list, seen as a line of futures with tickets.
-use Rattle.std.proofs.Common.{◌≡◌, ℕ, Bool, true, false, Bor, List, [], ◌∷◌, ◌++◌, Option, Some, None, MatchOption, is_some, option_copied, cond, map, reverse, refl, sym, ap, ◌∙◌, inl, inr}
+use Rattle.std.proofs.Common.{◌≡◌, ℕ, Bool, true, false, Bor, List, [], ◌∷◌, ◌++◌, Option, Some, None, MatchOption, is_some}
+use Rattle.std.proofs.Common.{option_copied, cond, map, reverse, refl, sym, ap, ◌∙◌, inl, inr}
 use Rattle.std.proofs.lemmas.Bool.{cases_eq, both_ways}
 use Rattle.std.proofs.lemmas.List.{reverse-append, reverse-reverse, append_assoc}
 use Rattle.std.specs.Option.{IsSome, option_map}
@@ -13,7 +14,8 @@ use Rattle.fi_parts.specs.declared.outbox.Ticket.{Ticket}
 use Rattle.fi_parts.specs.declared.line.Entry.{Entry}
 use Rattle.fi_parts.specs.Listed.{Listed, with_live}
 use Rattle.fi_parts.specs.Order.{holds, without}
-use Rattle.fi_parts.specs.Waiting.{phase_in, phase_of, asks_in, asks_of, is_registered, waker_in, made, registered, forgotten, rephased, with_phase, with_asks_in, with_asks}
+use Rattle.fi_parts.specs.Waiting.{phase_in, phase_of, asks_in, asks_of, is_registered, waker_in, made, registered, forgotten}
+use Rattle.fi_parts.specs.Waiting.{rephased, with_phase, with_asks_in, with_asks}
 use Rattle.fi_parts.specs.LineModel.{LineModel, mapped, future_of, ticket_of, line_of, empty_line}
 use Rattle.fi_parts.proofs.FiniteMaps.{get-insert_same, get-insert_other, get-remove_same, get-remove_other}
 use Rattle.fi_parts.proofs.Queues.{reverse_cons, reverse-without, holds-reverse}

@@ -1,5 +1,6 @@
 -- Which pairs stand in an outbox.
-use Rattle.std.specs.Prelude.{◌≡◌, ◌≢◌, ◌⊎◌, ℕ, Bool, true, false, if◌then◌else◌, ◌||◌, Option, Some, None, List, [], ◌∷◌, ◌++◌, drop, refl, not, cond, eqb}
+use Rattle.std.specs.Prelude.{◌≡◌, ◌≢◌, ◌⊎◌, ℕ, Bool, true, false, if◌then◌else◌, ◌||◌, Option, Some, None, List, [], ◌∷◌, ◌++◌}
+use Rattle.std.specs.Prelude.{drop, refl, not, cond, eqb}
 use Rattle.std.proofs.Common.{sym, ◌∙◌, ap, inl, inr}
 use Rattle.std.proofs.lemmas.Bool.{eq-eqb, ne_eqb, cases_eq, both_ways}
 use Rattle.std.specs.Ordering.{nat_cmp}
@@ -37,7 +38,8 @@ module _ {X : Type 0} where
   in_append_right x (y ∷ xs) ys is = inr (in_append_right x xs ys is)
 
 module _ {W : Type 0} where
-  pub in_without : (name other : ℕ) (waker : W) (pairs : List (ℕ × W)) → name ≢ other → IsIn (other, waker) pairs → IsIn (other, waker) (without_pair name pairs)
+  pub in_without : (name other : ℕ) (waker : W) (pairs : List (ℕ × W)) → name ≢ other → IsIn (other, waker) pairs
+      → IsIn (other, waker) (without_pair name pairs)
   in_without name other waker [] ne is = absurd is
   in_without name other waker (p ∷ ps) ne is = elim is [
     | inl e ↦
@@ -46,7 +48,8 @@ module _ {W : Type 0} where
     | inr r ↦ step (eqb name p.0) (in_without name other waker ps ne r)
   ]
     where
-      step : (b : Bool) → IsIn (other, waker) (without_pair name ps) → IsIn (other, waker) (cond (not b) (p ∷ without_pair name ps) (without_pair name ps))
+      step : (b : Bool) → IsIn (other, waker) (without_pair name ps)
+          → IsIn (other, waker) (cond (not b) (p ∷ without_pair name ps) (without_pair name ps))
       step true there = there
       step false there = inr there
 
@@ -67,7 +70,8 @@ module _ {W : Type 0} where
 
 module _ {D W : Type 0} where
   -- a registered name of a list is named with its waker
-  pub in_named : (names : List ℕ) (live : finmap.FinMap nat_cmp (Future D W)) (q : ℕ) (waker : W) → holds q names ≡ true → phase_in (finmap.get live q) ≡ Some (Registered waker) → IsIn (q, waker) (named live names)
+  pub in_named : (names : List ℕ) (live : finmap.FinMap nat_cmp (Future D W)) (q : ℕ) (waker : W) → holds q names ≡ true
+      → phase_in (finmap.get live q) ≡ Some (Registered waker) → IsIn (q, waker) (named live names)
   unfolding named
   in_named [] live q waker at is = absurd (both_ways false refl at)
   in_named (n ∷ names) live q waker at is = elim (cases_eq q n) [

@@ -1,5 +1,6 @@
 -- What the maps and sets that a store's slots make answer.
-use Rattle.std.proofs.Common.{◌≡◌, ◌≢◌, ℕ, zero, suc, ◌+◌, ◌<◌, Bool, true, false, cond, not, ◌&&◌, ◌||◌, List, [], ◌∷◌, get_or, Option, Some, None, refl, sym, ap, ◌∙◌, arith, zero-add}
+use Rattle.std.proofs.Common.{◌≡◌, ◌≢◌, ℕ, zero, suc, ◌+◌, ◌<◌, Bool, true, false, cond, not, ◌&&◌, ◌||◌, List, [], ◌∷◌, get_or}
+use Rattle.std.proofs.Common.{Option, Some, None, refl, sym, ap, ◌∙◌, arith, zero-add}
 use Rattle.std.proofs.lemmas.Bool.{eq-eqb, ne_eqb, cond-true, cond-false}
 use Rattle.std.specs.Ordering.{nat_cmp}
 use Rattle.std.specs.Cmp.{nat_cmp_total, unsigned_tied}
@@ -43,7 +44,8 @@ module _ {X Y : Type 0} (pick : X → Option Y) where
       rw same (put_if-here (picked_from pick (suc k) rest) k (picked pick slot) (picked_below (suc k) rest k (omega arith)))
   picked_at k (slot ∷ rest) (suc i) =
       let shift : k + suc i ≡ suc k + i = omega arith in
-      put_if-other (picked_from pick (suc k) rest) k (picked pick slot) (k + suc i) (λ same. omega arith) ∙ rw shift (picked_at (suc k) rest i)
+      put_if-other (picked_from pick (suc k) rest) k (picked pick slot) (k + suc i) (λ same. omega arith) ∙ rw shift
+      (picked_at (suc k) rest i)
 
   pub get-picked : (slots : List (Option X)) (q : ℕ) → map.get (picked_from pick 0 slots) q ≡ picked pick (get_or slots q None)
   get-picked slots q = ap (map.get (picked_from pick 0 slots)) (sym (zero-add q)) ∙ picked_at 0 slots q
@@ -56,13 +58,16 @@ pub contains-insert_same : (s : set.FinSet nat_cmp) (k : ℕ) → set.contains (
 contains-insert_same s k = set.contains-insert nat_cmp_total s k k ∙ ap (λ b. b || set.contains s k) (unsigned_tied k k ∙ eq-eqb k k refl)
 
 pub contains-insert_other : (s : set.FinSet nat_cmp) (k q : ℕ) → q ≢ k → set.contains (set.insert s k) q ≡ set.contains s q
-contains-insert_other s k q ne = set.contains-insert nat_cmp_total s k q ∙ ap (λ b. b || set.contains s q) (unsigned_tied q k ∙ ne_eqb q k ne)
+contains-insert_other s k q ne = set.contains-insert nat_cmp_total s k q ∙ ap (λ b. b || set.contains s q)
+    (unsigned_tied q k ∙ ne_eqb q k ne)
 
 pub contains-remove_same : (s : set.FinSet nat_cmp) (k : ℕ) → set.contains (set.remove s k) k ≡ false
-contains-remove_same s k = set.contains-remove nat_cmp_total s k k ∙ ap (λ b. not b && set.contains s k) (unsigned_tied k k ∙ eq-eqb k k refl)
+contains-remove_same s k = set.contains-remove nat_cmp_total s k k ∙ ap (λ b. not b && set.contains s k)
+    (unsigned_tied k k ∙ eq-eqb k k refl)
 
 pub contains-remove_other : (s : set.FinSet nat_cmp) (k q : ℕ) → q ≢ k → set.contains (set.remove s k) q ≡ set.contains s q
-contains-remove_other s k q ne = set.contains-remove nat_cmp_total s k q ∙ ap (λ b. not b && set.contains s q) (unsigned_tied q k ∙ ne_eqb q k ne)
+contains-remove_other s k q ne = set.contains-remove nat_cmp_total s k q ∙ ap (λ b. not b && set.contains s q)
+    (unsigned_tied q k ∙ ne_eqb q k ne)
 
 module _ {X : Type 0} (test : X → Bool) where
   insert_here : (b : Bool) (s : set.FinSet nat_cmp) (k : ℕ) → set.contains s k ≡ false → set.contains (cond b (set.insert s k) s) k ≡ b
@@ -79,7 +84,8 @@ module _ {X : Type 0} (test : X → Bool) where
   chosen_below k (slot ∷ rest) q below =
       insert_other (chosen test slot) (chosen_from test (suc k) rest) k q (λ same. omega arith) ∙ chosen_below (suc k) rest q (omega arith)
 
-  chosen_at : (k : ℕ) (slots : List (Option X)) (i : ℕ) → set.contains (chosen_from test k slots) (k + i) ≡ chosen test (get_or slots i None)
+  chosen_at : (k : ℕ) (slots : List (Option X)) (i : ℕ) → set.contains (chosen_from test k slots) (k + i)
+      ≡ chosen test (get_or slots i None)
   unfolding chosen_from
   chosen_at k [] i = set.contains-empty nat_cmp (k + i)
   chosen_at k (slot ∷ rest) zero =
@@ -87,7 +93,8 @@ module _ {X : Type 0} (test : X → Bool) where
       rw same (insert_here (chosen test slot) (chosen_from test (suc k) rest) k (chosen_below (suc k) rest k (omega arith)))
   chosen_at k (slot ∷ rest) (suc i) =
       let shift : k + suc i ≡ suc k + i = omega arith in
-      insert_other (chosen test slot) (chosen_from test (suc k) rest) k (k + suc i) (λ same. omega arith) ∙ rw shift (chosen_at (suc k) rest i)
+      insert_other (chosen test slot) (chosen_from test (suc k) rest) k (k + suc i) (λ same. omega arith) ∙ rw shift
+      (chosen_at (suc k) rest i)
 
   pub contains-chosen : (slots : List (Option X)) (q : ℕ) → set.contains (chosen_from test 0 slots) q ≡ chosen test (get_or slots q None)
   contains-chosen slots q = ap (set.contains (chosen_from test 0 slots)) (sym (zero-add q)) ∙ chosen_at 0 slots q

@@ -1,5 +1,6 @@
 -- The blocks are cut at a pointer.
-use Rattle.std.proofs.Common.{◌≡◌, suc, length, Bool, true, false, ◌&&◌, ◌==◌, cond, List, [], ◌∷◌, ◌++◌, Option, Some, None, IsSome, refl, sym, ap, ◌∙◌, subst, eqb→eq, T}
+use Rattle.std.proofs.Common.{◌≡◌, suc, length, Bool, true, false, ◌&&◌, ◌==◌, cond, List, [], ◌∷◌, ◌++◌, Option, Some, None}
+use Rattle.std.proofs.Common.{IsSome, refl, sym, ap, ◌∙◌, subst, eqb→eq, T}
 use Rattle.std.proofs.lemmas.Bool.{cond-true, cond-false}
 use lib.Dec.{eqb_refl}
 use denote.RawPtr.{Ptr, block_ptr, null_ptr}
@@ -68,7 +69,8 @@ module _ {B : Type 0} where
   at-with_same [] p w some = cc
   at-with_same (x ∷ bs) p w some =
       (elim (same_ptr x.0 p) as (λ y. same_ptr x.0 p ≡ y → at_ptr (with_at (x ∷ bs) p w) p ≡ Some w) [
-        | true ↦ λ e. ap (λ l. at_ptr l p) (cond-true (same_ptr x.0 p) ((x.0, w) ∷ bs) (x ∷ with_at bs p w) e) ∙ cond-true (same_ptr x.0 p) _ _ e
+        | true ↦ λ e. ap (λ l. at_ptr l p) (cond-true (same_ptr x.0 p) ((x.0, w) ∷ bs) (x ∷ with_at bs p w) e) ∙ cond-true
+            (same_ptr x.0 p) _ _ e
         | false ↦ λ e.
             ap (λ l. at_ptr l p) (cond-false (same_ptr x.0 p) ((x.0, w) ∷ bs) (x ∷ with_at bs p w) e) ∙ cond-false (same_ptr x.0 p) _ _ e
             ∙ at-with_same bs p w (subst IsSome (cond-false (same_ptr x.0 p) (Some x.1) (at_ptr bs p) e) some)
@@ -81,9 +83,11 @@ module _ {B : Type 0} where
       (elim (same_ptr x.0 p) as (λ y. same_ptr x.0 p ≡ y → at_ptr (with_at (x ∷ bs) p w) q ≡ at_ptr (x ∷ bs) q) [
         | true ↦ λ e.
             let off : same_ptr x.0 q ≡ false = subst (λ s. same_ptr s q ≡ false) (sym (same_ptr_eq x.0 p e)) ne in
-            ap (λ l. at_ptr l q) (cond-true (same_ptr x.0 p) ((x.0, w) ∷ bs) (x ∷ with_at bs p w) e) ∙ cond-false (same_ptr x.0 q) _ _ off ∙ sym (cond-false (same_ptr x.0 q) _ _ off)
+            ap (λ l. at_ptr l q) (cond-true (same_ptr x.0 p) ((x.0, w) ∷ bs) (x ∷ with_at bs p w) e) ∙ cond-false (same_ptr x.0 q) _ _
+            off ∙ sym (cond-false (same_ptr x.0 q) _ _ off)
         | false ↦ λ e.
-            ap (λ l. at_ptr l q) (cond-false (same_ptr x.0 p) ((x.0, w) ∷ bs) (x ∷ with_at bs p w) e) ∙ ap (cond (same_ptr x.0 q) (Some x.1)) (at-with_other bs p w q ne)
+            ap (λ l. at_ptr l q) (cond-false (same_ptr x.0 p) ((x.0, w) ∷ bs) (x ∷ with_at bs p w) e) ∙ ap
+            (cond (same_ptr x.0 q) (Some x.1)) (at-with_other bs p w q ne)
       ]) refl
 
   pub at-without_other : (bs : List (Ptr × B)) (p q : Ptr) → same_ptr p q ≡ false → at_ptr (without_at bs p) q ≡ at_ptr bs q
@@ -94,7 +98,8 @@ module _ {B : Type 0} where
         | true ↦ λ e.
             let off : same_ptr x.0 q ≡ false = subst (λ s. same_ptr s q ≡ false) (sym (same_ptr_eq x.0 p e)) ne in
             ap (λ l. at_ptr l q) (cond-true (same_ptr x.0 p) bs (x ∷ without_at bs p) e) ∙ sym (cond-false (same_ptr x.0 q) _ _ off)
-        | false ↦ λ e. ap (λ l. at_ptr l q) (cond-false (same_ptr x.0 p) bs (x ∷ without_at bs p) e) ∙ ap (cond (same_ptr x.0 q) (Some x.1)) (at-without_other bs p q ne)
+        | false ↦ λ e. ap (λ l. at_ptr l q) (cond-false (same_ptr x.0 p) bs (x ∷ without_at bs p) e) ∙ ap
+            (cond (same_ptr x.0 q) (Some x.1)) (at-without_other bs p q ne)
       ]) refl
 
   pub length-without_at : (bs : List (Ptr × B)) (p : Ptr) → IsSome (at_ptr bs p) → suc (length (without_at bs p)) ≡ length bs

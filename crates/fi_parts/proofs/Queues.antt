@@ -1,5 +1,6 @@
 -- Names in a queue, and pairs in an outbox.
-use Rattle.std.proofs.Common.{◌≡◌, ◌≢◌, ℕ, Bool, true, false, not, eqb, ◌||◌, List, [], ◌∷◌, ◌++◌, cond, reverse, drop, refl, sym, ap, ◌∙◌, inl, inr}
+use Rattle.std.proofs.Common.{◌≡◌, ◌≢◌, ℕ, Bool, true, false, not, eqb, ◌||◌, List, [], ◌∷◌, ◌++◌, cond, reverse, drop, refl, sym}
+use Rattle.std.proofs.Common.{ap, ◌∙◌, inl, inr}
 use Rattle.std.proofs.lemmas.Bool.{eqb-true, eq-eqb, ne_eqb, or_parts, or_from, or_right, both_ways, cases_eq}
 use Rattle.std.proofs.lemmas.List.{append-nil}
 use Rattle.std.proofs.lemmas.List.Elements.{filter-append}
@@ -45,7 +46,8 @@ without-push x xs y = filter-append _ xs (y ∷ [])
 pub reverse-without : (x : ℕ) (xs : List ℕ) → reverse (without x xs) ≡ without x (reverse xs)
 reverse-without x [] = refl
 reverse-without x (y ∷ ys) =
-    sym (ap (without x) (reverse_cons y ys) ∙ without-push x (reverse ys) y ∙ ap (λ zs. zs ++ without x (y ∷ [])) (sym (reverse-without x ys)) ∙ step (eqb x y))
+    sym (ap (without x) (reverse_cons y ys) ∙ without-push x (reverse ys) y ∙ ap (λ zs. zs ++ without x (y ∷ []))
+    (sym (reverse-without x ys)) ∙ step (eqb x y))
   where
     step : (b : Bool) → reverse (without x ys) ++ cond (not b) (y ∷ []) [] ≡ reverse (cond (not b) (y ∷ without x ys) (without x ys))
     step true = append-nil _
@@ -63,7 +65,8 @@ pub holds-without_other : (k x : ℕ) (xs : List ℕ) → k ≢ x → holds k (w
 holds-without_other k x [] ne = refl
 holds-without_other k x (y ∷ ys) ne = step (holds-without_other k x ys ne) (eqb x y) refl
   where
-    step : holds k (without x ys) ≡ holds k ys → (b : Bool) → eqb x y ≡ b → holds k (cond (not b) (y ∷ without x ys) (without x ys)) ≡ (eqb k y || holds k ys)
+    step : holds k (without x ys) ≡ holds k ys → (b : Bool) → eqb x y ≡ b → holds k (cond (not b) (y ∷ without x ys) (without x ys))
+        ≡ (eqb k y || holds k ys)
     step rest true is =
         let off : eqb k y ≡ false = ne_eqb k y (λ same. ne (same ∙ sym (eqb-true x y is))) in
         rw off rest
@@ -85,7 +88,8 @@ module _ {W : Type 0} where
   has-without_same x [] = refl
   has-without_same x (p ∷ ps) = step (has-without_same x ps) (eqb x p.0) refl
     where
-      step : has x (without_pair x ps) ≡ false → (b : Bool) → eqb x p.0 ≡ b → has x (cond (not b) (p ∷ without_pair x ps) (without_pair x ps)) ≡ false
+      step : has x (without_pair x ps) ≡ false → (b : Bool) → eqb x p.0 ≡ b
+          → has x (cond (not b) (p ∷ without_pair x ps) (without_pair x ps)) ≡ false
       step rest true is = rest
       step rest false is = or_from _ _ is rest
 

@@ -33,7 +33,8 @@ module _ (Z : Al) (R : RattleType) where
         Step K 𝓛 (‵ (Vacancy.own_val (record { room = room }) (kept_val w ∷ [])) ∷ Γ) G (‵ ((Vacant Z R).own_val room (w ∷ [])) ∷ Γ) G
     kept_in t room w = step (λ s.
         nothing t $ move t (1 ∷ 0 ∷ []) $ fjoin t $ feq_i t (List Val) (kept_val w ∷ []) (kept_val w ∷ []) refl $ fjoin t $
-        fpack t (Valss (Vacant Z R ∷ [])) (within (shape (vacancy.the_type R (param 1 Z.row) Z.g)) (room, tt) (kept_val w ∷ [])) (w ∷ [], tt) $
+        fpack t (Valss (Vacant Z R ∷ [])) (within (shape (vacancy.the_type R (param 1 Z.row) Z.g)) (room, tt) (kept_val w ∷ []))
+        (w ∷ [], tt) $
         nothing t $ move t (1 ∷ 0 ∷ []) $ fjoin t $ s)
 
     pub kept_out : K → (d : Vacancy.Denot) (us : List Val) →

@@ -40,4 +40,5 @@ module _ {T : Type 0} where
   pub record IsLeastOf (cmp : T → T → Ordering) (h : Heaped T) (slot : ℕ) : Type 0 where
     pub member : set.contains h.members slot ≡ true
     pub live : IsLiveIn h slot
-    pub none_less : (other : ℕ) (least value : T) → set.contains h.members other ≡ true → value_under h slot ≡ Some least → value_under h other ≡ Some value → cmp value least ≢ Less
+    pub none_less : (other : ℕ) (least value : T) → set.contains h.members other ≡ true → value_under h slot ≡ Some least
+        → value_under h other ≡ Some value → cmp value least ≢ Less

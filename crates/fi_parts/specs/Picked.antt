@@ -28,4 +28,5 @@ module _ {X : Type 0} where
   -- the slots that hold what passes the test, where the first slot has this number
   unfoldable pub chosen_from : (X → Bool) → ℕ → List (Option X) → set.FinSet nat_cmp
   chosen_from test key [] = set.empty
-  chosen_from test key (slot ∷ rest) = cond (chosen test slot) (set.insert (chosen_from test (suc key) rest) key) (chosen_from test (suc key) rest)
+  chosen_from test key (slot ∷ rest) = cond (chosen test slot) (set.insert (chosen_from test (suc key) rest) key)
+      (chosen_from test (suc key) rest)

@@ -42,7 +42,8 @@ module _ {D W : Type 0} where
   -- the first state, the waker that it had there.
   abbrev pub last_waker : {E : Type 0} → (E → WakerEffect W) → Waiting D W → ℕ → List E → Option W
   last_waker waker_effect first name [] = displaced first.side first.out name
-  last_waker waker_effect first name (entry ∷ history) = last_waker_step name (waker_effect entry) (last_waker waker_effect first name history)
+  last_waker waker_effect first name (entry ∷ history) =
+      last_waker_step name (waker_effect entry) (last_waker waker_effect first name history)
 
   -- this name is registered with this waker, or the waker stands in out beside it
   abbrev pub HasWaker : Waiting D W → ℕ → W → Type 0

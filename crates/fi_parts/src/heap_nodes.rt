@@ -161,8 +161,9 @@ impl<T> HeapNodes<T> {
         requires { IsLinked self.old slot }
         ensures { Relinks self.old self.new slot (child_to (links_of self.old slot) child) }
     {
-        let links = self.links(slot);
-        self.set_links(slot, Some(HeapLinks { child, ..links }));
+        if let Some(links) = &mut self.store[slot].links {
+            links.child = child;
+        }
     }
 
     /// Makes this the node's next sibling.
@@ -170,8 +171,9 @@ impl<T> HeapNodes<T> {
         requires { IsLinked self.old slot }
         ensures { Relinks self.old self.new slot (next_to (links_of self.old slot) next) }
     {
-        let links = self.links(slot);
-        self.set_links(slot, Some(HeapLinks { next, ..links }));
+        if let Some(links) = &mut self.store[slot].links {
+            links.next = next;
+        }
     }
 
     /// Says what stands before the node.
@@ -179,8 +181,9 @@ impl<T> HeapNodes<T> {
         requires { IsLinked self.old slot }
         ensures { Relinks self.old self.new slot (back_to (links_of self.old slot) back) }
     {
-        let links = self.links(slot);
-        self.set_links(slot, Some(HeapLinks { back, ..links }));
+        if let Some(links) = &mut self.store[slot].links {
+            links.back = back;
+        }
     }
 
     /// Says what stands behind the node and before it.
@@ -188,8 +191,9 @@ impl<T> HeapNodes<T> {
         requires { IsLinked self.old slot }
         ensures { Relinks self.old self.new slot (placed (links_of self.old slot) next back) }
     {
-        let links = self.links(slot);
-        let child = links.child;
-        self.set_links(slot, Some(HeapLinks { child, next, back }));
+        if let Some(links) = &mut self.store[slot].links {
+            links.next = next;
+            links.back = back;
+        }
     }
 }

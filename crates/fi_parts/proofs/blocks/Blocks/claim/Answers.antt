@@ -21,7 +21,8 @@ sound : (g : Over) (c : goal.After-insert_reserved g) → IsSound c.reserve.new.
 sound g c = sound_slots c.self.inside.slab c.reserve.new.self c.self.inside.linked (slots g c) c.self.invariant
 
 change : (g : Over) (c : goal.After-insert_reserved g)
-    → Change c.reserve.new.self c.insert_reserved.new.self c.self.inside.linked c.claim.new.self c.insert_reserved.result c.in-Ok.at (Some c.in-Ok.at)
+    → Change c.reserve.new.self c.insert_reserved.new.self c.self.inside.linked c.claim.new.self c.insert_reserved.result c.in-Ok.at
+    (Some c.in-Ok.at)
 change g c =
     Change-claimed c.reserve.new.self c.insert_reserved.new.self c.self.inside.linked c.claim.new.self
     c.insert_reserved.result c.in-Ok.at (loose_block c.args.value c.vacant_key-slot.result) (sound g c)
@@ -55,7 +56,8 @@ returns-in-Ok-clause-apart g c =
     let s = c.self.inside.linked in
     let ok = sound g c in
     ap (holds c.insert_reserved.result) (order_after _ _ _ _ _ _ _ ok (change g c))
-    ∙ holds_none c.reserve.new.self s ok.stored c.insert_reserved.result (chain_of s) c.insert_reserved.ensures.was_vacant (chain_live c.reserve.new.self s ok.stored ok.chained)
+    ∙ holds_none c.reserve.new.self s ok.stored c.insert_reserved.result (chain_of s) c.insert_reserved.ensures.was_vacant
+    (chain_live c.reserve.new.self s ok.stored ok.chained)
 
 pub returns-in-Ok-clause-claimed : goal.returns-in-Ok-clause-claimed
 returns-in-Ok-clause-claimed g c =

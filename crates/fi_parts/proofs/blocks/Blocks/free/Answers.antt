@@ -24,7 +24,8 @@ change g c =
     let s = c.self.inside.linked in
     let off : is_linked (links_at s c.remove-at.result) ≡ false =
     c.self.invariant.chained.flags c.remove-at.result
-    ∙ sym (holds_slot slab s ok c.args.slot c.remove-at.result (chain_of s) c.remove-at.ensures.value (chain_live slab s ok c.self.invariant.chained))
+    ∙ sym (holds_slot slab s ok c.args.slot c.remove-at.result (chain_of s) c.remove-at.ensures.value
+    (chain_live slab s ok c.self.invariant.chained))
     ∙ (rw (← c.self.view_is) at c.requires.apart) in
     Change-freed slab c.remove-at.new.self s c.free.new.self c.args.slot c.remove-at.result c.self.invariant
     c.remove-at.ensures.value c.remove-at.ensures.updates c.free.ensures.blocks c.free.ensures.gone c.free.ensures.rest off

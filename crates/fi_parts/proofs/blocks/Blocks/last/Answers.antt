@@ -11,7 +11,8 @@ pub returns-in-Some : goal.returns-in-Some
 returns-in-Some g c =
     let s = c.self.inside.linked in
     rw (← c.self.view_is)
-    (sym (last_slot s c.self.invariant.chained ∙ ap (each_in (slot_by (data_of s))) (sym c.in-Some.ensures) ∙ ap Some (slot_or-of (data_of s c.in-Some.at) c.slot.result c.slot.ensures)))
+    (sym (last_slot s c.self.invariant.chained ∙ ap (each_in (slot_by (data_of s))) (sym c.in-Some.ensures) ∙ ap Some
+    (slot_or-of (data_of s c.in-Some.at) c.slot.result c.slot.ensures)))
 
 pub returns-in-None : goal.returns-in-None
 returns-in-None g c =

@@ -4,12 +4,14 @@ use Rattle.fi_parts.proofs.HeapViews.{heap-stays, Stays-freed, view-freed, live-
 use Rattle.fi_parts.proofs.heap.PairingHeap.free.Goals as goal
 
 pub free-requires : goal.free-requires
-free-requires g c = value-live c.self.inside.nodes c.args.slot.0 (live-under c.self.inside.nodes c.args.slot.0 (rw (← c.self.view_is) at c.requires.live))
+free-requires g c = value-live c.self.inside.nodes c.args.slot.0
+    (live-under c.self.inside.nodes c.args.slot.0 (rw (← c.self.view_is) at c.requires.live))
 
 pub invariant_of-self : goal.invariant_of-self
 invariant_of-self g c =
     let free = free-under c.self.inside.nodes c.args.slot.0 (rw (← c.self.view_is) at c.requires.apart) in
-    heap-stays g.T.Ord.cmp c.self.inside.nodes c.free.new.self (Stays-freed _ _ c.args.slot.0 free c.free.ensures.freed c.free.ensures.root) c.self.invariant
+    heap-stays g.T.Ord.cmp c.self.inside.nodes c.free.new.self (Stays-freed _ _ c.args.slot.0 free c.free.ensures.freed
+    c.free.ensures.root) c.self.invariant
 
 pub returns-clause-value : goal.returns-clause-value
 returns-clause-value g c = rw (← c.self.view_is) (get-live_of c.self.inside.nodes _ ∙ c.free.ensures.value)

@@ -8,7 +8,8 @@ returns-then-is_none g c = (
   ap inr c.self.view_is,
   record {
     writes_back = tt;
-    value = rw (← c.self.view_is) (sym (get-live_of c.self.inside.nodes _ ∙ value_none c.self.inside.nodes _ c.get.result c.get.ensures c.if-is_none.ensures));
+    value = rw (← c.self.view_is) (sym (get-live_of c.self.inside.nodes _ ∙ value_none c.self.inside.nodes _ c.get.result c.get.ensures
+        c.if-is_none.ensures));
   },
 )
 

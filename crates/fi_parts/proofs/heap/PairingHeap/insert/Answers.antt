@@ -13,7 +13,8 @@ pub returns-clause-member : goal.returns-clause-member
 returns-clause-member g c = contains-members_of c.insert.new.self c.args.slot.0 ∙ c.insert.ensures.put.here
 
 pub returns-clause-members : goal.returns-clause-members
-returns-clause-members g c = rw (← c.self.view_is) (members-inserted c.self.inside.nodes c.insert.new.self c.args.slot.0 c.insert.ensures.put)
+returns-clause-members g c = rw (← c.self.view_is) (members-inserted c.self.inside.nodes c.insert.new.self c.args.slot.0
+    c.insert.ensures.put)
 
 pub returns-clause-live : goal.returns-clause-live
 returns-clause-live g c = rw (← c.self.view_is) (live-same c.self.inside.nodes c.insert.new.self c.insert.ensures.put.values)

@@ -10,7 +10,8 @@ pub returns-clause-apart : goal.returns-clause-apart
 returns-clause-apart g c = contains-members_of c.remove.new.self c.args.slot.0 ∙ c.remove.ensures.taken.here
 
 pub returns-clause-members : goal.returns-clause-members
-returns-clause-members g c = rw (← c.self.view_is) (members-removed c.self.inside.nodes c.remove.new.self c.args.slot.0 c.remove.ensures.taken)
+returns-clause-members g c = rw (← c.self.view_is) (members-removed c.self.inside.nodes c.remove.new.self c.args.slot.0
+    c.remove.ensures.taken)
 
 pub returns-clause-live : goal.returns-clause-live
 returns-clause-live g c = rw (← c.self.view_is) (live-same c.self.inside.nodes c.remove.new.self c.remove.ensures.taken.values)

@@ -11,13 +11,16 @@ set_place-requires g c = linked-kept _ _ c.set_back_of.ensures.kept _ c.requires
 
 pub set_child-requires : goal.set_child-requires
 set_child-requires g c =
-    linked-kept _ _ (Keeps-relinks _ _ _ _ c.set_place.ensures (placed-some _ _ _)) _ (linked-kept _ _ c.set_back_of.ensures.kept _ c.requires.parent)
+    linked-kept _ _ (Keeps-relinks _ _ _ _ c.set_place.ensures (placed-some _ _ _)) _
+    (linked-kept _ _ c.set_back_of.ensures.kept _ c.requires.parent)
 
 pub returns-clause-links : goal.returns-clause-links
 returns-clause-links g c =
-    adopted-links c.args.self.now _ _ _ _ _ _ (ap child_of c.links-older.ensures) c.set_back_of.ensures.links c.set_place.ensures c.set_child.ensures
+    adopted-links c.args.self.now _ _ _ _ _ _ (ap child_of c.links-older.ensures) c.set_back_of.ensures.links c.set_place.ensures
+    c.set_child.ensures
 
 pub returns-clause-kept : goal.returns-clause-kept
 returns-clause-kept g c =
     Keeps-then _ _ _ c.set_back_of.ensures.kept
-    (Keeps-then _ _ _ (Keeps-relinks _ _ _ _ c.set_place.ensures (placed-some _ _ _)) (Keeps-relinks _ _ _ _ c.set_child.ensures (child_to-some _ _)))
+    (Keeps-then _ _ _ (Keeps-relinks _ _ _ _ c.set_place.ensures (placed-some _ _ _))
+    (Keeps-relinks _ _ _ _ c.set_child.ensures (child_to-some _ _)))

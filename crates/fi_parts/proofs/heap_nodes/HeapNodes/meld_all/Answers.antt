@@ -13,7 +13,8 @@ meld-requires g c = meldable-rest _ _ _ _ _ _ _ (rw (c.in-Some.is, c.in-Some-mel
 pub loop-rest-preserved-in-Some-melded : goal.loop-rest-preserved-in-Some-melded
 loop-rest-preserved-in-Some-melded g c =
     let was = rw (c.in-Some.is, c.in-Some-melded.is) at c.loop-rest.invariant.parts in
-    let now = meld-next g.T.Ord.cmp c.loop-rest.self c.meld.new.self c.in-Some-melded.before c.in-Some.tree c.meld.result c.loop-rest.self.root None c.links-rest.result c.links-rest.ensures c.meld.ensures.melded c.meld.ensures.kept was in record {
+    let now = meld-next g.T.Ord.cmp c.loop-rest.self c.meld.new.self c.in-Some-melded.before c.in-Some.tree c.meld.result
+    c.loop-rest.self.root None c.links-rest.result c.links-rest.ensures c.meld.ensures.melded c.meld.ensures.kept was in record {
       parts = at-root g.T.Ord.cmp c.meld.new.self _ _ _ _ c.meld.ensures.kept.root now.0;
       kept = Keeps-then _ _ _ c.loop-rest.invariant.kept c.meld.ensures.kept;
     }
@@ -21,13 +22,15 @@ loop-rest-preserved-in-Some-melded g c =
 pub loop-rest-smaller-in-Some-melded : goal.loop-rest-smaller-in-Some-melded
 loop-rest-smaller-in-Some-melded g c =
     let was = rw (c.in-Some.is, c.in-Some-melded.is) at c.loop-rest.invariant.parts in
-    let now = meld-next g.T.Ord.cmp c.loop-rest.self c.meld.new.self c.in-Some-melded.before c.in-Some.tree c.meld.result c.loop-rest.self.root None c.links-rest.result c.links-rest.ensures c.meld.ensures.melded c.meld.ensures.kept was in
+    let now = meld-next g.T.Ord.cmp c.loop-rest.self c.meld.new.self c.in-Some-melded.before c.in-Some.tree c.meld.result
+    c.loop-rest.self.root None c.links-rest.result c.links-rest.ensures c.meld.ensures.melded c.meld.ensures.kept was in
     fewer g.T.Ord.cmp c.loop-rest.self c.meld.new.self _ _ _ _ _ _ _ _ c.loop-rest.rest c.in-Some.is was now.0 (omega (arith, now.1))
 
 pub loop-rest-preserved : goal.loop-rest-preserved
 loop-rest-preserved g c =
     let was = rw (c.in-Some.is, c.in-None.is) at c.loop-rest.invariant.parts in
-    let now = pop-next g.T.Ord.cmp c.loop-rest.self c.in-Some.tree c.loop-rest.self.root None c.links-rest.result c.links-rest.ensures was in record {
+    let now = pop-next g.T.Ord.cmp c.loop-rest.self c.in-Some.tree c.loop-rest.self.root None c.links-rest.result c.links-rest.ensures
+    was in record {
       parts = now.0;
       kept = c.loop-rest.invariant.kept;
     }
@@ -35,5 +38,6 @@ loop-rest-preserved g c =
 pub loop-rest-smaller : goal.loop-rest-smaller
 loop-rest-smaller g c =
     let was = rw (c.in-Some.is, c.in-None.is) at c.loop-rest.invariant.parts in
-    let now = pop-next g.T.Ord.cmp c.loop-rest.self c.in-Some.tree c.loop-rest.self.root None c.links-rest.result c.links-rest.ensures was in
+    let now = pop-next g.T.Ord.cmp c.loop-rest.self c.in-Some.tree c.loop-rest.self.root None c.links-rest.result c.links-rest.ensures
+    was in
     fewer g.T.Ord.cmp c.loop-rest.self c.loop-rest.self _ _ _ _ _ _ _ _ c.loop-rest.rest c.in-Some.is was now.0 (omega (arith, now.1))

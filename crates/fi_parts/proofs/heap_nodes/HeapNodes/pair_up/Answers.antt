@@ -13,22 +13,31 @@ links-right-requires g c = rest-linked _ _ _ _ _ _ _ (rw c.in-Some.is at c.loop-
 pub links-rest-requires : goal.links-rest-requires
 links-rest-requires g c =
     let was = rw c.in-Some.is at c.loop-rest.invariant.parts in
-    let now = pop-next g.T.Ord.cmp c.loop-rest.self c.in-Some.left c.loop-rest.self.root c.loop-rest.pairs c.links-right.result c.links-right.ensures was in
+    let now = pop-next g.T.Ord.cmp c.loop-rest.self c.in-Some.left c.loop-rest.self.root c.loop-rest.pairs c.links-right.result
+    c.links-right.ensures was in
     rest-linked _ _ _ _ _ _ _ (rw c.in-Some-right.is at now.0)
 
 pub meld-pair-requires : goal.meld-pair-requires
 meld-pair-requires g c =
     let was = rw c.in-Some.is at c.loop-rest.invariant.parts in
-    let now = pop-next g.T.Ord.cmp c.loop-rest.self c.in-Some.left c.loop-rest.self.root c.loop-rest.pairs c.links-right.result c.links-right.ensures was in
+    let now = pop-next g.T.Ord.cmp c.loop-rest.self c.in-Some.left c.loop-rest.self.root c.loop-rest.pairs c.links-right.result
+    c.links-right.ensures was in
     meldable-rest _ _ _ _ _ _ _ (rw c.in-Some-right.is at now.0)
 
-turned : (g : Over) (c : goal.After-set_next g) → (P : InParts g.T.Ord.cmp c.loop-rest.self c.loop-rest.self.root None (Some c.in-Some.left) c.loop-rest.pairs) → Turned g.T.Ord.cmp c.loop-rest.self c.set_next.new.self c.loop-rest.self.root (Some c.in-Some.left) c.match-right.rest c.loop-rest.pairs P c.match-right.pair
+turned : (g : Over) (c : goal.After-set_next g) → (P : InParts g.T.Ord.cmp c.loop-rest.self c.loop-rest.self.root None
+    (Some c.in-Some.left) c.loop-rest.pairs) → Turned g.T.Ord.cmp c.loop-rest.self c.set_next.new.self c.loop-rest.self.root
+    (Some c.in-Some.left) c.match-right.rest c.loop-rest.pairs P c.match-right.pair
 turned g c P =
     elim c.match-right.branch [
       | in-Some-right w ↦
-          pair-two g.T.Ord.cmp c.loop-rest.self w.meld-pair.new.self c.match-right.self c.set_next.new.self c.in-Some.left w.in-Some-right.right w.meld-pair.result c.match-right.pair c.loop-rest.self.root c.match-right.rest c.loop-rest.pairs c.links-right.result w.links-rest.result c.links-right.ensures w.in-Some-right.is w.links-rest.ensures w.rest-is w.self-is w.pair-is w.meld-pair.ensures.melded w.meld-pair.ensures.kept c.set_next.ensures P
+          pair-two g.T.Ord.cmp c.loop-rest.self w.meld-pair.new.self c.match-right.self c.set_next.new.self c.in-Some.left
+          w.in-Some-right.right w.meld-pair.result c.match-right.pair c.loop-rest.self.root c.match-right.rest c.loop-rest.pairs
+          c.links-right.result w.links-rest.result c.links-right.ensures w.in-Some-right.is w.links-rest.ensures w.rest-is w.self-is
+          w.pair-is w.meld-pair.ensures.melded w.meld-pair.ensures.kept c.set_next.ensures P
       | in-None w ↦
-          pair-one g.T.Ord.cmp c.loop-rest.self c.match-right.self c.set_next.new.self c.in-Some.left c.match-right.pair c.loop-rest.self.root c.match-right.rest c.loop-rest.pairs c.links-right.result c.links-right.ensures (w.rest-is ∙ sym w.in-None.is) w.self-is w.pair-is c.set_next.ensures P
+          pair-one g.T.Ord.cmp c.loop-rest.self c.match-right.self c.set_next.new.self c.in-Some.left c.match-right.pair
+          c.loop-rest.self.root c.match-right.rest c.loop-rest.pairs c.links-right.result c.links-right.ensures
+          (w.rest-is ∙ sym w.in-None.is) w.self-is w.pair-is c.set_next.ensures P
     ]
 
 pub loop-rest-preserved : goal.loop-rest-preserved

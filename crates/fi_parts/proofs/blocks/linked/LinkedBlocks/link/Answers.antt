@@ -13,7 +13,17 @@ fronts g c = Fronts-at c.args.self.now c.args.at c.requires.chained c.requires.l
 
 after : (g : Over) (c : goal.After-set_older g) → c.set_older.new.self ≡ front c.args.self.now c.args.at
 after g c =
-    rw (c.set_older.ensures, c.none-2.ensures, c.to-2.ensures, c.set_younger.ensures, c.to.ensures, c.relink.ensures.relinked, c.copied.ensures, c.none.ensures, c.copied-older.ensures)
+    rw (
+      c.set_older.ensures,
+      c.none-2.ensures,
+      c.to-2.ensures,
+      c.set_younger.ensures,
+      c.to.ensures,
+      c.relink.ensures.relinked,
+      c.copied.ensures,
+      c.none.ensures,
+      c.copied-older.ensures,
+    )
     (λ i. front c.args.self.now c.args.at)
 
 pub returns-clause-chained : goal.returns-clause-chained

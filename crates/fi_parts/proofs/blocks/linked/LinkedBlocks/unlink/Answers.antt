@@ -27,16 +27,41 @@ pub returns-then-not-linked-clause-data : goal.returns-then-not-linked-clause-da
 returns-then-not-linked-clause-data g c = rw (after g c) (data-relinked c.args.self.now c.args.at loose c.requires.live)
 
 pub set_older-requires : goal.set_older-requires
-set_older-requires g c = rw (c.relink-younger.ensures.relinked, c.loose.ensures) (Unlinks-at c.args.self.now c.args.at c.relink-younger.result c.requires.chained c.relink-younger.ensures.value c.if-not-linked.false).younger
+set_older-requires g c = rw (c.relink-younger.ensures.relinked, c.loose.ensures)
+    (Unlinks-at c.args.self.now c.args.at c.relink-younger.result c.requires.chained c.relink-younger.ensures.value
+    c.if-not-linked.false).younger
 
 pub set_younger-requires : goal.set_younger-requires
-set_younger-requires g c = rw (c.set_older.ensures, c.copied.ensures, c.relink-younger.ensures.relinked, c.loose.ensures) (Unlinks-at c.args.self.now c.args.at c.relink-younger.result c.requires.chained c.relink-younger.ensures.value c.if-not-linked.false).older
+set_younger-requires g c = rw (c.set_older.ensures, c.copied.ensures, c.relink-younger.ensures.relinked, c.loose.ensures)
+    (Unlinks-at c.args.self.now c.args.at c.relink-younger.result c.requires.chained c.relink-younger.ensures.value
+    c.if-not-linked.false).older
 
 pub returns-clause-chained : goal.returns-clause-chained
-returns-clause-chained g c = rw (c.set_younger.ensures, c.set_older.ensures, c.copied.ensures, c.relink-younger.ensures.relinked, c.loose.ensures) (Unlinks-at c.args.self.now c.args.at c.relink-younger.result c.requires.chained c.relink-younger.ensures.value c.if-not-linked.false).moved.chained
+returns-clause-chained g c = rw (
+  c.set_younger.ensures,
+  c.set_older.ensures,
+  c.copied.ensures,
+  c.relink-younger.ensures.relinked,
+  c.loose.ensures,
+) (Unlinks-at c.args.self.now c.args.at c.relink-younger.result c.requires.chained c.relink-younger.ensures.value
+    c.if-not-linked.false).moved.chained
 
 pub returns-clause-order : goal.returns-clause-order
-returns-clause-order g c = rw (c.set_younger.ensures, c.set_older.ensures, c.copied.ensures, c.relink-younger.ensures.relinked, c.loose.ensures) (Unlinks-at c.args.self.now c.args.at c.relink-younger.result c.requires.chained c.relink-younger.ensures.value c.if-not-linked.false).moved.order
+returns-clause-order g c = rw (
+  c.set_younger.ensures,
+  c.set_older.ensures,
+  c.copied.ensures,
+  c.relink-younger.ensures.relinked,
+  c.loose.ensures,
+) (Unlinks-at c.args.self.now c.args.at c.relink-younger.result c.requires.chained c.relink-younger.ensures.value
+    c.if-not-linked.false).moved.order
 
 pub returns-clause-data : goal.returns-clause-data
-returns-clause-data g c = rw (c.set_younger.ensures, c.set_older.ensures, c.copied.ensures, c.relink-younger.ensures.relinked, c.loose.ensures) (Unlinks-at c.args.self.now c.args.at c.relink-younger.result c.requires.chained c.relink-younger.ensures.value c.if-not-linked.false).moved.payload
+returns-clause-data g c = rw (
+  c.set_younger.ensures,
+  c.set_older.ensures,
+  c.copied.ensures,
+  c.relink-younger.ensures.relinked,
+  c.loose.ensures,
+) (Unlinks-at c.args.self.now c.args.at c.relink-younger.result c.requires.chained c.relink-younger.ensures.value
+    c.if-not-linked.false).moved.payload

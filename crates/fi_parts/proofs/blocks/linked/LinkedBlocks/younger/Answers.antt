@@ -13,11 +13,13 @@ live g c = is_live c.args.self.now c.args.at (c.requires.chained.flags c.args.at
 
 pub returns-clause-chained : goal.returns-clause-chained
 returns-clause-chained g c =
-    chained-kept c.args.self.now _ c.requires.chained (Kept-read c.args.self.now c.args.at c.reach.result.now (live g c) c.reach.ensures.value)
+    chained-kept c.args.self.now _ c.requires.chained (Kept-read c.args.self.now c.args.at c.reach.result.now (live g c)
+    c.reach.ensures.value)
 
 pub returns-clause-order : goal.returns-clause-order
 returns-clause-order g c =
-    order-kept c.args.self.now _ c.requires.chained (Kept-read c.args.self.now c.args.at c.reach.result.now (live g c) c.reach.ensures.value)
+    order-kept c.args.self.now _ c.requires.chained (Kept-read c.args.self.now c.args.at c.reach.result.now (live g c)
+    c.reach.ensures.value)
 
 pub returns-clause-data : goal.returns-clause-data
 returns-clause-data g c = data-relinked c.args.self.now c.args.at c.reach.result.now (live g c)

@@ -17,6 +17,8 @@ use Rattle.fi_parts.proofs.BlockSharing.{lent_laws, Lends-blocks}
 
 pub shares : (T : RattleType) (L : Laws T) → statement T L
 shares T L = of_Lends (C.struct T) (C.the_codes T.Denot T.coded (marker.the_row RawPtr).coded) (C.the_heap T) (C.the_lent T)
-    (λ d p. lent_laws (block.the_row T) (the_row_laws T L).shr_laws d.blocks) (copy_shared (marker.the_field RawPtr) (field_copy (marker.the_type RawPtr) tt), tt)
+    (λ d p. lent_laws (block.the_row T) (the_row_laws T L).shr_laws d.blocks)
+    (copy_shared (marker.the_field RawPtr) (field_copy (marker.the_type RawPtr) tt), tt)
     (λ M 𝓤 𝓛 d p.
-    Lends-blocks 𝓛 (C.the_row T).lives (block.the_row T) (the_row_laws T L) (the_within T (C.the_row T).lives (Incl-trans (meet_⊑_left (T.lives ++ []) _) (meet_⊑_left T.lives []))) d.blocks)
+    Lends-blocks 𝓛 (C.the_row T).lives (block.the_row T) (the_row_laws T L)
+    (the_within T (C.the_row T).lives (Incl-trans (meet_⊑_left (T.lives ++ []) _) (meet_⊑_left T.lives []))) d.blocks)

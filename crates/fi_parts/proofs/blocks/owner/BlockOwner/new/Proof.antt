@@ -37,7 +37,9 @@ new_spec 𝓤 𝓛 𝓜 𝓡 wired T L =
     split ! $ keep ! (0 ∷ []) $ enter ! 𝓣.C 𝓣.Λ fn [] Post $ alloc_all ! (λ l. pass_all ! refl tt $
     sets ! (agg ! (no_more !)) refl (tt, tt) $ sets ! (agg ! (and_then ! (get ! refl) (no_more !))) refl (tt, (tt, tt)) $
     use0 𝓛 (raw (fact 𝓤 (h.blocks ≡ []))) (fact_i 𝓤 _ (emp 𝓤) refl) $
-    nothing ! $ use0 𝓛 (‵ ((Mark T).own_val (tt, tt) (mark ∷ []))) (makes_shadow 𝓛 ((Mark T).own_val (tt, tt) (mark ∷ [])) (λ vss. (tt, ((λ uss. (tt, tt)), tt))) ((vstruct vnil ∷ [], tt), (refl, ((tt, (refl, tt)), tt)))) $ fjoin ! $ nothing ! $
+    nothing ! $ use0 𝓛 (‵ ((Mark T).own_val (tt, tt) (mark ∷ [])))
+    (makes_shadow 𝓛 ((Mark T).own_val (tt, tt) (mark ∷ [])) (λ vss. (tt, ((λ uss. (tt, tt)), tt)))
+    ((vstruct vnil ∷ [], tt), (refl, ((tt, (refl, tt)), tt)))) $ fjoin ! $ nothing ! $
     returns ! (look_at ! 0 refl) $ free_all ! refl $ move ! (3 ∷ 0 ∷ 1 ∷ 2 ∷ []) $
     by ! (leaves 𝓛 En hs c z mark h tt tt))
     )

@@ -56,21 +56,31 @@ put_spec 𝓤 𝓛 𝓜 𝓡 wired T L =
     let us = z.0.4.0 in let ws = z.0.4.1.0 in
     let Post : Val → SProp 𝓤 = (walk_of 𝓛 En hs c).post z in
     let toks : Item 𝓤 = ‵ (flft ϑ r) ⊛ ‵ ftrue in
-    qed 𝓛 (((‵ (flft κ q) ⊛ toks) ⊛ ‵ (owns (MutRef (named 0) κ (R T) ∷ Lo ∷ []) z.0.3 z.0.4)) ∷ raw (fact 𝓤 (ϑ ⊑ T.lives)) ∷ raw (emp 𝓤) ∷ []) ∵
-    split ! $ split ! $ move ! (2 ∷ []) $ fsplit ! $ fsplit3 ! $ feq_l ! (λ e0. move ! (2 ∷ []) $ fsplit ! $ raw_box_out (B T) Global.the_row LG ghosts ! v ws (λ b o h e e1 fits.
+    qed 𝓛 (((‵ (flft κ q) ⊛ toks) ⊛ ‵ (owns (MutRef (named 0) κ (R T) ∷ Lo ∷ []) z.0.3 z.0.4)) ∷ raw (fact 𝓤 (ϑ ⊑ T.lives)) ∷ raw
+    (emp 𝓤) ∷ []) ∵
+    split ! $ split ! $ move ! (2 ∷ []) $ fsplit ! $ fsplit3 ! $ feq_l !
+    (λ e0. move ! (2 ∷ []) $ fsplit ! $ raw_box_out (B T) Global.the_row LG ghosts ! v ws (λ b o h e e1 fits.
     -- [the block; the handle; nothing; what is observed; the borrow; the token; the other tokens; ..]
     let x : (B T).Denot = v.value in let p : Ptr = block_ptr b o in
-    let Had : List (Item 𝓤) = ‵ (box_owns token (B T) p x) ∷ ‵ (fobs γ ((R T).coded.code d)) ∷ ‵ (fbor κ (Borrowed (mem (R T)) rb ro γ)) ∷ ‵ (flft κ q) ∷ toks ∷ [] in
+    let Had : List (Item 𝓤) = ‵ (box_owns token (B T) p x) ∷ ‵ (fobs γ ((R T).coded.code d)) ∷ ‵ (fbor κ (Borrowed (mem (R T)) rb ro γ))
+    ∷ ‵ (flft κ q) ∷ toks ∷ [] in
     keep ! (0 ∷ 3 ∷ 4 ∷ 5 ∷ 6 ∷ []) $
-    by ! (subst (λ (xs : List Val × List Val). ent 𝓤 (⋆ 𝓛 Had) (WpFn 𝓤 H 𝓣.C 𝓣.Λ fn (xs.0 ++ (xs.1 ++ [])) Post)) (λ j. (sym e0 j, sym e1 j)) (
-    qed 𝓛 Had ∵ enter ! 𝓣.C 𝓣.Λ fn (vptr rb ro ∷ both (vptr b o) h ∷ []) _ $ alloc_all ! (λ l. pass_all ! refl ((tt, tt), (raw_box_good (B T) Global.the_row LG ghosts b o h fits, tt)) $
-    sets ! (of_opd ! (get_in ! (fld ! refl (stop !)) (sub ! 0 refl (whole !)))) refl (tt, tt) $ sets ! (agg ! (and_then ! (get ! refl) (no_more !))) refl (tt, (tt, tt)) $
-    move ! (1 ∷ 2 ∷ 3 ∷ []) $ opens ! tt (R T) {h = d} rb ro (λ vs. move ! (1 ∷ []) $ fsplit ! $ move ! (6 ∷ []) $ fsplit ! $ move ! (0 ∷ 3 ∷ []) $
+    by ! (subst (λ (xs : List Val × List Val). ent 𝓤 (⋆ 𝓛 Had) (WpFn 𝓤 H 𝓣.C 𝓣.Λ fn (xs.0 ++ (xs.1 ++ [])) Post))
+    (λ j. (sym e0 j, sym e1 j)) (
+    qed 𝓛 Had ∵ enter ! 𝓣.C 𝓣.Λ fn (vptr rb ro ∷ both (vptr b o) h ∷ []) _ $ alloc_all !
+    (λ l. pass_all ! refl ((tt, tt), (raw_box_good (B T) Global.the_row LG ghosts b o h fits, tt)) $
+    sets ! (of_opd ! (get_in ! (fld ! refl (stop !)) (sub ! 0 refl (whole !)))) refl (tt, tt) $ sets !
+    (agg ! (and_then ! (get ! refl) (no_more !))) refl (tt, (tt, tt)) $
+    move ! (1 ∷ 2 ∷ 3 ∷ []) $ opens ! tt (R T) {h = d} rb ro (λ vs. move ! (1 ∷ []) $ fsplit ! $ move ! (6 ∷ []) $ fsplit ! $ move !
+    (0 ∷ 3 ∷ []) $
     -- [the block; the other blocks; its token; the mark; the cell; the open borrow in three]
     knows ! (at_ptr d.blocks p ≡ None) (fresh T 𝓛 𝓜 p x d.blocks) (λ new.
     let h' : BlockOwner T.Denot = record d { blocks = (p, x) ∷ d.blocks } in
-    move ! (0 ∷ 2 ∷ []) $ fjoin ! $ move ! (0 ∷ 1 ∷ []) $ fjoin ! $ move ! (1 ∷ 0 ∷ []) $ fjoin ! $ move ! (1 ∷ 0 ∷ []) $ closes ! tt (R T) h' vs rb ro $
-    feq_i ! (List Val) us (vptr rb ro ∷ []) e0 $ fjoin3 ! $ nothing ! $ nothing ! $ fjoin ! $ move ! (1 ∷ 0 ∷ []) $ fjoin ! $ word_made ! p $
-    use0 𝓛 (raw (fact 𝓤 (h'.blocks ≡ (p, x) ∷ d.blocks))) (fact_i 𝓤 _ (emp 𝓤) refl) $ use0 𝓛 (raw (fact 𝓤 (at_ptr d.blocks p ≡ None))) (fact_i 𝓤 _ (emp 𝓤) new) $ join ! $
+    move ! (0 ∷ 2 ∷ []) $ fjoin ! $ move ! (0 ∷ 1 ∷ []) $ fjoin ! $ move ! (1 ∷ 0 ∷ []) $ fjoin ! $ move ! (1 ∷ 0 ∷ []) $ closes ! tt
+    (R T) h' vs rb ro $
+    feq_i ! (List Val) us (vptr rb ro ∷ []) e0 $ fjoin3 ! $ nothing ! $ nothing ! $ fjoin ! $ move ! (1 ∷ 0 ∷ []) $ fjoin ! $ word_made
+    ! p $
+    use0 𝓛 (raw (fact 𝓤 (h'.blocks ≡ (p, x) ∷ d.blocks))) (fact_i 𝓤 _ (emp 𝓤) refl) $ use0 𝓛 (raw (fact 𝓤 (at_ptr d.blocks p ≡ None)))
+    (fact_i 𝓤 _ (emp 𝓤) new) $ join ! $
     returns ! (look_at ! 0 refl) $ free_all ! refl $ move ! (3 ∷ 4 ∷ []) $ join ! $ keep ! (0 ∷ 3 ∷ 2 ∷ 1 ∷ []) $
     by ! (leaves 𝓛 En hs c z (word p) (record { ptr = p }) (h', (tt, tt)) (tt, (tt, tt)))))))))))

@@ -11,7 +11,8 @@ use prog.Wp.{Env, WpFn}
 use contract.Monad.{fact}
 use contract.BorrowLft.{◌⊑◌}
 use contract.Running.{tables}
-use types.Kit.{Item, ⋆, ‵, raw, ◌⊛◌, at_ret, ◌$◌, ◌∵◌, !, qed, by, move, keep, drop, use1, split, join, rewrite, fsplit, fjoin, feq_i, feq_l, suffices, done}
+use types.Kit.{Item, ⋆, ‵, raw, ◌⊛◌, at_ret, ◌$◌, ◌∵◌, !, qed, by, move, keep, drop, use1, split, join, rewrite, fsplit, fjoin}
+use types.Kit.{feq_i, feq_l, suffices, done}
 use types.Part.{whole, sub}
 use types.Run.{stop, hop, fld, from, of_opd, addr, first, blocks, exec, returns, enter}
 use types.ByLocal.{alloc_all, pass_all, free_all, look_at, look_in_at, get, sets, sets_last, env, take_at, give_at}
@@ -54,20 +55,25 @@ whole_spec 𝓤 𝓛 𝓜 𝓡 wired T L =
     let us = z.0.4.0 in let ws = z.0.4.1.0 in
     let Post : Val → SProp 𝓤 = (walk_of 𝓛 En hs c).post z in
     let toks : Item 𝓤 = ‵ (flft κ q) ⊛ ‵ (flft ϑ r) ⊛ ‵ ftrue in
-    qed 𝓛 ((toks ⊛ ‵ (owns (ShrRef (named 0) κ (R T) ∷ P T ∷ []) z.0.3 z.0.4)) ∷ raw (fact 𝓤 (ϑ ⊑ T.lives)) ∷ raw (fact 𝓤 (IsSome (at_ptr d.blocks p))) ∷ []) ∵
-    move ! (2 ∷ []) $ heard ! _ (λ there. let found = some_of (at_ptr d.blocks p) there in let b = found.0 in let cut : Cut d.blocks p b = cut_at d.blocks p b found.1 in
+    qed 𝓛 ((toks ⊛ ‵ (owns (ShrRef (named 0) κ (R T) ∷ P T ∷ []) z.0.3 z.0.4)) ∷ raw (fact 𝓤 (ϑ ⊑ T.lives)) ∷ raw
+    (fact 𝓤 (IsSome (at_ptr d.blocks p))) ∷ []) ∵
+    move ! (2 ∷ []) $ heard ! _ (λ there. let found = some_of (at_ptr d.blocks p) there in let b =
+    found.0 in let cut : Cut d.blocks p b = cut_at d.blocks p b found.1 in
     split ! $ move ! (1 ∷ []) $ fsplit ! $ fsplit ! $ feq_l ! (λ e0. move ! (1 ∷ []) $ fsplit ! $ word_had ! p ws (λ e1.
     -- [nothing; what is lent; the tokens; the bound]
     let Had : List (Item 𝓤) = ‵ (hidden_shr (R T) κ d rb ro) ∷ toks ∷ [] in
     keep ! (1 ∷ 2 ∷ []) $
-    by ! (subst (λ (xs : List Val × List Val). ent 𝓤 (⋆ 𝓛 Had) (WpFn 𝓤 H 𝓣.C 𝓣.Λ fn (xs.0 ++ (xs.1 ++ [])) Post)) (λ j. (sym e0 j, sym e1 j)) (
+    by ! (subst (λ (xs : List Val × List Val). ent 𝓤 (⋆ 𝓛 Had) (WpFn 𝓤 H 𝓣.C 𝓣.Λ fn (xs.0 ++ (xs.1 ++ [])) Post))
+    (λ j. (sym e0 j, sym e1 j)) (
     qed 𝓛 Had ∵ enter ! 𝓣.C 𝓣.Λ fn (vptr rb ro ∷ word p ∷ []) _ $ alloc_all ! (λ l. pass_all ! refl ((tt, tt), (word-Good [] p, tt)) $
     let Ev : Env 𝓤 H = env fn.locals l in
     unhide ! $ fsplit ! $ drop ! $ rewrite ! 0 (λ (bs : List (Ptr × (B T).Denot)). ‵ (blocks_lent (B T) bs κ)) cut.is refl $
     use1 𝓛 (‵ (lent_at (B T) p b κ)) (block_seen 𝓛 (B T) κ cut.front (p, b) cut.back) $
-    in_a_block ! p (λ s. lent_at (B T) s b κ) (qed 𝓛 (‵ (lent_at (B T) null_ptr b κ) ∷ []) ∵ fsplit ! $ keep ! (0 ∷ []) $ done !) (λ pb po e.
+    in_a_block ! p (λ s. lent_at (B T) s b κ) (qed 𝓛 (‵ (lent_at (B T) null_ptr b κ) ∷ []) ∵ fsplit ! $ keep ! (0 ∷ []) $ done !)
+    (λ pb po e.
     take_at ! 2 $ rewrite ! 0 (λ (s : Ptr). ‵ (fat full_share (layout (P T)) (l 2) 0 (word s))) e refl $ give_at ! 2 $
-    first ! $ blocks ! $ sets_last ! (addr ! (from ! (fld ! refl (hop ! (look_in_at ! 2 (sub ! 0 refl (whole !))) (stop !))))) refl (tt, tt) $
+    first ! $ blocks ! $ sets_last ! (addr ! (from ! (fld ! refl (hop ! (look_in_at ! 2 (sub ! 0 refl (whole !))) (stop !))))) refl
+    (tt, tt) $
     exec ! 𝓣.C 𝓣.Λ Ev (after 1 fn.body) (at_ret Ev Post) $ sets ! (of_opd ! (get ! refl)) refl (tt, tt) $
     fsplit ! $ drop ! $ hide ! $ feq_i ! (List Val) (vptr pb po ∷ []) (vptr pb po ∷ []) refl $ fjoin ! $
     returns ! (look_at ! 0 refl) $ free_all ! refl $

@@ -59,7 +59,8 @@ fill_spec 𝓤 𝓛 𝓜 𝓡 wired T A L LA g d dd allocator glue =
     -- [the room; the value; the token; the handle; the other tokens]
     keep ! (2 ∷ 0 ∷ 3 ∷ 4 ∷ 5 ∷ []) $
     suffices ! (Run (w ∷ u ∷ []))
-    (subst (λ (ws : List Val × List Val). ent 𝓤 (Run (w ∷ u ∷ [])) (Run (ws.0 ++ (ws.1 ++ [])))) (λ i. (sym is i, sym eu i)) (id⊢ 𝓤 (Run (w ∷ u ∷ [])))) $
+    (subst (λ (ws : List Val × List Val). ent 𝓤 (Run (w ∷ u ∷ [])) (Run (ws.0 ++ (ws.1 ++ [])))) (λ i. (sym is i, sym eu i))
+    (id⊢ 𝓤 (Run (w ∷ u ∷ [])))) $
     as_written ! (box.τ E) b o $ enter ! 𝓣.C 𝓣.Λ fn (w ∷ u ∷ []) Post $
     alloc_all ! (λ l. pass_all ! refl (vacant_typed E.al R h b o fits, (t, tt)) $ let Ev = env fn.locals l in
     sets ! (of_opd ! (get_in ! (fld ! refl (stop !)) (sub ! 0 refl (whole !)))) refl (tt, tt) $

@@ -53,7 +53,8 @@ into_room_spec 𝓤 𝓛 𝓜 𝓡 wired T A L LA g d dd allocator glue =
     -- [the room; the token; the handle; the other tokens]
     keep ! (0 ∷ 1 ∷ 2 ∷ 4 ∷ []) $
     suffices ! (Run (kept_val w ∷ []))
-    (subst (λ (ws : List Val). ent 𝓤 (Run (kept_val w ∷ [])) (Run ws)) (sym (ap (λ (xs : List Val). xs ++ []) (ev w is))) (id⊢ 𝓤 (Run (kept_val w ∷ [])))) $
+    (subst (λ (ws : List Val). ent 𝓤 (Run (kept_val w ∷ [])) (Run ws)) (sym (ap (λ (xs : List Val). xs ++ []) (ev w is)))
+    (id⊢ 𝓤 (Run (kept_val w ∷ [])))) $
     enter ! 𝓣.C 𝓣.Λ fn (kept_val w ∷ []) Post $ alloc_all ! (λ l. pass_all ! refl (kept_typed E.al R h b o fits, tt) $
     sets ! (of_opd ! (get_in ! (fld ! refl (stop !)) (sub ! 0 refl (whole !)))) refl typed $
     sets ! (of_opd ! (get ! refl)) refl typed $

@@ -5,4 +5,8 @@ pub invariant_of-result : goal.invariant_of-result
 invariant_of-result g c = (IsRing-empty _ c.args.capacity c.in_ok-slots.ensures.ok).0
 
 pub returns-clause-ok : goal.returns-clause-ok
-returns-clause-ok g c = let made = IsRing-empty _ c.args.capacity c.in_ok-slots.ensures.ok in λ k. record { items = made.1 k; capacity = made.2 k }
+returns-clause-ok g c = let made = IsRing-empty _ c.args.capacity c.in_ok-slots.ensures.ok in λ k. record {
+  items = made.1 k;
+  capacity =
+      made.2 k;
+}
