@@ -1,10 +1,12 @@
 -- What a stream that threads share does in its channel.
-use Rattle.std.specs.Prelude.{Option, Some, None, Result, Ok, Err}
+use Rattle.std.specs.Prelude.{◌≡◌, ◌||◌, ℕ, Bool, true, false, Option, Some, None, Result, Ok, Err}
 use Rattle.futures.specs.declared.task.Poll.{Poll}
 use Rattle.futures.specs.declared.task.Poll.TheVariants.{Ready, Pending}
+use Rattle.fi_channels.specs.Channel.{ChannelMachine, can_stream, is_end, kind_of, receive_phase, PollsNext}
 use Rattle.fi_channels.specs.Polled.{unused_after}
 use Rattle.fi_parts.specs.declared.errors.Fault.{Fault}
 use Rattle.fi_parts.specs.declared.phase.Leftover.{Leftover}
+use Rattle.fi_sync.specs.Waiting.{SharedFuture, PollsWhere, IsAnswer}
 
 -- A poll that is not refused is one of these; a channel refuses none.
 abbrev pub Streamed : {T S : Type 0} → (Poll (Option T) → S → Type 0) → Poll (Option (Result T Fault)) → S → Type 0
@@ -21,3 +23,20 @@ displaced_by_next answer had = had
 abbrev pub leftover_of_next : {T W : Type 0} → Poll (Option (Result T Fault)) → Option W → W → Leftover W
 leftover_of_next answer had waker =
     record { displaced = displaced_by_next answer had; unused = unused_after answer waker }
+
+-- A poll of a stream under a slot is the channel's where a stream can be polled there; else it is refused, and nothing changes.
+abbrev pub PollsStream : {T W : Type 0} → ChannelMachine T W → ℕ → W → Poll (Option (Result T Fault)) → ChannelMachine T W → Type 0
+PollsStream old name waker answer new =
+    PollsWhere (can_stream (kind_of old name) (receive_phase old name)) (Streamed (PollsNext old name waker)) (Some (Err Fault.NoSlot))
+    old answer new
+
+-- A poll with this answer ends the stream, or leaves it as it was.
+abbrev pub streamed : {A : Type 0} → SharedFuture → Poll (Option A) → SharedFuture
+streamed stream answer = record stream { has_ended = stream.has_ended || is_end answer }
+
+-- A stream that has ended answers its end. Another answers as its channel did in some hold of the lock, or that it has no memory where no
+-- waker could be made.
+abbrev pub IsStreamAnswer : (T W : Type 0) → Bool → Bool → Poll (Option (Result T Fault)) → Type 0
+IsStreamAnswer T W true lacks_waker answer = answer ≡ Ready None
+IsStreamAnswer T W false lacks_waker answer =
+    IsAnswer (PollsStream {T = T} {W = W}) (Some (Err Fault.NoMemory)) false lacks_waker answer

@@ -35,6 +35,10 @@ abbrev pub CancelsWhere : {S L : Type 0} → Bool → Type 0 → Option L → S 
 CancelsWhere true cancels had old left new = cancels × (left ≡ had)
 CancelsWhere false cancels had old left new = (new ≡ old) × (left ≡ None)
 
+-- A cancel of the state, in some hold of the lock, left this.
+abbrev pub IsLeft : {S L : Type 0} → (S → ℕ → L → S → Type 0) → L → Type 0
+IsLeft {S} cancels left = (old : S) × (name : ℕ) × (new : S) × cancels old name left new
+
 -- A future that has ended stays pending. Another answers as its state did in some hold of the lock, or that it has no memory where
 -- no waker could be made.
 abbrev pub IsAnswer : {S W A : Type 0} → (S → ℕ → W → Poll A → S → Type 0) → A → Bool → Bool → Poll A → Type 0

@@ -1,9 +1,12 @@
 //! Streams of the channels that threads share.
-ghost use Rattle.std.specs.Prelude.{◌≡◌, Option, Some, Result, Err, Bool, false, is_some};
-ghost use Rattle.fi_channels.specs.Channel.{can_stream, kind_of, receive_phase, PollsNext, CancelsReceive, displaced_receive};
+ghost use Rattle.std.specs.Prelude.{◌≡◌, Some, Err, false, is_some};
+ghost use Rattle.futures.specs.Poll.{OnPending};
+ghost use Rattle.futures.specs.Task.{Covers, Keeps};
+ghost use Rattle.futures.specs.declared.task.waker.Waker.{Waker};
+ghost use Rattle.fi_channels.specs.Channel.{receive_phase, CancelsReceive, displaced_receive};
 ghost use Rattle.fi_parts.specs.declared.errors.Fault.{Fault};
-ghost use Rattle.fi_sync.specs.Streams.{Streamed, leftover_of_next};
-ghost use Rattle.fi_sync.specs.Waiting.{PollsWhere, CancelsWhere};
+ghost use Rattle.fi_sync.specs.Streams.{PollsStream, IsStreamAnswer, leftover_of_next, streamed};
+ghost use Rattle.fi_sync.specs.Waiting.{CancelsWhere};
 
 use crate::claim::{Cancel, Claim};
 use crate::monitor::Monitor;
@@ -29,11 +32,15 @@ pub struct ChannelStream<'a, T: Drop, B: RingBuf<Item = T>, R: Wait> {
 }
 
 impl<'a, T: Drop, B: RingBuf<Item = T>, R: Wait> Model for ChannelStream<'a, T, B, R> {
+    ghost use Rattle.std.specs.Prelude.{◌≡◌, false};
     ghost use Rattle.fi_sync.specs.Waiting.{SharedFuture};
 
     ghost Value = { SharedFuture };
 
     ghost view = { λ stream. record { source = stream.future.source; has_ended = stream.is_ended } };
+
+    // The future itself never ends.
+    ghost invariant = { λ stream. stream.future.has_ended ≡ false };
 }
 
 impl<'a, T: Drop, B: RingBuf<Item = T>, R: Wait> ChannelStream<'a, T, B, R> {
@@ -47,6 +54,23 @@ impl<'a, T: Drop, B: RingBuf<Item = T>, R: Wait> ChannelStream<'a, T, B, R> {
             future: SlotFuture::new(monitor, claim),
             is_ended: false,
         }
+    }
+
+    /// `Stream::poll_next`, with a contract that says what it answers.
+    pub fn poll_item(&mut self, cx: &mut Context<'_>) -> Poll<Option<Result<T, Fault>>>
+        ensures registered { OnPending result (Covers cx.new (λ source. source ≡ self.new.source)) }
+        ensures kept { Keeps cx.old cx.new }
+        ensures stands { self.new ≡ streamed self.old result }
+        ensures answered { IsStreamAnswer T Waker self.old.has_ended cx.new.lacks_waker result }
+    {
+        if self.is_ended {
+            return Poll::Ready(None);
+        }
+        let answer = self.future.poll(cx);
+        if let Poll::Ready(None) = &answer {
+            self.is_ended = true;
+        }
+        answer
     }
 
     /// The stream has answered its end. It takes no lock. Keeps `FusedStream::is_terminated`.
@@ -73,18 +97,14 @@ impl<T: Drop, B: RingBuf<Item = T>, R: Wait> Stream for ChannelStream<'_, T, B, 
     ghost needs = { λ stream source. source ≡ stream.source };
 
     fn poll_next(&mut self, cx: &mut Context<'_>) -> Poll<Option<Result<T, Fault>>> {
-        let answer = self.future.poll(cx);
-        if let Poll::Ready(None) = &answer {
-            self.is_ended = true;
-        }
-        answer
+        self.poll_item(cx)
     }
 }
 
 impl<T: Drop, B: RingBuf<Item = T>> PollSlot<ChannelStreaming> for ChannelState<T, B, Waker> {
     type Output = Option<Result<T, Fault>>;
 
-    ghost polls = { λ old name waker answer new. PollsWhere (can_stream (kind_of old name) (receive_phase old name)) (Streamed (PollsNext old name waker)) (Some (Err Fault.NoSlot)) old answer new };
+    ghost polls = { PollsStream };
 
     ghost leaves = { λ old name waker answer. leftover_of_next answer (displaced_receive old name) waker };
 

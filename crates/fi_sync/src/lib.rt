@@ -13,7 +13,10 @@ mod mutex;
 mod one_value;
 mod receive_future;
 mod semaphore;
+mod semaphore_future;
+mod semaphore_releaser;
 mod send_future;
+mod shared_semaphore;
 mod slot_future;
 mod state_broadcast;
 #[cfg(test)]
@@ -35,7 +38,12 @@ pub use mutex::{Mutex, MutexGuard, MutexLockFuture};
 pub use one_value::{OneValueChannel, OneshotBroadcastChannel, OneshotChannel};
 pub use receive_future::{ChannelReceive, ChannelReceiveFuture};
 pub use semaphore::{Semaphore, SemaphoreAcquireFuture, SemaphoreReleaser};
+pub use semaphore_future::SemaphoreAcquireFutureOf;
+pub use semaphore_releaser::SemaphoreReleaserOf;
 pub use send_future::{ChannelSend, ChannelSendFuture};
+pub use shared_semaphore::{
+    SharedSemaphore, SharedSemaphoreAcquireFuture, SharedSemaphoreReleaser,
+};
 pub use slot_future::{PollSlot, SlotFuture};
 pub use state_broadcast::{StateBroadcastChannel, StateReceiveFuture};
 pub use timer::{Timed, TimerFuture, TimerService, TimerWait};

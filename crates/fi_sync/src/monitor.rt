@@ -1,14 +1,16 @@
 //! A state whose calls are made one at a time, each in one hold of a lock.
 ghost use Rattle.std.specs.Prelude.{◌≡◌, ℕ};
 ghost use Rattle.std.specs.Borrow.{MutBor};
+ghost use Rattle.fi_sync.specs.Waiting.{IsLeft};
 
 use crate::claim::{Cancel, Claim};
 use crate::slot_future::PollSlot;
 use crate::wakes::{HasOutbox, Owed};
 use fi_parts::{Leftover, Slot};
 use futures::task::{Poll, Source, Waker};
+use std::alloc::Global;
 use std::marker::Model;
-use std::sync::{Mutex, Wait};
+use std::sync::{Arc, Mutex, Wait};
 
 /// A state behind its lock, the runtime that waits for the lock, and the source that the state's futures register at.
 #[derive(Drop)]
@@ -76,8 +78,12 @@ impl<S: HasOutbox, R: Wait> Monitor<S, R> {
     pub fn cancel<K>(&self, claim: Claim<K>) -> S::Left
     where
         S: Cancel<K>,
+        ensures { IsLeft S.cancels result }
     {
-        self.call(claim, |state, claim| claim.cancel(state))
+        let cancel = |state: &mut S, claim: Claim<K>| -> S::Left
+            ensures { IsLeft S.cancels result }
+        { claim.cancel(state) };
+        self.call(claim, cancel)
     }
 }
 
@@ -103,5 +109,17 @@ impl<'a, S: HasOutbox, R: Wait> HasMonitor for &'a Monitor<S, R> {
 
     fn monitor(&self) -> &Monitor<S, R> {
         *self
+    }
+}
+
+impl<S: HasOutbox + Drop, R: Wait + Drop> HasMonitor for Arc<Monitor<S, R>, Global> {
+    type State = S;
+
+    type Runtime = R;
+
+    ghost source = { λ monitor. monitor.value };
+
+    fn monitor(&self) -> &Monitor<S, R> {
+        &**self
     }
 }

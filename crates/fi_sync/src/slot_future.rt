@@ -1,12 +1,12 @@
 //! The future of every primitive that threads share.
-ghost use Rattle.std.specs.Prelude.{◌≡◌, ℕ, Bool, true, false};
+ghost use Rattle.std.specs.Prelude.{◌≡◌, ℕ, Bool, true, false, IfSome, is_some};
 ghost use Rattle.futures.specs.declared.task.Poll.{Poll};
 ghost use Rattle.futures.specs.declared.task.waker.Waker.{Waker};
 ghost use Rattle.futures.specs.Poll.{OnPending};
 ghost use Rattle.futures.specs.Task.{Covers, Keeps};
 ghost use Rattle.fi_parts.specs.declared.errors.Fault.{Fault};
 ghost use Rattle.fi_parts.specs.declared.phase.Leftover.{Leftover};
-ghost use Rattle.fi_sync.specs.Waiting.{polled, IsAnswer};
+ghost use Rattle.fi_sync.specs.Waiting.{polled, IsAnswer, IsLeft};
 
 use crate::claim::{Cancel, Claim};
 use crate::monitor::HasMonitor;
@@ -103,7 +103,9 @@ where
 
     /// Cancels the future, and answers what it leaves, if it was not cancelled before. It has ended then.
     pub(crate) fn withdraw(&mut self) -> Option<<M::State as Cancel<K>>::Left>
-        ensures { self.new ≡ record { source = self.old.source; has_ended = true } }
+        ensures ended { self.new ≡ record { source = self.old.source; has_ended = true } }
+        ensures left { IfSome result (λ left. IsLeft M.State.cancels left) }
+        ensures lives { self.old.has_ended ≡ false → is_some result ≡ true }
     {
         let claim = self.claim.take()?;
         Some(self.monitor.monitor().cancel::<K>(claim))

@@ -8,6 +8,7 @@ mod contention;
 mod mutex;
 mod one_value;
 mod semaphore;
+mod shared_semaphore;
 mod state_broadcast;
 mod timer;
 mod wakes;

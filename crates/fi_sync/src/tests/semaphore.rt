@@ -2,7 +2,10 @@
 ghost use Rattle.std.specs.Prelude.{◌≡◌};
 
 use super::{are_woken, poll_once, sends, shares};
-use crate::{Semaphore, SemaphoreAcquireFuture, SemaphoreReleaser};
+use crate::{
+    CountedSemaphore, HasMonitor, Semaphore, SemaphoreAcquireFuture, SemaphoreAcquireFutureOf,
+    SemaphoreReleaserOf,
+};
 use futures::executor::block_on;
 use futures::task::{Doorbell, Poll, Queue};
 use std::alloc::AllocGlobal;
@@ -29,11 +32,11 @@ fn registered<'a, R: Wait + Abort, L: Ledger>(
 }
 
 // The releaser of a future whose poll is ready.
-fn granted<'a, R: Wait + Abort, L: Ledger>(
+pub(super) fn granted<R: Wait + Abort, M: HasMonitor<State = CountedSemaphore<L>>, L: Ledger>(
     rt: &R,
     tasks: &Queue,
-    acquire: &mut SemaphoreAcquireFuture<'a, R, L>,
-) -> SemaphoreReleaser<'a, R, L> {
+    acquire: &mut SemaphoreAcquireFutureOf<M, L>,
+) -> SemaphoreReleaserOf<M, L> {
     let (polled, _) = poll_once(rt, tasks, acquire);
     let Poll::Ready(Ok(releaser)) = polled else {
         panic!(*rt; "ready");

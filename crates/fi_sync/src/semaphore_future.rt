@@ -1,0 +1,99 @@
+//! The future that acquires permits of a semaphore that threads share.
+ghost use Rattle.std.specs.Prelude.{◌≡◌, ℕ, Result, true, false, is_ok, ⊤};
+ghost use Rattle.futures.specs.declared.task.Poll.{Poll};
+ghost use Rattle.futures.specs.Poll.{OnPending, IfReady};
+ghost use Rattle.futures.specs.Task.{Covers, Keeps};
+ghost use Rattle.fi_parts.specs.declared.errors.Fault.{Fault};
+ghost use Rattle.fi_sync.specs.Granted.{IsAcquireAnswer};
+ghost use Rattle.fi_sync.specs.Waiting.{polled};
+
+use crate::claim::Claim;
+use crate::counted_semaphore::{CountedSemaphore, SemaphoreAcquire};
+use crate::monitor::HasMonitor;
+use crate::semaphore_releaser::SemaphoreReleaserOf;
+use crate::slot_future::SlotFuture;
+use fi_parts::{Fault, Slot};
+use futures::Future;
+use futures::task::{Context, Poll};
+use std::marker::Model;
+use std::sync::ledger::Ledger;
+
+/// Acquires permits of a semaphore. Its drop unregisters it; a notice that it had not used is passed on to those who wait.
+///
+/// Its output is the releaser of the permits, once they are granted. It reaches the semaphore by a reference or an `Arc`.
+pub struct SemaphoreAcquireFutureOf<M: HasMonitor<State = CountedSemaphore<L>>, L: Ledger> {
+    // The releaser's way to the semaphore, which is made with the future: so a grant is never refused for want of memory.
+    releaser_monitor: Option<M>,
+    future: SlotFuture<M, SemaphoreAcquire>,
+}
+
+impl<M: HasMonitor<State = CountedSemaphore<L>>, L: Ledger> Model
+    for SemaphoreAcquireFutureOf<M, L> {
+    ghost use Rattle.std.specs.Prelude.{◌≡◌, true, is_none};
+    ghost use Rattle.fi_sync.specs.Waiting.{SharedFuture};
+
+    ghost Value = { SharedFuture };
+
+    ghost view = { λ acquire. acquire.future };
+
+    // The releaser has it once the permits were granted.
+    ghost invariant = { λ acquire. is_none acquire.releaser_monitor ≡ true → acquire.future.has_ended ≡ true };
+}
+
+impl<M: HasMonitor<State = CountedSemaphore<L>>, L: Ledger> SemaphoreAcquireFutureOf<M, L> {
+    /// The future under this slot. Both monitors are the semaphore's.
+    pub(crate) fn of(monitor: M, releaser_monitor: M, slot: Slot) -> Self
+        ensures { result ≡ record { source = M.source monitor; has_ended = false } }
+    {
+        SemaphoreAcquireFutureOf {
+            releaser_monitor: Some(releaser_monitor),
+            future: SlotFuture::new(monitor, Claim::of(slot)),
+        }
+    }
+
+    /// The future was polled to its end. It takes no lock. Keeps `FusedFuture::is_terminated`.
+    pub fn is_terminated(&self) -> bool
+        ensures { result ≡ self.now.has_ended }
+    {
+        self.future.is_terminated()
+    }
+}
+
+impl<M: HasMonitor<State = CountedSemaphore<L>>, L: Ledger> Future
+    for SemaphoreAcquireFutureOf<M, L> {
+    type Output = Result<SemaphoreReleaserOf<M, L>, Fault>;
+
+    ghost needs = { λ acquire source. source ≡ acquire.source };
+
+    fn poll(&mut self, cx: &mut Context<'_>) -> Poll<Result<SemaphoreReleaserOf<M, L>, Fault>>
+        ensures value { IfReady result (λ _. ⊤) }
+        ensures again { OnPending result ⊤ }
+        ensures same { OnPending result ((output : Result ℕ Fault) → ⊤ → ⊤) }
+        ensures registered { OnPending result (Covers cx.new (λ source. source ≡ self.new.source)) }
+        ensures kept { Keeps cx.old cx.new }
+        ensures stands { self.new ≡ polled is_ok self.old result }
+        ensures spent { self.old.has_ended ≡ true → result ≡ Poll.Pending }
+        ensures answered { IsAcquireAnswer self.old.has_ended cx.new.lacks_waker result }
+    {
+        match self.future.poll(cx) {
+            Poll::Ready(Ok(grant)) => match self.releaser_monitor.take() {
+                Some(monitor) => Poll::Ready(Ok(SemaphoreReleaserOf::of(monitor, grant))),
+                None => unreachable!(),
+            },
+            Poll::Ready(Err(fault)) => Poll::Ready(Err(fault)),
+            Poll::Pending => Poll::Pending,
+        }
+    }
+}
+
+impl<M: HasMonitor<State = CountedSemaphore<L>>, L: Ledger> Drop
+    for SemaphoreAcquireFutureOf<M, L> {
+    fn drop(self) {
+        let SemaphoreAcquireFutureOf {
+            releaser_monitor,
+            future,
+        } = self;
+        drop(future);
+        drop(releaser_monitor);
+    }
+}

@@ -1,0 +1,129 @@
+//! The semaphore that its owners share: it lives while one of them, a future or a releaser of theirs does.
+ghost use Rattle.std.specs.Arc.{arc_value};
+ghost use Rattle.std.specs.Prelude.{◌≡◌, false, IfOk, IfErr, IfSome};
+ghost use Rattle.fi_parts.specs.declared.errors.Fault.{Fault};
+
+use crate::counted_semaphore::CountedSemaphore;
+use crate::monitor::Monitor;
+use crate::semaphore_future::SemaphoreAcquireFutureOf;
+use crate::semaphore_releaser::SemaphoreReleaserOf;
+use fi_parts::Fault;
+use std::alloc::Global;
+use std::marker::Model;
+use std::sync::ledger::{Blank, Ledger};
+use std::sync::{Arc, Wait};
+
+/// A semaphore whose futures and releasers own a share of it, so that they borrow nothing.
+///
+/// Its calls are those of `Semaphore`. Keeps `GenericSharedSemaphore` of futures-intrusive's `sync`.
+#[derive(Drop)]
+pub struct SharedSemaphore<R: Wait + Drop, L: Ledger> {
+    monitor: Arc<Monitor<CountedSemaphore<L>, R>, Global>,
+}
+
+impl<R: Wait + Drop, L: Ledger> Model for SharedSemaphore<R, L> {
+    ghost use Rattle.std.specs.Prelude.{ℕ};
+
+    ghost Value = { ℕ };
+
+    ghost view = { λ semaphore. semaphore.monitor.value };
+}
+
+/// Permits of a shared semaphore that are held. Keeps `GenericSharedSemaphoreReleaser`.
+pub type SharedSemaphoreReleaser<R, L> = SemaphoreReleaserOf<
+    Arc<Monitor<CountedSemaphore<L>, R>, Global>,
+    L,
+>;
+
+/// Acquires permits of a shared semaphore. Keeps `GenericSharedSemaphoreAcquireFuture`.
+pub type SharedSemaphoreAcquireFuture<R, L> = SemaphoreAcquireFutureOf<
+    Arc<Monitor<CountedSemaphore<L>, R>, Global>,
+    L,
+>;
+
+impl<R: Wait + Drop, L: Ledger> SharedSemaphore<R, L> {
+    /// A semaphore with this many free permits, fair or unfair. Refused with `NoMemory` where there is none for what its owners
+    /// share. Keeps `GenericSharedSemaphore::new`.
+    ///
+    /// The blank is of the semaphore's own ledger `L`, and has a part for each permit that can be held: `u64::MAX`.
+    pub fn new(
+        alloc: Global,
+        rt: R,
+        blank: Blank,
+        is_fair: bool,
+        permits: usize,
+    ) -> Result<Self, Fault>
+        requires name { blank.name ≡ L.name }
+        requires parts { blank.parts ≡ L.parts }
+        requires all { blank.parts ≡ 18446744073709551615 }
+        ensures { IfErr result (λ fault. fault ≡ Fault.NoMemory) }
+    {
+        let counted = CountedSemaphore::new(alloc, blank, is_fair, permits);
+        match Arc::new(alloc, Monitor::new(rt, counted)) {
+            Ok(monitor) => Ok(SharedSemaphore { monitor }),
+            Err(_) => Err(Fault::NoMemory),
+        }
+    }
+
+    /// One more owner of the same semaphore. Refused with `NoMemory` only where 2^63 - 1 are counted. Keeps the `Clone` of
+    /// `GenericSharedSemaphore`.
+    pub fn clone(&self) -> Result<Self, Fault>
+        ensures same { IfOk result (λ clone. clone ≡ self.now) }
+        ensures fault { IfErr result (λ fault. fault ≡ Fault.NoMemory) }
+    {
+        Ok(SharedSemaphore {
+            monitor: self.share()?,
+        })
+    }
+
+    /// A future that acquires this many permits. Refused only with `NoMemory`; then nothing has changed. Keeps
+    /// `GenericSharedSemaphore::acquire`.
+    pub fn acquire(&self, permits: usize) -> Result<SharedSemaphoreAcquireFuture<R, L>, Fault>
+        ensures made { IfOk result (λ future. future ≡ record { source = self.now; has_ended = false }) }
+        ensures fault { IfErr result (λ fault. fault ≡ Fault.NoMemory) }
+    {
+        let monitor = self.share()?;
+        let releaser_monitor = self.share()?;
+        let slot = self.monitor.claim_acquire(permits)?;
+        Ok(SemaphoreAcquireFutureOf::of(monitor, releaser_monitor, slot))
+    }
+
+    /// Acquires this many permits if they are free and, in a fair semaphore, nobody waits; none at all are always granted. None
+    /// if they are not granted. Refused with `NoMemory` as `clone`; then nothing has changed. Keeps
+    /// `GenericSharedSemaphore::try_acquire`.
+    pub fn try_acquire(
+        &self,
+        permits: usize,
+    ) -> Result<Option<SharedSemaphoreReleaser<R, L>>, Fault>
+        ensures granted { IfOk result (λ granted. IfSome granted (λ releaser. releaser ≡ permits)) }
+        ensures fault { IfErr result (λ fault. fault ≡ Fault.NoMemory) }
+    {
+        let monitor = self.share()?;
+        match self.monitor.try_acquire(permits) {
+            Some(grant) => Ok(Some(SemaphoreReleaserOf::of(monitor, grant))),
+            None => Ok(None),
+        }
+    }
+
+    /// Adds free permits, as `Semaphore::release`. Keeps `GenericSharedSemaphore::release`, which does not check.
+    pub fn release(&self, permits: usize) -> Result<(), Fault>
+        ensures { IfErr result (λ fault. fault ≡ Fault.Overflow) }
+    {
+        self.monitor.release(permits)
+    }
+
+    /// How many permits were free when it was looked at. Keeps `GenericSharedSemaphore::permits`.
+    pub fn permits(&self) -> usize {
+        self.monitor.permits()
+    }
+
+    fn share(&self) -> Result<Arc<Monitor<CountedSemaphore<L>, R>, Global>, Fault>
+        ensures same { IfOk result (λ shared. arc_value shared ≡ self.now) }
+        ensures fault { IfErr result (λ fault. fault ≡ Fault.NoMemory) }
+    {
+        match Arc::try_clone(&self.monitor) {
+            Ok(shared) => Ok(shared),
+            Err(_) => Err(Fault::NoMemory),
+        }
+    }
+}

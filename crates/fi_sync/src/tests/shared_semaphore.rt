@@ -1,0 +1,99 @@
+//! The semaphore that its owners share.
+ghost use Rattle.std.specs.Prelude.{◌≡◌};
+
+use super::semaphore::granted;
+use super::{are_woken, poll_once, sends};
+use crate::{SharedSemaphore, SharedSemaphoreAcquireFuture, SharedSemaphoreReleaser};
+use futures::executor::block_on;
+use futures::task::{Doorbell, Queue};
+use std::alloc::AllocGlobal;
+use std::marker::Brand;
+use std::process::Abort;
+use std::random::RandomSource;
+use std::sync::Wait;
+use std::sync::ledger::{Blank, Ledger};
+use std::test::Fail;
+use std::thread;
+use std::thread::Threads;
+
+// The releaser of this many permits, which are free.
+fn acquired<R: Wait + Abort + Drop, L: Ledger>(
+    rt: &R,
+    semaphore: &SharedSemaphore<R, L>,
+    permits: usize,
+) -> SharedSemaphoreReleaser<R, L> {
+    let granted = semaphore.try_acquire(permits).expect(rt, "memory");
+    granted.expect(rt, "free")
+}
+
+// The first future waits, and its owner goes; the second was granted. Answers whether the last owner of all, a releaser, gives back.
+fn outlives<R: Wait + Abort + Drop + Copy, L: Ledger>(
+    rt: &R,
+    tasks: &Queue,
+    semaphore: SharedSemaphore<R, L>,
+) -> bool {
+    let other = semaphore.clone().expect(rt, "memory");
+    let both = acquired(rt, &semaphore, 2);
+    let is_refused = matches!(semaphore.try_acquire(1), Ok(None));
+    let mut acquire = semaphore.acquire(1).expect(rt, "memory");
+    drop(semaphore);
+    let (polled, task) = poll_once(rt, tasks, &mut acquire);
+    let is_pending = polled.is_pending();
+    drop(both);
+    let is_woken = are_woken(rt, tasks, &[task]);
+    let releaser = granted(rt, tasks, &mut acquire);
+    let is_one_free = other.permits() == 1;
+    drop(acquire);
+    drop(releaser);
+    is_refused && is_pending && is_woken && is_one_free && other.permits() == 2
+}
+
+fn shared<R: Wait + Abort + Drop + Copy + AllocGlobal, L: Ledger>(
+    rt: R,
+    tasks: &Queue,
+    blank: Blank,
+) -> bool
+    requires name { blank.name ≡ L.name }
+    requires parts { blank.parts ≡ L.parts }
+    requires all { blank.parts ≡ 18446744073709551615 }
+{
+    let semaphore = SharedSemaphore::<R, L>::new(rt.alloc(), rt, blank, true, 1);
+    let semaphore = semaphore.expect(&rt, "memory");
+    let is_added = semaphore.release(1).is_ok() && semaphore.release(usize::MAX).is_err();
+    is_added && outlives(&rt, tasks, semaphore)
+}
+
+#[test]
+fn shared_semaphore_outlives_its_owner(rt: HostRuntime) -> Result<(), Fail> {
+    let tasks = &Queue::new(&rt, Doorbell::spinning())?;
+    assert!(rt; shared::<HostRuntime, Brand>(rt, tasks, Blank::new(u64::MAX)));
+    Ok(())
+}
+
+// An owner and a future of it go to one thread, a releaser to another.
+fn crosses<R, L: Ledger + Send + Sync>(rt: R, blank: Blank) -> bool
+where
+    R: Wait + Threads + Abort + Drop + Copy + RandomSource + AllocGlobal + Send + Sync,
+    requires name { blank.name ≡ L.name }
+    requires parts { blank.parts ≡ L.parts }
+    requires all { blank.parts ≡ 18446744073709551615 }
+{
+    let semaphore = SharedSemaphore::<R, L>::new(rt.alloc(), rt, blank, true, 2);
+    let semaphore = sends(semaphore.expect(&rt, "memory"));
+    let releaser = sends(acquired(&rt, &semaphore, 2));
+    let acquire: SharedSemaphoreAcquireFuture<R, L> = sends(
+        semaphore.acquire(1).expect(&rt, "memory"),
+    );
+    let rt = &rt;
+    let waits = move || {
+        let is_granted = matches!(block_on(rt, acquire), Ok(Ok(_)));
+        is_granted && semaphore.permits() == 2
+    };
+    let (is_granted, ()) = thread::join(rt, waits, move || drop(releaser));
+    is_granted
+}
+
+#[test]
+fn shared_semaphore_crosses_threads(rt: HostRuntime) {
+    assert!(rt; crosses::<HostRuntime, Brand>(rt, Blank::new(u64::MAX)));
+}
