@@ -1,5 +1,6 @@
 -- Matching a history with the receipts of its seats, from the last entry on.
-use Rattle.std.proofs.Common.{◌≡◌, ◌<◌, ◌+◌, ℕ, zero, suc, eqb, cond, Bool, true, false, List, [], ◌∷◌, ◌++◌, length, length-append, append_assoc}
+use Rattle.std.proofs.Common.{◌≡◌, ◌<◌, ◌+◌, ℕ, zero, suc, eqb, cond, Bool, true, false, List, [], ◌∷◌, ◌++◌, length}
+use Rattle.std.proofs.Common.{length-append, append_assoc}
 use Rattle.std.proofs.Common.{◌≤◌, Some, take, drop, slice_index_or, slice_set, refl, sym, ap, subst, ◌∙◌, arith, append-nil}
 use Rattle.std.proofs.lemmas.Bool.{eq-eqb, ne_eqb}
 use Rattle.std.proofs.lemmas.List.{drop_more, drop_all, length-take, take-append-drop}
@@ -46,7 +47,8 @@ module _ {O C A : Type 0} (opening : O) where
   same_length number entries place [] [] matched = refl
   same_length number entries place [] (left ∷ lefts) matched = absurd matched
   same_length number entries place (seat ∷ seats) [] matched = absurd matched
-  same_length number entries place (seat ∷ seats) (left ∷ lefts) matched = ap suc (same_length number entries (1 + place) seats lefts matched.2)
+  same_length number entries place (seat ∷ seats) (left ∷ lefts) matched =
+      ap suc (same_length number entries (1 + place) seats lefts matched.2)
 
   own : (number : ℕ) (entry : Entry C A) (later : List (Entry C A)) (place : ℕ) → entry.seat ≡ place →
       receipts_of opening place number (entry ∷ later) ≡ receipt_of opening number entry ∷ receipts_of opening place (1 + number) later
@@ -57,7 +59,8 @@ module _ {O C A : Type 0} (opening : O) where
   others number entry later place isnt = rw (ne_eqb entry.seat place isnt) refl
 
   -- An entry of an earlier seat takes nothing from these.
-  passes : (number : ℕ) (entry : Entry C A) (later : List (Entry C A)) (place : ℕ) (seats lefts : List (SeatModel O C A)) → entry.seat < place →
+  passes : (number : ℕ) (entry : Entry C A) (later : List (Entry C A)) (place : ℕ) (seats lefts : List (SeatModel O C A))
+      → entry.seat < place →
       Matches opening (1 + number) later place seats lefts → Matches opening number (entry ∷ later) place seats lefts
   passes number entry later place [] [] before matched = tt
   passes number entry later place [] (left ∷ lefts) before matched = absurd matched
@@ -69,7 +72,8 @@ module _ {O C A : Type 0} (opening : O) where
   )
 
   -- An entry takes the last receipt from its seat.
-  pub takes : (number : ℕ) (entry : Entry C A) (later : List (Entry C A)) (i place : ℕ) (seats lefts : List (SeatModel O C A)) (taken : SeatModel O C A) →
+  pub takes : (number : ℕ) (entry : Entry C A) (later : List (Entry C A)) (i place : ℕ) (seats lefts : List (SeatModel O C A))
+      (taken : SeatModel O C A) →
       entry.seat ≡ place + i → i < length lefts → slice_index_or lefts i taken ≡ with_receipt taken (receipt_of opening number entry) →
       Matches opening (1 + number) later place seats lefts → Matches opening number (entry ∷ later) place seats (slice_set lefts i taken)
   takes number entry later i place [] [] taken is below was matched = tt
@@ -92,14 +96,18 @@ module _ {O C A : Type 0} (opening : O) where
   entry_at : (history : List (Entry C A)) (left number : ℕ) (entry : Entry C A) → left ≡ 1 + number → left ≤ length history →
       slice_index_or history number entry ≡ entry → drop number history ≡ entry ∷ drop left history
   entry_at history left number entry is below at =
-      drop_more history number entry (omega arith) ∙ ap (λ e. e ∷ drop (number + 1) history) at ∙ ap (λ n. entry ∷ drop n history) (omega arith)
+      drop_more history number entry (omega arith) ∙ ap (λ e. e ∷ drop (number + 1) history) at ∙ ap (λ n. entry ∷ drop n history)
+      (omega arith)
 
-  pub taken_at : (history : List (Entry C A)) (left number : ℕ) (entry : Entry C A) (seats lefts : List (SeatModel O C A)) (taken : SeatModel O C A) →
+  pub taken_at : (history : List (Entry C A)) (left number : ℕ) (entry : Entry C A) (seats lefts : List (SeatModel O C A))
+      (taken : SeatModel O C A) →
       left ≡ 1 + number → left ≤ length history → slice_index_or history number entry ≡ entry → entry.seat < length lefts →
       slice_index_or lefts entry.seat taken ≡ with_receipt taken (receipt_of opening number entry) →
-      Matches opening left (drop left history) 0 seats lefts → Matches opening number (drop number history) 0 seats (slice_set lefts entry.seat taken)
+      Matches opening left (drop left history) 0 seats lefts → Matches opening number (drop number history) 0 seats
+      (slice_set lefts entry.seat taken)
   taken_at history left number entry seats lefts taken is below at seated was matched =
-      subst (λ entries. Matches opening number entries 0 seats (slice_set lefts entry.seat taken)) (sym (entry_at history left number entry is below at))
+      subst (λ entries. Matches opening number entries 0 seats (slice_set lefts entry.seat taken))
+      (sym (entry_at history left number entry is below at))
       (takes number entry (drop left history) entry.seat 0 seats lefts taken (omega arith) seated was
       (subst (λ n. Matches opening n (drop left history) 0 seats lefts) is matched))
 
@@ -112,13 +120,15 @@ module _ {O C A : Type 0} (opening : O) where
     entry = entry;
     later = drop left history;
     left = lefts;
-    split = sym (take-append-drop number history) ∙ ap (λ (entries : List (Entry C A)). take number history ++ entries) (entry_at history left number entry is below at);
+    split = sym (take-append-drop number history) ∙ ap (λ (entries : List (Entry C A)). take number history ++ entries)
+        (entry_at history left number entry is below at);
     count = omega (arith, length-take number history);
     matched = subst (λ n. Matches opening n (drop left history) 0 seats lefts) is matched;
     missing = missing;
   }
 
-  matched_at : (number : ℕ) (entries : List (Entry C A)) (k place : ℕ) (seats lefts : List (SeatModel O C A)) (d : SeatModel O C A) → k < length seats →
+  matched_at : (number : ℕ) (entries : List (Entry C A)) (k place : ℕ) (seats lefts : List (SeatModel O C A)) (d : SeatModel O C A)
+      → k < length seats →
       Matches opening number entries place seats lefts →
       (slice_index_or seats k d).receipts ≡ (slice_index_or lefts k d).receipts ++ receipts_of opening (place + k) number entries
   matched_at number entries k place [] lefts d below matched = absurd (omega arith)
@@ -126,13 +136,16 @@ module _ {O C A : Type 0} (opening : O) where
   matched_at number entries zero place (seat ∷ seats) (left ∷ lefts) d below matched =
       subst (λ p. seat.receipts ≡ left.receipts ++ receipts_of opening p number entries) (omega arith) matched.1
   matched_at number entries (suc k) place (seat ∷ seats) (left ∷ lefts) d below matched =
-      subst (λ p. (slice_index_or seats k d).receipts ≡ (slice_index_or lefts k d).receipts ++ receipts_of opening p number entries) (omega arith)
+      subst (λ p. (slice_index_or seats k d).receipts ≡ (slice_index_or lefts k d).receipts ++ receipts_of opening p number entries)
+      (omega arith)
       (matched_at number entries k (1 + place) seats lefts d (omega arith) matched.2)
 
   -- Where all receipts are taken, each seat's receipts were those of its entries.
-  pub all_taken : (history : List (Entry C A)) (seats lefts : List (SeatModel O C A)) → AreNumbered seats → Matches opening 0 history 0 seats lefts →
+  pub all_taken : (history : List (Entry C A)) (seats lefts : List (SeatModel O C A)) → AreNumbered seats
+      → Matches opening 0 history 0 seats lefts →
       All (λ left. left.receipts ≡ []) lefts → All (λ seat. seat.receipts ≡ receipts_of opening seat.number 0 history) seats
   all_taken history seats lefts numbered matched empty k d below =
       matched_at 0 history k 0 seats lefts d below matched
-      ∙ ap (λ rs. rs ++ receipts_of opening (0 + k) 0 history) (empty k d (subst (λ n. k < n) (same_length 0 history 0 seats lefts matched) below))
+      ∙ ap (λ rs. rs ++ receipts_of opening (0 + k) 0 history) (empty k d
+      (subst (λ n. k < n) (same_length 0 history 0 seats lefts matched) below))
       ∙ ap (λ place. receipts_of opening place 0 history) (omega arith ∙ sym (numbered k d below))

@@ -1,5 +1,5 @@
 -- Seats, and what it means that a history is settled with their receipts.
-use Rattle.std.specs.Prelude.{◌≡◌, ◌≢◌, ◌⊎◌, ℕ, ◌+◌, ◌<◌, ◌==◌, if◌then◌else◌, List, [], ◌∷◌, ◌++◌, length}
+use Rattle.std.specs.Prelude.{◌≡◌, ◌≢◌, ◌⊎◌, ℕ, ◌+◌, ◌<◌, ◌≤◌, ◌==◌, if◌then◌else◌, List, [], ◌∷◌, ◌++◌, length}
 use Rattle.std.specs.Prelude.{All, IsPermutation, Some, slice_get, slice_index_or}
 use Rattle.std.specs.List.Sorted.{IsNonDecreasingBy}
 use Rattle.fi_run.specs.declared.journal.Entry.{Entry}
@@ -83,12 +83,15 @@ IsDue {O} {C} {A} made opening history seats Seats =
     (length seats < made) ⊎ ((ordered : List (SeatModel O C A)) × IsPermutation seats ordered
     × IsNonDecreasingBy (λ seat. seat.number) ordered × (AreNumbered ordered → ⊥))
 IsDue {O} {C} {A} made opening history seats (missing_entry number) =
-    (ordered : List (SeatModel O C A)) × IsPermutation seats ordered × AreNumbered ordered × FirstMissing opening history ordered number
+    (made ≤ length seats) × (ordered : List (SeatModel O C A)) × IsPermutation seats ordered × AreNumbered ordered
+    × FirstMissing opening history ordered number
 
--- Some desk of this primitive, whose history replays, is not settled with these seats for this reason.
+-- Some desk of this primitive, which made at most so many seats and whose history replays, is not settled with these seats for this
+-- reason.
 pub record Unsettled {O S C A : Type 0} (opens : O → S → Type 0) (step : S → C → A → S → Type 0)
-    (seats : List (SeatModel O C A)) (mismatch : Mismatch) : Type 0 where
+    (most : ℕ) (seats : List (SeatModel O C A)) (mismatch : Mismatch) : Type 0 where
   pub made : ℕ
+  pub bounded : made ≤ most
   pub opening : O
   pub history : List (Entry C A)
   pub state : S

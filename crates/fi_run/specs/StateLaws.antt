@@ -325,7 +325,8 @@ module _ {T W : Type 0} (is_clone : T → T → Type 0) (is_infallible : T → T
             (is_line old call answer new sound.numbered did) was.wakers;
       }
 
-pub state_takes_oldest : {T W : Type 0} (is_clone : T → T → Type 0) (is_infallible : T → Type 0) (old : StateMachine T W) (answer : Answer T W) (new : StateMachine T W)
+pub state_takes_oldest : {T W : Type 0} (is_clone : T → T → Type 0) (is_infallible : T → Type 0) (old : StateMachine T W)
+    (answer : Answer T W) (new : StateMachine T W)
     → Step is_clone is_infallible old NextWake answer new → TakesOldest machine_outgoing (λ waker. Woken waker) old answer new
 state_takes_oldest is_clone is_infallible old (Woken waker) new did = pops_oldest (λ found. Woken found) old waker new did
 state_takes_oldest is_clone is_infallible old (Refused fault) new did = absurd did.0

@@ -1,5 +1,6 @@
 -- What the runs of a timer keep.
-use Rattle.std.specs.Prelude.{◌≡◌, ◌≢◌, ◌<◌, ℕ, ◌==◌, if◌then◌else◌, Bool, true, false, nat_le, min, max, Option, Some, None, List, [], ◌∷◌, unwrap_or, refl}
+use Rattle.std.specs.Prelude.{◌≡◌, ◌≢◌, ◌<◌, ℕ, ◌==◌, if◌then◌else◌, Bool, true, false, nat_le, min, max, Option, Some, None}
+use Rattle.std.specs.Prelude.{List, [], ◌∷◌, unwrap_or, refl}
 use Rattle.std.specs.Duration.{as_nanos}
 use Rattle.std.proofs.Common.{sym, ◌∙◌, ap, subst, inl, inr}
 use Rattle.std.proofs.lemmas.Bool.{both_ways, cases_Bool, cases_eq, eq-eqb, ne_eqb, leb-false}

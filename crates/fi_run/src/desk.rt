@@ -1,5 +1,5 @@
 //! A journal that threads share, and the settling of its history with their receipts.
-ghost use Rattle.std.specs.Prelude.{◌≡◌, ◌≤◌, ◌+◌, ◌++◌, [], ◌∷◌, true, false, All, IsPermutation, length, vec_len, IfOk, IfErr, OnErr};
+ghost use Rattle.std.specs.Prelude.{◌≡◌, ◌≤◌, ◌+◌, ◌++◌, [], ◌∷◌, true, false, All, IsPermutation, length, vec_len, IfOk, IfErr, IfSome, IfNone, OnErr};
 ghost use Rattle.std.specs.List.Sorted.{IsNonDecreasingBy};
 ghost use Rattle.fi_run.specs.Journal.{next_receipt, receipt_of, Records, Replays};
 ghost use Rattle.fi_run.specs.Desk.{AreNumbered, AreOf, IsDue, IsMissing, LacksLast, Matches, Settles, Unsettled, receipt_count, with_receipt};
@@ -171,17 +171,72 @@ where
     }
 }
 
+/// How many seats were made, and the ledger's parts for the others.
+#[derive(Drop)]
+struct Places<L: Ledger> {
+    made: u64,
+    rest: Share<L>,
+    seats: u64,
+}
+
+impl<L: Ledger> Model for Places<L> {
+    ghost use Rattle.std.specs.Prelude.{◌≡◌, ◌+◌, ℕ};
+
+    ghost Value = { ℕ };
+
+    ghost view = { λ places. places.made };
+
+    ghost invariant = { λ places. (places.rest.parts + places.made ≡ places.seats) × (places.seats ≡ L.parts) × (places.rest.amount ≡ 0) };
+}
+
+impl<L: Ledger> Places<L> {
+    /// No seat was made yet, and there is a part for each.
+    fn new(rest: Share<L>, seats: u64) -> Self
+        requires parts { rest.parts ≡ seats }
+        requires all { seats ≡ L.parts }
+        requires amount { rest.amount ≡ 0 }
+        ensures { result ≡ 0 }
+    {
+        Places {
+            made: 0,
+            rest,
+            seats,
+        }
+    }
+
+    /// How many seats were made: at most as many as the ledger has parts.
+    fn made(&self) -> u64
+        ensures made { result ≡ self.now }
+        ensures bounded { result ≤ L.parts }
+    {
+        self.made
+    }
+
+    /// The number and the part of one more seat, which has counted no receipts; None if there is no part left.
+    fn take(&mut self) -> Option<(u64, Share<L>)>
+        ensures number { IfSome result (λ taken. taken.0 ≡ self.old) }
+        ensures part { IfSome result (λ taken. taken.1.parts ≡ 1) }
+        ensures amount { IfSome result (λ taken. taken.1.amount ≡ 0) }
+        ensures taken { IfSome result (λ _. self.new ≡ self.old + 1) }
+        ensures none { IfNone result ((self.old ≡ L.parts) × (self.new ≡ self.old)) }
+    {
+        if self.made == self.seats {
+            return None;
+        }
+        let number = self.made;
+        let share = self.rest.split_off(1, 0);
+        self.made += 1;
+        Some((number, share))
+    }
+}
+
 /// What stands behind a desk's lock: the journal, and the book of the receipts that were given out.
 #[derive(Drop)]
 struct Ruled<P: Primitive, L: Ledger> {
     journal: Journal<P>,
     book: Book<L>,
-    rest: Share<L>,
-    made: u64,
-    seats: u64,
+    places: Places<L>,
     ghost counted: { length journal.history ≡ book.total },
-    ghost parted: { rest.parts + made ≡ seats },
-    ghost uncounted: { rest.amount ≡ 0 },
 }
 
 impl<P: Primitive, L: Ledger> Ruled<P, L>
@@ -192,21 +247,20 @@ where
 {
     fn seat(&mut self, alloc: Global) -> Result<Seat<P, L>, Fault>
         ensures empty { IfOk result (λ seat. seat.receipts ≡ []) }
-        ensures number { IfOk result (λ seat. seat.number ≡ self.old.made) }
+        ensures number { IfOk result (λ seat. seat.number ≡ self.old.places) }
+        ensures made { IfOk result (λ _. self.new.places ≡ self.old.places + 1) }
+        ensures refused { OnErr result ((self.old.places ≡ L.parts) × (self.new.places ≡ self.old.places)) }
+        ensures journal { self.new.journal ≡ self.old.journal }
         ensures fault { IfErr result (λ fault. fault ≡ Fault.TooManyEnds) }
     {
-        if self.made == self.seats {
-            return Err(Fault::TooManyEnds);
+        match self.places.take() {
+            Some((number, share)) => Ok(Seat {
+                number,
+                receipts: Vec::new(alloc),
+                share,
+            }),
+            None => Err(Fault::TooManyEnds),
         }
-        let number = self.made;
-        let Ruled { rest, made, .. } = self;
-        let share = rest.split_off(1, 0);
-        *made += 1;
-        Ok(Seat {
-            number,
-            receipts: Vec::new(alloc),
-            share,
-        })
     }
 
     /// Makes a call for a seat, and counts it in the seat's share.
@@ -239,17 +293,18 @@ where
         ensures opening { IfOk result (λ settled. settled.opening ≡ self.journal.opening) }
         ensures history { IfOk result (λ settled. settled.history.items ≡ self.journal.history) }
         ensures state { IfOk result (λ settled. settled.state ≡ self.journal.state) }
-        ensures all { IfOk result (λ settled. self.made ≤ length seats.items) }
+        ensures bounded { self.places ≤ L.parts }
+        ensures all { IfOk result (λ settled. self.places ≤ length seats.items) }
         ensures settled { IfOk result (λ settled. Settles self.journal.opening self.journal.history seats.items) }
         ensures counted { IfOk result (λ settled. receipt_count seats.items ≡ length self.journal.history) }
-        ensures mismatch { IfErr result (λ mismatch. IsDue self.made self.journal.opening self.journal.history seats.items mismatch) }
+        ensures mismatch { IfErr result (λ mismatch. IsDue self.places self.journal.opening self.journal.history seats.items mismatch) }
     {
         let Ruled {
             journal,
             mut book,
-            made,
-            ..
+            places,
         } = self;
+        let made = places.made();
         let settled = journal.settle();
         let mut seats = seats;
         if (seats.len() as u64) < made {
@@ -299,12 +354,11 @@ where
     {
         let journal = Journal::new(alloc, opening)?;
         let (book, rest) = blank.open::<L>();
+        let places = Places::new(rest, seats);
         let ruled = Ruled {
             journal,
             book,
-            rest,
-            made: 0,
-            seats,
+            places,
         };
         Ok(Desk {
             rt,
@@ -323,7 +377,8 @@ where
         ensures settled { IfOk result (λ settled. Settles settled.opening settled.history.items seats.items) }
         // There are as many receipts as entries.
         ensures counted { IfOk result (λ settled. receipt_count seats.items ≡ vec_len settled.history) }
-        ensures mismatch { IfErr result (λ mismatch. Unsettled P.opens P.step seats.items mismatch) }
+        // With all seats that the desk could make, in order, it is never `Seats`.
+        ensures mismatch { IfErr result (λ mismatch. Unsettled P.opens P.step L.parts seats.items mismatch) }
     {
         let Desk { ruled, .. } = self;
         ruled.into_inner().settle(seats)

@@ -103,6 +103,51 @@ fn desk_seats(rt: HostRuntime) -> Result<(), Fail> {
     Ok(())
 }
 
+/// Makes five seats at a desk for five, and a call with each: whether a sixth is refused, and each entry is of its seat.
+fn seats_five<R: Wait + Copy + AllocGlobal, L: Ledger>(rt: R, blank: Blank) -> Result<bool, Fail>
+    requires name { blank.name ≡ L.name }
+    requires parts { blank.parts ≡ L.parts }
+    requires count { blank.parts ≡ 5 }
+{
+    let desk: Desk<EventState<u64>, R, L> = Desk::new(rt.alloc(), rt, blank, false, 5)?;
+    let mut seats = Vec::new(rt.alloc());
+    for _ in 0..5u64 {
+        let mut seat = desk.seat()?;
+        desk.call(&mut seat, EventCall::Set)?;
+        seats.push(seat)?;
+    }
+    let is_sixth_refused = desk.seat().is_err();
+    let mut places = Vec::new(rt.alloc());
+    for entry in &desk.settle(seats)?.history {
+        places.push(entry.seat)?;
+    }
+    Ok(is_sixth_refused && places.as_slice() == [0, 1, 2, 3, 4].as_slice())
+}
+
+/// Settles a desk of two seats without the second, which made a call.
+fn lacks_a_caller<R: Wait + Copy + AllocGlobal, L: Ledger>(
+    rt: R,
+    blank: Blank,
+) -> Result<Option<Mismatch>, Fail>
+    requires name { blank.name ≡ L.name }
+    requires parts { blank.parts ≡ L.parts }
+    requires count { blank.parts ≡ 2 }
+{
+    let desk: Desk<EventState<u64>, R, L> = Desk::new(rt.alloc(), rt, blank, false, 2)?;
+    let mut seats = Vec::new(rt.alloc());
+    seats.push(desk.seat()?)?;
+    let mut second = desk.seat()?;
+    desk.call(&mut second, EventCall::Set)?;
+    Ok(desk.settle(seats).err())
+}
+
+#[test]
+fn each_seat_has_its_entries(rt: HostRuntime) -> Result<(), Fail> {
+    assert!(rt; seats_five::<HostRuntime, Brand>(rt, Blank::new(5))?);
+    assert!(rt; lacks_a_caller::<HostRuntime, Brand>(rt, Blank::new(2))? == Some(Mismatch::Seats));
+    Ok(())
+}
+
 /// Tries a thousand times to acquire a permit, and gives back each that it was granted. Answers how many calls it made, if all
 /// were answered.
 fn tries<R: Wait, L: Ledger>(

@@ -21,15 +21,18 @@ loop-left-init g c = record {
 
 pub returns-then-entry-seats-clause-missing : goal.returns-then-entry-seats-clause-missing
 returns-then-entry-seats-clause-missing g c =
-    missing_at c.args.opening c.args.history.now c.loop-left.left (c.loop-left.left - 1) c.index-history-number.result c.args.seats.now c.loop-left.seats
+    missing_at c.args.opening c.args.history.now c.loop-left.left (c.loop-left.left - 1) c.index-history-number.result c.args.seats.now
+    c.loop-left.seats
     (grind (arith, common_steps)) c.loop-left.invariant.bounded (grind (arith, common_steps))
     (λ seat there.
-    let within : c.index-history-number.result.seat < length c.loop-left.seats = slice_get_within c.loop-left.seats c.index-history-number.result.seat seat there in
+    let within : c.index-history-number.result.seat < length c.loop-left.seats =
+    slice_get_within c.loop-left.seats c.index-history-number.result.seat seat there in
     absurd (grind (arith, common_steps))) c.loop-left.invariant.matched
 
 pub returns-then-not-take_last-clause-missing : goal.returns-then-not-take_last-clause-missing
 returns-then-not-take_last-clause-missing g c =
-    missing_at c.args.opening c.args.history.now c.loop-left.left (c.loop-left.left - 1) c.index-history-number.result c.args.seats.now c.loop-left.seats
+    missing_at c.args.opening c.args.history.now c.loop-left.left (c.loop-left.left - 1) c.index-history-number.result c.args.seats.now
+    c.loop-left.seats
     (grind (arith, common_steps)) c.loop-left.invariant.bounded (grind (arith, common_steps))
     (λ seat there earlier ends.
     c.take_last.ensures.missing c.if-not-take_last.true earlier
@@ -46,8 +49,10 @@ loop-left-preserved g c = record {
       (get_or_default c.loop-left.seats c.index-history-number.result.seat c.take_last.new.self _ c.if-entry-seats.false
       ∙ c.take_last.ensures.taken c.if-not-take_last.false) in
       grind (arith, common_steps, c.loop-left.invariant.taken);
-  matched = taken_at c.args.opening c.args.history.now c.loop-left.left (c.loop-left.left - 1) c.index-history-number.result c.args.seats.now c.loop-left.seats
-      c.take_last.new.self (grind (arith, common_steps)) c.loop-left.invariant.bounded (grind (arith, common_steps)) (grind (arith, common_steps))
+  matched = taken_at c.args.opening c.args.history.now c.loop-left.left (c.loop-left.left - 1) c.index-history-number.result
+      c.args.seats.now c.loop-left.seats
+      c.take_last.new.self (grind (arith, common_steps)) c.loop-left.invariant.bounded (grind (arith, common_steps))
+      (grind (arith, common_steps))
       (get_or_default c.loop-left.seats c.index-history-number.result.seat c.take_last.new.self _ c.if-entry-seats.false
       ∙ c.take_last.ensures.taken c.if-not-take_last.false) c.loop-left.invariant.matched;
   seated = λ k d from below. ⊎_elim
@@ -55,11 +60,13 @@ loop-left-preserved g c = record {
       let is : k ≡ c.loop-left.left - 1 = omega arith in
       let at : slice_index_or c.args.history.now k d ≡ c.index-history-number.result =
       ap (λ n. slice_index_or c.args.history.now n d) is
-      ∙ get_or_default c.args.history.now (c.loop-left.left - 1) d c.index-history-number.result (subst (λ n. n < length c.args.history.now) is below)
+      ∙ get_or_default c.args.history.now (c.loop-left.left - 1) d c.index-history-number.result
+      (subst (λ n. n < length c.args.history.now) is below)
       ∙ sym c.index-history-number.is in
       subst (λ entry. entry.seat < length c.args.seats.now) (sym at)
       (subst (λ n. c.index-history-number.result.seat < n)
-      (sym (same_length c.args.opening c.loop-left.left (drop c.loop-left.left c.args.history.now) 0 c.args.seats.now c.loop-left.seats c.loop-left.invariant.matched))
+      (sym (same_length c.args.opening c.loop-left.left (drop c.loop-left.left c.args.history.now) 0 c.args.seats.now c.loop-left.seats
+      c.loop-left.invariant.matched))
       c.if-entry-seats.false))
       (λ after. c.loop-left.invariant.seated k d after below)
       (cases_lt k c.loop-left.left);
