@@ -1,12 +1,14 @@
 -- What a line does, from what its parts do.
-use Rattle.std.specs.Prelude.{◌≡◌, ℕ, ◌++◌, Bool, true, false, List, [], ◌∷◌, ◌+◌, length, Option, Some, None, Result, Ok, Err, IfErr, IsErrAnd}
+use Rattle.std.specs.Prelude.{◌≡◌, ℕ, ◌++◌, Bool, true, false, List, [], ◌∷◌, ◌+◌, length, Option, Some, None, Result, Ok, Err}
+use Rattle.std.specs.Prelude.{IfErr, IsErrAnd}
 use Rattle.std.proofs.Common.{refl, sym, subst, inl, inr, arith}
 use Rattle.schedule.specs.declared.output.Output.{Output}
 use Rattle.fi_run.specs.declared.answer.Answer.{Answer}
 use Rattle.schedule.specs.Asked.{Asks, Performs}
 use Rattle.schedule.specs.Texts.{answer_text, wakes_text}
 use Rattle.schedule.specs.declared.engine.Request.{Request}
-use Rattle.schedule.specs.Answered.{line_text, Calls, TellsWakers, AnswersLine, AnswersLines, LinesAre, AnswersBeginning, AnswersRest, AnswersFront, RunsShort, IfStopped}
+use Rattle.schedule.specs.Answered.{line_text, Calls, TellsWakers, AnswersLine, AnswersLines, LinesAre, AnswersBeginning}
+use Rattle.schedule.specs.Answered.{AnswersRest, AnswersFront, RunsShort, IfStopped}
 use Rattle.schedule.specs.declared.fault.ScriptFault.{ScriptFault}
 use Rattle.schedule.specs.declared.fault.ScriptFault.TheVariants.{Read, Write, BadLine, NoMemory}
 use Rattle.schedule.specs.Cuts.{NextLine}

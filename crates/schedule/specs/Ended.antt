@@ -5,13 +5,17 @@ use Rattle.schedule.specs.Script.{IfFault}
 use Rattle.schedule.specs.Statuses.{status_of}
 use Rattle.schedule.specs.declared.fault.ScriptFault.{ScriptFault}
 
--- All lines were answered, or a fault ended the run and was told.
+-- All lines were answered and nothing is told, or a fault ended the run and was told.
 abbrev pub EndsScript : ℕ → Type 0 → Type 0 → (ℕ → Type 0) → Type 0 → Option (List ℕ) → Option (List ℕ) → Type 0
-EndsScript status untouched answered refused short before after = ((status ≡ 0) × answered)
+EndsScript status untouched answered refused short before after = ((status ≡ 0) × answered × (after ≡ before))
     ⊎ ((fault : ScriptFault) × (status ≡ status_of fault) × IfFault untouched refused short fault
     × Begins before after (fault_line fault))
 
+-- The arguments were refused.
+abbrev pub RefusesArguments : ℕ → Option (List ℕ) → Option (List ℕ) → Type 0
+RefusesArguments status before after = (status ≡ 2) × Begins before after (codes "schedule: takes no arguments\n")
+
 -- The arguments were refused, or could not be read for want of memory.
 abbrev pub EndsAtOnce : ℕ → Option (List ℕ) → Option (List ℕ) → Type 0
-EndsAtOnce status before after = ((status ≡ 2) × Begins before after (codes "schedule: takes no arguments\n"))
+EndsAtOnce status before after = RefusesArguments status before after
     ⊎ ((status ≡ 3) × Begins before after (codes "schedule: no memory\n"))

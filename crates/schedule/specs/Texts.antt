@@ -4,7 +4,8 @@ use Rattle.std.specs.Fmt.{decimal}
 use Rattle.fi_parts.specs.declared.errors.Fault.{Fault}
 use Rattle.fi_parts.specs.declared.errors.Fault.TheVariants.{NoMemory, NoSlot, Closed, Full, Empty, Overflow, NotHeld, TooManyEnds}
 use Rattle.fi_run.specs.declared.answer.Answer.{Answer}
-use Rattle.fi_run.specs.declared.answer.Answer.TheVariants.{Made, Pending, Ready, Item, State, Nothing, End, Done, Flag, Number, Moment, Newly, Already, Woken, Back, Refused}
+use Rattle.fi_run.specs.declared.answer.Answer.TheVariants.{Made, Pending, Ready, Item, State, Nothing, End, Done, Flag, Number}
+use Rattle.fi_run.specs.declared.answer.Answer.TheVariants.{Moment, Newly, Already, Woken, Back, Refused}
 
 -- a refusal's text; one for memory has none, since it ends the run
 abbrev pub fault_text : Fault → Option (List ℕ)

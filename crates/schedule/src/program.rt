@@ -1,7 +1,7 @@
 //! The program's run, for any arguments, reader and writers.
 ghost use Rattle.std.specs.Prelude.{◌≡◌, ◌≤◌, IsOkAnd};
 ghost use Rattle.std.specs.Vec.Iter.{into_iter_len};
-ghost use Rattle.schedule.specs.Ended.{EndsScript, EndsAtOnce};
+ghost use Rattle.schedule.specs.Ended.{EndsScript, EndsAtOnce, RefusesArguments};
 ghost use Rattle.schedule.specs.Script.{AnswersScript, RefusesScript, StopsScript, Turns};
 
 use crate::engine::run_script;
@@ -32,8 +32,10 @@ pub fn run_program<R: Read, W: Write, E: Write>(
         (Turns (R.remaining reader.old) (W.contents writer.old) (W.contents writer.new) StopsScript)
         (E.contents errors.old) (E.contents errors.new) }
     ensures arguments { (¬ IsOkAnd arguments (λ given. into_iter_len given ≤ 1))
-        → (writer.new ≡ writer.old)
+        → (reader.new ≡ reader.old) × (writer.new ≡ writer.old)
         × EndsAtOnce result (E.contents errors.old) (E.contents errors.new) }
+    ensures given { IsOkAnd arguments (λ given. 2 ≤ into_iter_len given)
+        → RefusesArguments result (E.contents errors.old) (E.contents errors.new) }
 {
     match arguments {
         Ok(arguments) if arguments.len() <= 1 => match run_script(alloc, reader, writer) {

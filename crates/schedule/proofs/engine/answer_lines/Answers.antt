@@ -26,7 +26,8 @@ loop-line-init g c = (
 pub loop-line-preserved : goal.loop-line-preserved
 loop-line-preserved g c = (
   omega (arith, c.loop-line.invariant.0, line_shortens _ _ _ c.in-Some.ensures),
-  so_far_goes_on (spoken g.P.Primitive.opens g.P.Primitive.step g.P.Primitive.outgoing g.P.Scripted.language) g.W.Write.contents c.args.opening
+  so_far_goes_on (spoken g.P.Primitive.opens g.P.Primitive.step g.P.Primitive.outgoing g.P.Scripted.language) g.W.Write.contents
+      c.args.opening
       (option_copied c.args.lines.rest) c.args.output.now
       c.loop-line.number (option_copied c.loop-line.lines.rest) (labels_of c.loop-line.session.futures)
       c.loop-line.session.primitive c.loop-line.output c.in-Some.line.now
