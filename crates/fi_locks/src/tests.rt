@@ -1,6 +1,7 @@
 //! The timer: each call by slot and by local future, and makings in every kind of state.
 
 mod debug;
+mod drops;
 mod makings;
 mod mutex;
 mod mutex_reference;

@@ -3,7 +3,10 @@ ghost use Rattle.std.specs.Prelude.{◌≡◌, ◌∷◌, IfOk};
 
 mod debug;
 
-use crate::{ChannelSendError, CloseStatus, Fault, LinkedList, NoRoom, Outbox, Slot, StateId};
+use crate::{
+    ChannelSendError, CloseStatus, Deadlines, Fault, LinkedList, NoRoom, Outbox, Slot, StateId,
+    Waits,
+};
 use std::alloc::Global;
 use std::rc::Rc;
 use std::test::Fail;
@@ -216,6 +219,30 @@ fn state_ids(rt: HostRuntime) -> Result<(), Fail> {
         format!(in rt.alloc(); "{:?}", Fault::Closed)?.as_str(),
         "Closed"
     );
+    Ok(())
+}
+
+// Tickets and futures are made beside named, queued and seated ones.
+#[test]
+fn room_is_found_beside_others(rt: HostRuntime) -> Result<(), Fail> {
+    let mut outbox: Outbox<u64> = Outbox::new(rt.alloc());
+    for number in 0..4u64 {
+        let ticket = outbox.claim()?;
+        outbox.name(ticket, number);
+    }
+    assert_eq!(rt; outbox.len(), 4);
+    let mut waits: Waits<u32, u64> = Waits::new(rt.alloc());
+    let oldest = waits.make(1)?;
+    waits.register(oldest, 7);
+    let next = waits.make(2)?;
+    waits.register(next, 8);
+    assert!(rt; waits.make(3).is_ok());
+    let mut deadlines: Deadlines<u64> = Deadlines::new(rt.alloc());
+    let first = deadlines.insert(5)?;
+    deadlines.register(first, 7);
+    let second = deadlines.insert(3)?;
+    deadlines.register(second, 8);
+    assert!(rt; deadlines.insert(4).is_ok());
     Ok(())
 }
 

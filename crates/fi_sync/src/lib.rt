@@ -6,6 +6,7 @@ mod channel_stream;
 mod claim;
 mod counted_mutex;
 mod counted_semaphore;
+mod debug;
 mod event;
 mod event_future;
 mod monitor;

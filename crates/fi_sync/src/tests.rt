@@ -5,6 +5,8 @@ ghost use Rattle.fi_channels.specs.Event.{IsSound, OwesNoWake};
 mod channel;
 mod channel_stream;
 mod contention;
+mod debug;
+mod drops;
 mod mutex;
 mod one_value;
 mod semaphore;

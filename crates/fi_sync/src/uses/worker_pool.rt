@@ -16,11 +16,23 @@ type Jobs<R> = Channel<u64, 2, R>;
 
 const JOBS: u64 = 60;
 
-/// The next job; None once the channel is closed and empty.
-fn next_job<R: Wait + RandomSource + AllocGlobal>(rt: &R, jobs: &Jobs<R>) -> Option<u64> {
-    match block_on(rt, jobs.receive().ok()?) {
-        Ok(Ok(job)) => job,
-        _ => None,
+/// What a worker meets next.
+enum Next {
+    Job(u64),
+    /// The channel is closed and empty.
+    End,
+    NoMemory,
+}
+
+/// Waits for the next job.
+fn next_job<R: Wait + RandomSource + AllocGlobal>(rt: &R, jobs: &Jobs<R>) -> Next {
+    let Ok(receive) = jobs.receive() else {
+        return Next::NoMemory;
+    };
+    match block_on(rt, receive) {
+        Ok(Ok(Some(job))) => Next::Job(job),
+        Ok(Ok(None)) => Next::End,
+        Ok(Err(_)) | Err(_) => Next::NoMemory,
     }
 }
 
@@ -33,8 +45,14 @@ fn work<R: Wait + RandomSource + AllocGlobal>(
 ) {
     for _ in 0..JOBS + 1 {
         match next_job(rt, jobs) {
-            Some(job) => sum.fetch_add(job, Ordering::SeqCst),
-            None => {
+            Next::Job(job) => sum.fetch_add(job, Ordering::SeqCst),
+            Next::End => {
+                finished.set();
+                return;
+            }
+            Next::NoMemory => {
+                // The other workers take what is left, and no more is sent.
+                jobs.close();
                 finished.set();
                 return;
             }

@@ -1,0 +1,208 @@
+//! `Debug` of what threads share. As in futures-intrusive a mutex shows whether it is locked and a semaphore its free permits,
+//! which takes the lock; all others show a name alone.
+use crate::channel::GenericChannel;
+use crate::channel_stream::ChannelStream;
+use crate::claim::Claim;
+use crate::counted_mutex::{CountedMutex, Hold};
+use crate::counted_semaphore::{CountedSemaphore, Grant};
+use crate::event::ManualResetEvent;
+use crate::event_future::WaitForEventFuture;
+use crate::monitor::Monitor;
+use crate::mutex::{Mutex, MutexGuard, MutexLockFuture};
+use crate::one_value::{OneshotBroadcastChannel, OneshotChannel};
+use crate::receive_future::ChannelReceiveFuture;
+use crate::semaphore::{Semaphore, SemaphoreAcquireFuture, SemaphoreReleaser};
+use crate::send_future::ChannelSendFuture;
+use crate::shared_semaphore::{
+    SharedSemaphore, SharedSemaphoreAcquireFuture, SharedSemaphoreReleaser,
+};
+use crate::state_broadcast::StateBroadcastChannel;
+use crate::timer::{Timed, TimerFuture, TimerService};
+use crate::wakes::{HasOutbox, Owed};
+use fi_channels::{ChannelReceiveAccess, ChannelSendAccess};
+use fi_parts::Clock;
+use fi_parts::buffer::RingBuf;
+use futures::task::Waker;
+use std::fmt;
+use std::sync::Wait;
+use std::sync::ledger::Ledger;
+
+impl<R> fmt::Debug for ManualResetEvent<R> {
+    fn fmt<F: fmt::Write>(&self, f: &mut fmt::Formatter<F>) -> fmt::Result {
+        f.debug_struct("ManualResetEvent").finish()
+    }
+}
+
+impl<R: Wait> fmt::Debug for WaitForEventFuture<'_, R> {
+    fn fmt<F: fmt::Write>(&self, f: &mut fmt::Formatter<F>) -> fmt::Result {
+        f.debug_struct("GenericWaitForEventFuture").finish()
+    }
+}
+
+impl<T: Drop, R> fmt::Debug for OneshotChannel<T, R> {
+    fn fmt<F: fmt::Write>(&self, f: &mut fmt::Formatter<F>) -> fmt::Result {
+        f.debug_struct("GenericOneshotChannel").finish()
+    }
+}
+
+impl<T: Clone + Drop, R> fmt::Debug for OneshotBroadcastChannel<T, R> {
+    fn fmt<F: fmt::Write>(&self, f: &mut fmt::Formatter<F>) -> fmt::Result {
+        f.debug_struct("GenericOneshotBroadcastChannel").finish()
+    }
+}
+
+impl<T: Clone, R> fmt::Debug for StateBroadcastChannel<T, R> {
+    fn fmt<F: fmt::Write>(&self, f: &mut fmt::Formatter<F>) -> fmt::Result {
+        f.debug_struct("GenericStateBroadcastChannel").finish()
+    }
+}
+
+impl<T: Drop, B: RingBuf<Item = T>, R> fmt::Debug for GenericChannel<T, B, R> {
+    fn fmt<F: fmt::Write>(&self, f: &mut fmt::Formatter<F>) -> fmt::Result {
+        f.debug_struct("Channel").finish()
+    }
+}
+
+impl<C: ChannelReceiveAccess<Waker = Waker> + HasOutbox, R: Wait> fmt::Debug
+    for ChannelReceiveFuture<'_, C, R> {
+    fn fmt<F: fmt::Write>(&self, f: &mut fmt::Formatter<F>) -> fmt::Result {
+        f.debug_struct("ChannelReceiveFuture").finish()
+    }
+}
+
+impl<C: ChannelSendAccess<Waker = Waker> + HasOutbox, R: Wait> fmt::Debug
+    for ChannelSendFuture<'_, C, R>
+where
+    C::Item: Drop,
+{
+    fn fmt<F: fmt::Write>(&self, f: &mut fmt::Formatter<F>) -> fmt::Result {
+        f.debug_struct("ChannelSendFuture").finish()
+    }
+}
+
+impl<T: Drop, B: RingBuf<Item = T>, R: Wait> fmt::Debug for ChannelStream<'_, T, B, R> {
+    fn fmt<F: fmt::Write>(&self, f: &mut fmt::Formatter<F>) -> fmt::Result {
+        f.debug_struct("ChannelStream").finish()
+    }
+}
+
+impl<T: Drop, R: Wait, L: Ledger> fmt::Debug for Mutex<T, R, L> {
+    fn fmt<F: fmt::Write>(&self, f: &mut fmt::Formatter<F>) -> fmt::Result {
+        f.debug_struct("Mutex")
+            .field("is_locked", &self.is_locked())
+            .finish()
+    }
+}
+
+impl<T: Drop, R: Wait, L: Ledger> fmt::Debug for MutexGuard<'_, T, R, L> {
+    fn fmt<F: fmt::Write>(&self, f: &mut fmt::Formatter<F>) -> fmt::Result {
+        f.debug_struct("GenericMutexGuard").finish()
+    }
+}
+
+impl<T: Drop, R: Wait, L: Ledger> fmt::Debug for MutexLockFuture<'_, T, R, L> {
+    fn fmt<F: fmt::Write>(&self, f: &mut fmt::Formatter<F>) -> fmt::Result {
+        f.debug_struct("GenericMutexLockFuture").finish()
+    }
+}
+
+impl<R: Wait, L: Ledger> fmt::Debug for Semaphore<R, L> {
+    fn fmt<F: fmt::Write>(&self, f: &mut fmt::Formatter<F>) -> fmt::Result {
+        f.debug_struct("Semaphore")
+            .field("permits", &self.permits())
+            .finish()
+    }
+}
+
+impl<R: Wait, L: Ledger> fmt::Debug for SemaphoreReleaser<'_, R, L> {
+    fn fmt<F: fmt::Write>(&self, f: &mut fmt::Formatter<F>) -> fmt::Result {
+        f.debug_struct("GenericSemaphoreReleaser").finish()
+    }
+}
+
+impl<R: Wait, L: Ledger> fmt::Debug for SemaphoreAcquireFuture<'_, R, L> {
+    fn fmt<F: fmt::Write>(&self, f: &mut fmt::Formatter<F>) -> fmt::Result {
+        f.debug_struct("GenericSemaphoreAcquireFuture").finish()
+    }
+}
+
+impl<R: Wait + Drop, L: Ledger> fmt::Debug for SharedSemaphore<R, L> {
+    fn fmt<F: fmt::Write>(&self, f: &mut fmt::Formatter<F>) -> fmt::Result {
+        f.debug_struct("Semaphore")
+            .field("permits", &self.permits())
+            .finish()
+    }
+}
+
+impl<R: Wait + Drop, L: Ledger> fmt::Debug for SharedSemaphoreReleaser<R, L> {
+    fn fmt<F: fmt::Write>(&self, f: &mut fmt::Formatter<F>) -> fmt::Result {
+        f.debug_struct("GenericSharedSemaphoreReleaser").finish()
+    }
+}
+
+impl<R: Wait + Drop, L: Ledger> fmt::Debug for SharedSemaphoreAcquireFuture<R, L> {
+    fn fmt<F: fmt::Write>(&self, f: &mut fmt::Formatter<F>) -> fmt::Result {
+        f.debug_struct("GenericSharedSemaphoreAcquireFuture")
+            .finish()
+    }
+}
+
+impl<C, R> fmt::Debug for TimerService<C, R> {
+    fn fmt<F: fmt::Write>(&self, f: &mut fmt::Formatter<F>) -> fmt::Result {
+        f.debug_struct("TimerService").finish()
+    }
+}
+
+impl<C: Clock, R: Wait> fmt::Debug for TimerFuture<'_, C, R> {
+    fn fmt<F: fmt::Write>(&self, f: &mut fmt::Formatter<F>) -> fmt::Result {
+        f.debug_struct("TimerFuture").finish()
+    }
+}
+
+impl<S, R> fmt::Debug for Monitor<S, R> {
+    fn fmt<F: fmt::Write>(&self, f: &mut fmt::Formatter<F>) -> fmt::Result {
+        f.debug_struct("Monitor").finish()
+    }
+}
+
+impl<T, L: Ledger> fmt::Debug for CountedMutex<T, L> {
+    fn fmt<F: fmt::Write>(&self, f: &mut fmt::Formatter<F>) -> fmt::Result {
+        f.debug_struct("CountedMutex").finish()
+    }
+}
+
+impl<L: Ledger> fmt::Debug for CountedSemaphore<L> {
+    fn fmt<F: fmt::Write>(&self, f: &mut fmt::Formatter<F>) -> fmt::Result {
+        f.debug_struct("CountedSemaphore").finish()
+    }
+}
+
+impl<C> fmt::Debug for Timed<C> {
+    fn fmt<F: fmt::Write>(&self, f: &mut fmt::Formatter<F>) -> fmt::Result {
+        f.debug_struct("Timed").finish()
+    }
+}
+
+impl<L: Ledger> fmt::Debug for Hold<L> {
+    fn fmt<F: fmt::Write>(&self, f: &mut fmt::Formatter<F>) -> fmt::Result {
+        f.debug_struct("Hold").finish()
+    }
+}
+
+impl<L: Ledger> fmt::Debug for Grant<L> {
+    fn fmt<F: fmt::Write>(&self, f: &mut fmt::Formatter<F>) -> fmt::Result {
+        f.debug_struct("Grant").finish()
+    }
+}
+
+impl<K> fmt::Debug for Claim<K> {
+    fn fmt<F: fmt::Write>(&self, f: &mut fmt::Formatter<F>) -> fmt::Result {
+        f.debug_struct("Claim").finish()
+    }
+}
+
+impl fmt::Debug for Owed {
+    fn fmt<F: fmt::Write>(&self, f: &mut fmt::Formatter<F>) -> fmt::Result {
+        f.debug_struct("Owed").finish()
+    }
+}

@@ -1,0 +1,136 @@
+//! The texts of `Debug`: those of the Rust crate.
+ghost use Rattle.std.specs.Prelude.{◌≡◌};
+
+use crate::{
+    Channel, ManualResetEvent, Mutex, OneshotBroadcastChannel, OneshotChannel, Semaphore,
+    SharedSemaphore, StateBroadcastChannel, TimerService,
+};
+use fi_parts::{MockClock, StateId};
+use std::alloc::{AllocGlobal, Global};
+use std::fmt;
+use std::marker::Brand;
+use std::sync::Wait;
+use std::sync::ledger::{Blank, Ledger};
+use std::test::Fail;
+
+fn shows<D: fmt::Debug>(alloc: Global, value: &D, wanted: &str) -> bool {
+    match format!(in alloc; "{value:?}") {
+        Ok(text) => text.as_str() == wanted,
+        Err(_) => false,
+    }
+}
+
+#[test]
+fn an_event_and_a_timer_show_their_names(rt: HostRuntime) -> Result<(), Fail> {
+    let event = ManualResetEvent::new(rt.alloc(), rt, false);
+    assert!(rt; shows(rt.alloc(), &event, "ManualResetEvent"));
+    let wait = event.wait()?;
+    assert!(rt; shows(rt.alloc(), &wait, "GenericWaitForEventFuture"));
+    let timer = TimerService::new(rt.alloc(), rt, MockClock::new());
+    assert!(rt; shows(rt.alloc(), &timer, "TimerService"));
+    let deadline = timer.deadline(5)?;
+    assert!(rt; shows(rt.alloc(), &deadline, "TimerFuture"));
+    Ok(())
+}
+
+#[test]
+fn channels_of_one_value_show_their_names(rt: HostRuntime) -> Result<(), Fail> {
+    let oneshot: OneshotChannel<u64, HostRuntime> = OneshotChannel::new(rt.alloc(), rt);
+    assert!(rt; shows(rt.alloc(), &oneshot, "GenericOneshotChannel"));
+    let broadcast: OneshotBroadcastChannel<u64, HostRuntime> = OneshotBroadcastChannel::new(
+        rt.alloc(),
+        rt,
+    );
+    assert!(rt; shows(rt.alloc(), &broadcast, "GenericOneshotBroadcastChannel"));
+    let states: StateBroadcastChannel<u64, HostRuntime> = StateBroadcastChannel::new(
+        rt.alloc(),
+        rt,
+    );
+    assert!(rt; shows(rt.alloc(), &states, "GenericStateBroadcastChannel"));
+    let receive = states.receive(StateId::new())?;
+    assert!(rt; shows(rt.alloc(), &receive, "ChannelReceiveFuture"));
+    Ok(())
+}
+
+#[test]
+fn a_channel_shows_its_name(rt: HostRuntime) -> Result<(), Fail> {
+    let channel: Channel<u64, 2, HostRuntime> = Channel::new(rt.alloc(), rt);
+    assert!(rt; shows(rt.alloc(), &channel, "Channel"));
+    let send = channel.send(5).ok().ok_or("room")?;
+    assert!(rt; shows(rt.alloc(), &send, "ChannelSendFuture"));
+    let stream = channel.stream()?;
+    assert!(rt; shows(rt.alloc(), &stream, "ChannelStream"));
+    Ok(())
+}
+
+fn mutex_shows<R: Wait + AllocGlobal + Copy, L: Ledger>(rt: R, blank: Blank) -> Option<bool>
+    requires name { blank.name ≡ L.name }
+    requires parts { blank.parts ≡ L.parts }
+    requires one { blank.parts ≡ 1 }
+{
+    let alloc = rt.alloc();
+    let mutex = Mutex::<u64, R, L>::new(alloc, rt, blank, 7, true);
+    let free = shows(alloc, &mutex, "Mutex { is_locked: false }");
+    let lock = mutex.lock().ok()?;
+    let guard = mutex.try_lock()?;
+    let locked = shows(alloc, &mutex, "Mutex { is_locked: true }");
+    let names = shows(alloc, &guard, "GenericMutexGuard")
+        && shows(alloc, &lock, "GenericMutexLockFuture");
+    Some(free && locked && names)
+}
+
+#[test]
+fn a_mutex_shows_whether_it_is_locked(rt: HostRuntime) {
+    assert_eq!(rt;
+        mutex_shows::<HostRuntime, Brand>(rt, Blank::new(1)),
+        Some(true)
+    );
+}
+
+fn semaphore_shows<R: Wait + AllocGlobal + Copy, L: Ledger>(rt: R, blank: Blank) -> Option<bool>
+    requires name { blank.name ≡ L.name }
+    requires parts { blank.parts ≡ L.parts }
+    requires all { blank.parts ≡ 18446744073709551615 }
+{
+    let alloc = rt.alloc();
+    let semaphore = Semaphore::<R, L>::new(alloc, rt, blank, true, 5);
+    let releaser = semaphore.try_acquire(2)?;
+    let acquire = semaphore.acquire(1).ok()?;
+    let names = shows(alloc, &releaser, "GenericSemaphoreReleaser")
+        && shows(alloc, &acquire, "GenericSemaphoreAcquireFuture");
+    Some(names && shows(alloc, &semaphore, "Semaphore { permits: 3 }"))
+}
+
+#[test]
+fn a_semaphore_shows_its_permits(rt: HostRuntime) {
+    let blank = Blank::new(18446744073709551615);
+    assert_eq!(rt;
+        semaphore_shows::<HostRuntime, Brand>(rt, blank),
+        Some(true)
+    );
+}
+
+fn shared_semaphore_shows<R, L: Ledger>(rt: R, blank: Blank) -> Option<bool>
+where
+    R: Wait + AllocGlobal + Copy + Drop,
+    requires name { blank.name ≡ L.name }
+    requires parts { blank.parts ≡ L.parts }
+    requires all { blank.parts ≡ 18446744073709551615 }
+{
+    let alloc = rt.alloc();
+    let semaphore = SharedSemaphore::<R, L>::new(alloc, rt, blank, true, 5).ok()?;
+    let releaser = semaphore.try_acquire(2).ok()??;
+    let acquire = semaphore.acquire(1).ok()?;
+    let names = shows(alloc, &releaser, "GenericSharedSemaphoreReleaser")
+        && shows(alloc, &acquire, "GenericSharedSemaphoreAcquireFuture");
+    Some(names && shows(alloc, &semaphore, "Semaphore { permits: 3 }"))
+}
+
+#[test]
+fn a_shared_semaphore_shows_its_permits(rt: HostRuntime) {
+    let blank = Blank::new(18446744073709551615);
+    assert_eq!(rt;
+        shared_semaphore_shows::<HostRuntime, Brand>(rt, blank),
+        Some(true)
+    );
+}
