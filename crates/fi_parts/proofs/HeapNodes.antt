@@ -1,6 +1,7 @@
 -- What each change of a heap's store makes of the links, the values and the members.
-use Rattle.std.proofs.Common.{◌≡◌, ℕ, ◌<◌, true, length, Option, Some, None, is_some, IsSome, refl, sym, ap, ◌∙◌, inl, inr}
-use Rattle.std.proofs.lemmas.Bool.{cases_eq, false≢true}
+use Rattle.std.proofs.Common.{◌≡◌, ℕ, ◌<◌, Bool, true, false, cond, eqb, length, Option, Some, None, is_some, IsSome, IfSome}
+use Rattle.std.proofs.Common.{refl, sym, ap, ◌∙◌, inl, inr}
+use Rattle.std.proofs.lemmas.Bool.{cases_eq, false≢true, cond-false, ne_eqb}
 use Rattle.std.proofs.lemmas.List.{length-set}
 use Rattle.std.specs.FinMap as map
 use Rattle.std.specs.FinSet as finite
@@ -126,20 +127,73 @@ pub placed-some : (o : Option HeapLinks) (next : Option ℕ) (back : Back) → i
 placed-some None next back = refl
 placed-some (Some l) next back = refl
 
+-- a change of the links under one slot
+abbrev pub changed : (ℕ → Option HeapLinks) → ℕ → (Option HeapLinks → Option HeapLinks) → ℕ → Option HeapLinks
+changed g x f = linked g x (f (g x))
+
+changed-at : (g : ℕ → Option HeapLinks) (x : ℕ) (f : Option HeapLinks → Option HeapLinks) (k : ℕ) → changed g x f k
+    ≡ cond (eqb k x) (f (g k)) (g k)
+changed-at g x f k =
+    elim (cases_eq k x) [
+      | inl same ↦ ap (λ z. cond (eqb k x) (f (g z)) (g k)) (sym same)
+      | inr ne ↦ linked-other g x _ k ne ∙ sym (cond-false (eqb k x) _ _ (ne_eqb k x ne))
+    ]
+
+both-ways : (a b : Bool) (f h : Option HeapLinks → Option HeapLinks) (o : Option HeapLinks) → h (f o) ≡ f (h o)
+    → cond b (h (cond a (f o) o)) (cond a (f o) o) ≡ cond a (f (cond b (h o) o)) (cond b (h o) o)
+both-ways true true f h o same = same
+both-ways true false f h o same = refl
+both-ways false true f h o same = refl
+both-ways false false f h o same = refl
+
+-- changes of different links, under whatever slots, come to the same in either order
+pub changed-after : (g : ℕ → Option HeapLinks) (x y : ℕ) (f h : Option HeapLinks → Option HeapLinks)
+    → ((o : Option HeapLinks) → h (f o) ≡ f (h o)) → changed (changed g x f) y h ≡ changed (changed g y h) x f
+changed-after g x y f h same = λ i. λ k. at k i
+  where
+    at : (k : ℕ) → changed (changed g x f) y h k ≡ changed (changed g y h) x f k
+    at k =
+        changed-at (changed g x f) y h k ∙ ap (λ o. cond (eqb k y) (h o) o) (changed-at g x f k)
+        ∙ both-ways (eqb k x) (eqb k y) f h (g k) (same (g k))
+        ∙ sym (changed-at (changed g y h) x f k ∙ ap (λ o. cond (eqb k x) (f o) o) (changed-at g y h k))
+
+child-back : (o : Option HeapLinks) (child : Option ℕ) (back : Back) → back_to (child_to o child) back ≡ child_to (back_to o back) child
+child-back None child back = refl
+child-back (Some l) child back = refl
+
+child-placed : (o : Option HeapLinks) (child next : Option ℕ) (back : Back) → placed (child_to o child) next back
+    ≡ child_to (placed o next back) child
+child-placed None child next back = refl
+child-placed (Some l) child next back = refl
+
+backed-changed : (g : ℕ → Option HeapLinks) (p : ℕ) (child first : Option ℕ) (back : Back)
+    → backed (changed g p (λ o. child_to o child)) first back ≡ changed (backed g first back) p (λ o. child_to o child)
+backed-changed g p child None back = refl
+backed-changed g p child (Some x) back =
+    changed-after g p x (λ o. child_to o child) (λ o. back_to o back) (λ o. child-back o child back)
+
 module _ {T : Type 0} where
   -- a slot stays linked
   pub linked-kept : (s t : HeapNodes T) → Keeps s t → (k : ℕ) → IsLinked s k → IsLinked t k
   linked-kept s t keeps k at = keeps.linked k ∙ at
 
+  pub linked-kept-if : (s t : HeapNodes T) → Keeps s t → (o : Option ℕ) → IfSome o (λ k. IsLinked s k) → IfSome o (λ k. IsLinked t k)
+  linked-kept-if s t keeps None at = at
+  linked-kept-if s t keeps (Some k) at = linked-kept s t keeps k at
+
   -- the three writes of an adoption
-  pub adopted-links : (s t u w : HeapNodes T) (p c : ℕ) (older : Option ℕ) → child_of (links_of s p) ≡ older → links_of t
-      ≡ backed (links_of s) older (Sibling c) → Relinks t u c (placed (links_of t c) older (Parent p))
-      → Relinks u w p (child_to (links_of u p) (Some c)) → links_of w ≡ adopted (links_of s) p c
-  adopted-links s t u w p c older is back place child =
-      let moved = λ (b : ℕ → Option HeapLinks). linked b c (placed (b c) older (Parent p)) in
-      let told = λ (m : ℕ → Option HeapLinks). linked m p (child_to (m p) (Some c)) in
-      child.links ∙ ap told place.links ∙ ap (λ (b : ℕ → Option HeapLinks). told (moved b)) back ∙ ap
-      (λ (o : Option ℕ). adopted_before (links_of s) o p c) (sym is)
+  pub adopted-links : (s t u w : HeapNodes T) (p c : ℕ) (older : Option ℕ) → older ≡ child_of (links_of s p)
+      → Relinks s t p (child_to (links_of s p) (Some c)) → links_of u ≡ backed (links_of t) older (Sibling c)
+      → Relinks u w c (placed (links_of u c) older (Parent p)) → links_of w ≡ adopted (links_of s) p c
+  adopted-links s t u w p c older is child back place =
+      let told = λ (o : Option HeapLinks). child_to o (Some c) in
+      let moved = λ (o : Option HeapLinks). placed o older (Parent p) in
+      let after : links_of u ≡ changed (backed (links_of s) older (Sibling c)) p told =
+      back ∙ ap (λ (g : ℕ → Option HeapLinks). backed g older (Sibling c)) child.links
+      ∙ backed-changed (links_of s) p (Some c) older (Sibling c) in
+      let last = changed-after (backed (links_of s) older (Sibling c)) p c told moved (λ o. child-placed o (Some c) older (Parent p)) in
+      place.links ∙ ap (λ (b : ℕ → Option HeapLinks). changed b c moved) after ∙ last
+      ∙ ap (λ (o : Option ℕ). adopted_before (links_of s) o p c) is
 
   pub KeepsValues-relinks : (s t : HeapNodes T) (x : ℕ) (w : Option HeapLinks) → Relinks s t x w → is_some w ≡ is_some (links_of s x)
       → KeepsValues s t

@@ -1,5 +1,6 @@
 -- How the calls on a heap's store change the pieces that it is in.
-use Rattle.std.proofs.Common.{◌≡◌, ℕ, suc, ◌≤◌, true, false, length, Option, Some, None, is_some, IfSome, refl, sym, ap, subst, ◌∙◌, arith}
+use Rattle.std.proofs.Common.{◌≡◌, ℕ, suc, ◌≤◌, true, false, length, Option, Some, None, is_some, IfSome, refl, sym, ap, subst, ◌∙◌}
+use Rattle.std.proofs.Common.{inl, inr, arith}
 use Rattle.std.specs.declared.cmp.Ordering.{Ordering}
 use Rattle.fi_parts.specs.declared.heap_nodes.Back.TheVariants.{Root}
 use Rattle.fi_parts.specs.declared.heap_nodes.HeapLinks.{HeapLinks}
@@ -7,7 +8,7 @@ use Rattle.fi_parts.specs.declared.heap_nodes.HeapNodes.{HeapNodes}
 use Rattle.fi_parts.specs.HeapForests.{roots, span, next_of, next_to, placed, backed, pointed, root_to, IsBackLinked}
 use Rattle.fi_parts.specs.HeapPieces.{Parts}
 use Rattle.fi_parts.specs.HeapNodes.{values_of, links_of, IsLinked, Relinks, Keeps, KeepsValues, InParts, IsHeap, MeldsInto, TakesOut}
-use Rattle.fi_parts.proofs.HeapPieces.{pop-parts, push-parts, meld-parts, meld-root, root-parts, span-rest, add-parts}
+use Rattle.fi_parts.proofs.HeapPieces.{pop-parts, push-parts, rest-linked, meld-parts, meld-root, root-parts, span-rest, add-parts}
 use Rattle.fi_parts.proofs.HeapCuts.{cut, without}
 use Rattle.fi_parts.proofs.HeapNodes.{is_within, Keeps-relinks, next_to-some, placed-some, Keeps-then, TakesOut-then}
 use Rattle.fi_parts.proofs.HeapNodes.{TakesOut-unlinked, KeepsValues-then, KeepsValues-relinks, values-kept}
@@ -27,20 +28,20 @@ module _ {T : Type 0} (cmp : T → T → Ordering) where
   pub at-root : (s : HeapNodes T) (r ha ra pa : Option ℕ) → s.root ≡ r → InParts cmp s r ha ra pa → InParts cmp s s.root ha ra pa
   at-root s r ha ra pa e P = subst (λ (m : Option ℕ). InParts cmp s m ha ra pa) (sym e) P
 
-  pub pop-next : (s : HeapNodes T) (a : ℕ) (ma pa : Option ℕ) (l : HeapLinks) → links_of s a ≡ Some l
-      → (P : InParts cmp s ma None (Some a) pa) → (Q : InParts cmp s ma (Some a) l.next pa) × (suc (roots Q.rest) ≡ roots P.rest)
-  pop-next s a ma pa l is P =
-      subst (λ (o : Option HeapLinks). (Q : InParts cmp s ma (Some a) (next_of o) pa) × (suc (roots Q.rest) ≡ roots P.rest)) is
+  pub pop-next : (s : HeapNodes T) (a : ℕ) (ma pa next : Option ℕ) → next ≡ next_of (links_of s a)
+      → (P : InParts cmp s ma None (Some a) pa) → (Q : InParts cmp s ma (Some a) next pa) × (suc (roots Q.rest) ≡ roots P.rest)
+  pop-next s a ma pa next is P =
+      subst (λ (n : Option ℕ). (Q : InParts cmp s ma (Some a) n pa) × (suc (roots Q.rest) ≡ roots P.rest)) (sym is)
       (pop-parts cmp (values_of s) (links_of s) a ma pa P)
 
-  pub meld-next : (s t : HeapNodes T) (a b winner : ℕ) (ma pa : Option ℕ) (l : HeapLinks) → links_of s b ≡ Some l
+  pub meld-next : (s t : HeapNodes T) (a b winner : ℕ) (ma pa next : Option ℕ) → next ≡ next_of (links_of s b)
       → MeldsInto cmp s t a b winner → Keeps s t → (P : InParts cmp s ma (Some a) (Some b) pa)
-      → (Q : InParts cmp t ma (Some winner) l.next pa) × (suc (roots Q.rest) ≡ roots P.rest)
-  meld-next s t a b winner ma pa l is melds keeps P =
-      subst (λ (v : ℕ → Option T). (Q : Parts cmp (links_of t) v ma (Some winner) l.next pa) × (suc (roots Q.rest) ≡ roots P.rest))
+      → (Q : InParts cmp t ma (Some winner) next pa) × (suc (roots Q.rest) ≡ roots P.rest)
+  meld-next s t a b winner ma pa next is melds keeps P =
+      subst (λ (v : ℕ → Option T). (Q : Parts cmp (links_of t) v ma (Some winner) next pa) × (suc (roots Q.rest) ≡ roots P.rest))
       (sym keeps.values)
-      (subst (λ (o : Option HeapLinks). (Q : Parts cmp (links_of t) (values_of s) ma (Some winner) (next_of o) pa)
-      × (suc (roots Q.rest) ≡ roots P.rest)) is
+      (subst (λ (n : Option ℕ). (Q : Parts cmp (links_of t) (values_of s) ma (Some winner) n pa) × (suc (roots Q.rest) ≡ roots P.rest))
+      (sym is)
       (meld-parts cmp (values_of s) (links_of s) (links_of t) keeps.linked a b winner ma pa melds P))
 
   pub push-next : (s t : HeapNodes T) (a : ℕ) (ma ra pa : Option ℕ) → Relinks s t a (next_to (links_of s a) pa)
@@ -63,17 +64,14 @@ module _ {T : Type 0} (cmp : T → T → Ordering) where
       subst (λ (p : ℕ). Relinks t u p (next_to (links_of t p) pa)) f
       (subst (λ (x : HeapNodes T). Relinks x u pair0 (next_to (links_of x pair0) pa)) e relinks)
 
-  pub pair-two : (s t t0 u : HeapNodes T) (left right pair pair0 : ℕ) (ma rest pa : Option ℕ) (l r : HeapLinks) → links_of s left
-      ≡ Some l → l.next ≡ Some right → links_of s right ≡ Some r → rest ≡ r.next → t0 ≡ t → pair0 ≡ pair
-      → MeldsInto cmp s t left right pair → Keeps s t → Relinks t0 u pair0 (next_to (links_of t0 pair0) pa)
-      → (P : InParts cmp s ma None (Some left) pa) → Turned s u ma (Some left) rest pa P pair0
-  pair-two s t t0 u left right pair pair0 ma rest pa l r at_left next at_right after same_store same_pair melds keeps written P =
+  pub pair-two : (s t t0 u : HeapNodes T) (left right pair pair0 : ℕ) (ma rest pa : Option ℕ) → Some right ≡ next_of (links_of s left)
+      → rest ≡ next_of (links_of s right) → t0 ≡ t → pair0 ≡ pair → MeldsInto cmp s t left right pair → Keeps s t
+      → Relinks t0 u pair0 (next_to (links_of t0 pair0) pa) → (P : InParts cmp s ma None (Some left) pa)
+      → Turned s u ma (Some left) rest pa P pair0
+  pair-two s t t0 u left right pair pair0 ma rest pa next after same_store same_pair melds keeps written P =
       let relinks = relinks-at t0 t u pair0 pair pa same_store same_pair written in
-      let popped = pop-next s left ma pa l at_left P in
-      let second = subst (λ (n : Option ℕ). (Q : InParts cmp s ma (Some left) n pa) × (suc (roots Q.rest) ≡ roots P.rest)) next popped in
-      let melded = meld-next s t left right pair ma pa r at_right melds keeps second.0 in
-      let third = subst (λ (n : Option ℕ). (Q : InParts cmp t ma (Some pair) n pa) × (suc (roots Q.rest) ≡ roots second.0.rest))
-      (sym after) melded in
+      let second = pop-next s left ma pa (Some right) next P in
+      let third = meld-next s t left right pair ma pa rest after melds keeps second.0 in
       let pushed = push-next t u pair ma rest pa relinks third.0 in
       subst (λ (p : ℕ). Turned s u ma (Some left) rest pa P p) (sym same_pair) (record {
         parts = pushed.0;
@@ -81,20 +79,34 @@ module _ {T : Type 0} (cmp : T → T → Ordering) where
         kept = Keeps-then s t u keeps (Keeps-relinks t u pair _ relinks (next_to-some (links_of t pair) pa));
       })
 
-  pub pair-one : (s t0 u : HeapNodes T) (left pair0 : ℕ) (ma rest pa : Option ℕ) (l : HeapLinks) → links_of s left ≡ Some l → rest
-      ≡ l.next → t0 ≡ s → pair0 ≡ left → Relinks t0 u pair0 (next_to (links_of t0 pair0) pa)
-      → (P : InParts cmp s ma None (Some left) pa) → Turned s u ma (Some left) rest pa P pair0
-  pair-one s t0 u left pair0 ma rest pa l at_left after same_store same_pair written P =
+  pub pair-one : (s t0 u : HeapNodes T) (left pair0 : ℕ) (ma rest pa : Option ℕ) → rest ≡ next_of (links_of s left) → t0 ≡ s
+      → pair0 ≡ left → Relinks t0 u pair0 (next_to (links_of t0 pair0) pa) → (P : InParts cmp s ma None (Some left) pa)
+      → Turned s u ma (Some left) rest pa P pair0
+  pair-one s t0 u left pair0 ma rest pa after same_store same_pair written P =
       let relinks = relinks-at t0 s u pair0 left pa same_store same_pair written in
-      let popped = pop-next s left ma pa l at_left P in
-      let second = subst (λ (n : Option ℕ). (Q : InParts cmp s ma (Some left) n pa) × (suc (roots Q.rest) ≡ roots P.rest)) (sym after)
-      popped in
+      let second = pop-next s left ma pa rest after P in
       let pushed = push-next s u left ma rest pa relinks second.0 in
       subst (λ (p : ℕ). Turned s u ma (Some left) rest pa P p) (sym same_pair) (record {
         parts = pushed.0;
         less = omega (arith, pushed.1, second.1);
         kept = Keeps-relinks s u left _ relinks (next_to-some (links_of s left) pa);
       })
+
+  -- the top of what one turn leaves is linked
+
+  pub two-linked : (s t t0 : HeapNodes T) (left right pair pair0 : ℕ) (ma pa next : Option ℕ) → Some right ≡ next
+      → next ≡ next_of (links_of s left) → t0 ≡ t → pair0 ≡ pair → MeldsInto cmp s t left right pair → Keeps s t
+      → InParts cmp s ma None (Some left) pa → IsLinked t0 pair0
+  two-linked s t t0 left right pair pair0 ma pa next some is same_store same_pair melds keeps P =
+      let first = rest-linked cmp (values_of s) (links_of s) left ma None pa P in
+      let popped = pop-next s left ma pa (Some right) (some ∙ is) P in
+      let second = rest-linked cmp (values_of s) (links_of s) right ma (Some left) pa popped.0 in
+      rw (same_store, same_pair) (keeps.linked pair ∙ elim melds [ inl m ↦ rw m.0 first | inr m ↦ rw m.0 second ])
+
+  pub one-linked : (s t0 : HeapNodes T) (left pair0 : ℕ) (ma pa : Option ℕ) → t0 ≡ s → pair0 ≡ left → InParts cmp s ma None (Some left) pa
+      → IsLinked t0 pair0
+  one-linked s t0 left pair0 ma pa same_store same_pair P =
+      rw (same_store, same_pair) (rest-linked cmp (values_of s) (links_of s) left ma None pa P)
 
   -- a node is cut out of the heap's tree
 

@@ -29,6 +29,8 @@ pub mod Clocks
 pub mod Heaped
 pub mod HeapForests
 pub mod HeapLending
+pub mod HeapLink
+pub mod HeapStanding
 pub mod HeapNodes
 pub mod HeapPieces
 pub mod Picked

@@ -2,10 +2,11 @@
 ghost use Rattle.std.specs.Prelude.{◌≡◌, ℕ, Some, None, true, is_some, [], IfOk, IfErr, OnErr, option_copied, length};
 ghost use Rattle.std.specs.Borrow.{sem};
 ghost use Rattle.slab.specs.Slab.{get, ContainsKey, Updates};
-ghost use Rattle.fi_parts.specs.HeapForests.{child_to, next_to, back_to, placed};
+ghost use Rattle.fi_parts.specs.HeapForests.{child_of, next_of, child_to, next_to, back_to, placed};
 ghost use Rattle.fi_parts.specs.HeapNodes.{values_of, links_of, IsLinked, Relinks, loose_node, LendsValueIn};
 
 use crate::errors::NoRoom;
+use crate::heap_links::{Link, NodeLinks};
 use slab::Slab;
 use std::alloc::{AllocFailed, Global};
 
@@ -23,8 +24,8 @@ pub enum Back {
 /// The links of a node that is in the heap.
 #[derive(Clone, Copy)]
 pub struct HeapLinks {
-    pub child: Option<usize>,
-    pub next: Option<usize>,
+    pub child: Link,
+    pub next: Link,
     pub back: Back,
 }
 
@@ -32,14 +33,14 @@ pub struct HeapLinks {
 #[derive(Drop)]
 pub struct HeapNode<T> {
     value: T,
-    links: Option<HeapLinks>,
+    links: NodeLinks,
 }
 
 /// Nodes under slots, and the root of the tree that the linked ones make.
 #[derive(Drop)]
 pub struct HeapNodes<T> {
     store: Slab<HeapNode<T>>,
-    root: Option<usize>,
+    root: Link,
 }
 
 impl<T> HeapNodes<T> {
@@ -50,7 +51,7 @@ impl<T> HeapNodes<T> {
     {
         HeapNodes {
             store: Slab::new(alloc),
-            root: None,
+            root: Link::none(),
         }
     }
 
@@ -58,11 +59,11 @@ impl<T> HeapNodes<T> {
     pub fn root(&self) -> Option<usize>
         ensures { result ≡ self.now.root }
     {
-        self.root
+        self.root.get()
     }
 
     /// Makes this the root.
-    pub fn set_root(&mut self, root: Option<usize>)
+    pub fn set_root(&mut self, root: Link)
         ensures { self.new ≡ record self.old { root = root } }
     {
         self.root = root;
@@ -115,7 +116,10 @@ impl<T> HeapNodes<T> {
         ensures handed_back { IfErr result (λ failed. failed.0 ≡ value) }
         ensures root { self.new.root ≡ self.old.root }
     {
-        let node = HeapNode { value, links: None };
+        let node = HeapNode {
+            value,
+            links: NodeLinks::none(),
+        };
         match self.store.insert(node) {
             Ok(slot) => Ok(slot),
             Err(failed) => {
@@ -138,13 +142,32 @@ impl<T> HeapNodes<T> {
         value
     }
 
-    /// The links of a node that is in the heap.
-    pub fn links(&self, slot: usize) -> HeapLinks
+    /// The next sibling of a node that is in the heap.
+    pub fn next(&self, slot: usize) -> Link
         requires { IsLinked self.now slot }
-        ensures { links_of self.now slot ≡ Some result }
+        ensures { result ≡ next_of (links_of self.now slot) }
     {
         let node = &self.store[slot];
-        node.links.unwrap()
+        node.links.next()
+    }
+
+    /// The link to a node that is in the heap.
+    pub fn link_to(&self, slot: usize) -> Link
+        requires { IsLinked self.now slot }
+        ensures { result ≡ Some slot }
+    {
+        let _capacity = self.store.capacity();
+        Link::to(slot)
+    }
+
+    /// Takes the links of a node that is in the heap, and leaves it none.
+    pub fn take_links(&mut self, slot: usize) -> HeapLinks
+        requires { IsLinked self.old slot }
+        ensures links { links_of self.old slot ≡ Some result }
+        ensures taken { Relinks self.old self.new slot None }
+    {
+        let node = &mut self.store[slot];
+        node.links.take()
     }
 
     /// Gives a node these links, or none.
@@ -153,27 +176,35 @@ impl<T> HeapNodes<T> {
         ensures { Relinks self.old self.new slot links }
     {
         let node = &mut self.store[slot];
-        node.links = links;
+        node.links = NodeLinks::of(links);
     }
 
     /// Makes this the node's first child.
-    pub fn set_child(&mut self, slot: usize, child: Option<usize>)
+    pub fn set_child(&mut self, slot: usize, child: Link)
         requires { IsLinked self.old slot }
         ensures { Relinks self.old self.new slot (child_to (links_of self.old slot) child) }
     {
-        if let Some(links) = &mut self.store[slot].links {
-            links.child = child;
-        }
+        let node = &mut self.store[slot];
+        node.links.set_child(child);
+    }
+
+    /// Makes this the first child of a node that is in the heap, and gives the one before.
+    pub fn replace_child(&mut self, slot: usize, child: Link) -> Link
+        requires { IsLinked self.old slot }
+        ensures older { result ≡ child_of (links_of self.old slot) }
+        ensures replaced { Relinks self.old self.new slot (child_to (links_of self.old slot) child) }
+    {
+        let node = &mut self.store[slot];
+        node.links.replace_child(child)
     }
 
     /// Makes this the node's next sibling.
-    pub fn set_next(&mut self, slot: usize, next: Option<usize>)
+    pub fn set_next(&mut self, slot: usize, next: Link)
         requires { IsLinked self.old slot }
         ensures { Relinks self.old self.new slot (next_to (links_of self.old slot) next) }
     {
-        if let Some(links) = &mut self.store[slot].links {
-            links.next = next;
-        }
+        let node = &mut self.store[slot];
+        node.links.set_next(next);
     }
 
     /// Says what stands before the node.
@@ -181,19 +212,16 @@ impl<T> HeapNodes<T> {
         requires { IsLinked self.old slot }
         ensures { Relinks self.old self.new slot (back_to (links_of self.old slot) back) }
     {
-        if let Some(links) = &mut self.store[slot].links {
-            links.back = back;
-        }
+        let node = &mut self.store[slot];
+        node.links.set_back(back);
     }
 
     /// Says what stands behind the node and before it.
-    pub fn set_place(&mut self, slot: usize, next: Option<usize>, back: Back)
+    pub fn set_place(&mut self, slot: usize, next: Link, back: Back)
         requires { IsLinked self.old slot }
         ensures { Relinks self.old self.new slot (placed (links_of self.old slot) next back) }
     {
-        if let Some(links) = &mut self.store[slot].links {
-            links.next = next;
-            links.back = back;
-        }
+        let node = &mut self.store[slot];
+        node.links.set_place(next, back);
     }
 }

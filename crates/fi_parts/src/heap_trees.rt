@@ -4,22 +4,23 @@ ghost use Rattle.fi_parts.specs.HeapForests.{child_of, backed, adopted, pointed,
 ghost use Rattle.fi_parts.specs.HeapPieces.{Meldable};
 ghost use Rattle.fi_parts.specs.HeapNodes.{values_of, links_of, IsLinked, Keeps, InParts, IsHeap, MeldsInto, KeepsValues, TakesOut, PutsIn};
 
+use crate::heap_links::Link;
 use crate::heap_nodes::{Back, HeapLinks, HeapNodes};
 
 impl<T> HeapNodes<T> {
     /// Sets the way back from a node, if there is one.
-    fn set_back_of(&mut self, node: Option<usize>, back: Back)
+    fn set_back_of(&mut self, node: Link, back: Back)
         requires { IfSome node (λ slot. IsLinked self.old slot) }
         ensures links { links_of self.new ≡ backed (links_of self.old) node back }
         ensures kept { Keeps self.old self.new }
     {
-        if let Some(slot) = node {
+        if let Some(slot) = node.get() {
             self.set_back(slot, back);
         }
     }
 
     /// Makes the link that led to a node lead elsewhere.
-    fn set_link(&mut self, back: Back, to: Option<usize>)
+    fn set_link(&mut self, back: Back, to: Link)
         requires { IsBackLinked (links_of self.old) back }
         ensures links { links_of self.new ≡ pointed (links_of self.old) back to }
         ensures root { self.new.root ≡ root_to self.old.root back to }
@@ -40,10 +41,10 @@ impl<T> HeapNodes<T> {
         ensures links { links_of self.new ≡ adopted (links_of self.old) parent child }
         ensures kept { Keeps self.old self.new }
     {
-        let older = self.links(parent).child;
+        let link = self.link_to(child);
+        let older = self.replace_child(parent, link);
         self.set_back_of(older, Back::Sibling(child));
         self.set_place(child, older, Back::Parent(parent));
-        self.set_child(parent, Some(child));
     }
 }
 
@@ -64,41 +65,42 @@ impl<T: Ord> HeapNodes<T> {
     }
 
     /// Melds the trees of a chain two by two, and chains what comes out, the last first.
-    fn pair_up(&mut self, first: Option<usize>) -> Option<usize>
+    fn pair_up(&mut self, first: Link) -> Link
         requires { InParts T.cmp self.old self.old.root None first None }
         ensures paired { InParts T.cmp self.new self.new.root None result None }
         ensures kept { Keeps self.old self.new }
     {
         let mut rest = first;
-        let mut pairs = None;
-        while let Some(left) = rest {
-            let right = self.links(left).next;
-            let pair = match right {
+        let mut pairs = Link::none();
+        while let Some(left) = rest.get() {
+            let right = self.next(left);
+            let pair = match right.get() {
                 Some(right) => {
-                    rest = self.links(right).next;
+                    rest = self.next(right);
                     self.meld(left, right)
                 }
                 None => {
-                    rest = None;
+                    rest = Link::none();
                     left
                 }
             };
+            let link = self.link_to(pair);
             self.set_next(pair, pairs);
-            pairs = Some(pair);
+            pairs = link;
         }
         pairs
     }
 
     /// Melds the trees of a chain into one, from the first on.
-    fn meld_all(&mut self, first: Option<usize>) -> Option<usize>
+    fn meld_all(&mut self, first: Link) -> Option<usize>
         requires { InParts T.cmp self.old self.old.root None first None }
         ensures melded { InParts T.cmp self.new self.new.root result None None }
         ensures kept { Keeps self.old self.new }
     {
         let mut rest = first;
         let mut melded = None;
-        while let Some(tree) = rest {
-            rest = self.links(tree).next;
+        while let Some(tree) = rest.get() {
+            rest = self.next(tree);
             melded = Some(match melded {
                 Some(before) => self.meld(before, tree),
                 None => tree,
@@ -117,19 +119,19 @@ impl<T: Ord> HeapNodes<T> {
             Some(root) => self.meld(root, tree),
             None => tree,
         };
-        self.set_place(root, None, Back::Root);
-        self.set_root(Some(root));
+        let link = self.link_to(root);
+        self.set_place(root, Link::none(), Back::Root);
+        self.set_root(link);
     }
 
     /// Takes a node out of its tree, and gives the first of its children, which stay chained.
-    fn cut(&mut self, slot: usize) -> Option<usize>
+    fn cut(&mut self, slot: usize) -> Link
         requires heap { IsHeap T.cmp self.old }
         requires member { IsLinked self.old slot }
         ensures parts { InParts T.cmp self.new self.new.root None result None }
         ensures taken { TakesOut self.old self.new slot }
     {
-        let links = self.links(slot);
-        self.set_links(slot, None);
+        let links = self.take_links(slot);
         self.set_link(links.back, links.next);
         self.set_back_of(links.next, links.back);
         links.child
@@ -144,8 +146,8 @@ impl<T: Ord> HeapNodes<T> {
         ensures put { PutsIn self.old self.new slot }
     {
         let links = HeapLinks {
-            child: None,
-            next: None,
+            child: Link::none(),
+            next: Link::none(),
             back: Back::Root,
         };
         self.set_links(slot, Some(links));

@@ -10,6 +10,7 @@ mod debug;
 mod drain;
 mod errors;
 mod heap;
+mod heap_links;
 mod heap_nodes;
 #[cfg(test)]
 mod heap_tests;

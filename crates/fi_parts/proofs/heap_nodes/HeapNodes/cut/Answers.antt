@@ -2,21 +2,26 @@ use Rattle.fi_parts.proofs.HeapSteps.{cut-step, cut-back, cut-next}
 use Rattle.fi_parts.proofs.heap_nodes.HeapNodes.cut.Goals as goal
 
 pub set_link-requires : goal.set_link-requires
-set_link-requires g c = cut-back g.T.Ord.cmp c.args.self.now _ c.args.slot c.links-links.result c.links-links.ensures c.requires.heap
-    c.set_links.ensures
+set_link-requires g c =
+    let took = c.take_links-links.ensures in
+    cut-back g.T.Ord.cmp c.args.self.now _ c.args.slot c.take_links-links.result took.links c.requires.heap took.taken
 
 pub set_back_of-requires : goal.set_back_of-requires
-set_back_of-requires g c = cut-next g.T.Ord.cmp c.args.self.now c.set_links.new.self c.set_link.new.self c.args.slot
-    c.links-links.result c.links-links.ensures c.requires.heap c.set_links.ensures c.set_link.ensures.links
+set_back_of-requires g c =
+    let took = c.take_links-links.ensures in
+    cut-next g.T.Ord.cmp c.args.self.now c.take_links-links.new.self c.set_link.new.self c.args.slot c.take_links-links.result took.links
+    c.requires.heap took.taken c.set_link.ensures.links
 
 pub returns-clause-parts : goal.returns-clause-parts
 returns-clause-parts g c =
-    (cut-step g.T.Ord.cmp c.args.self.now c.set_links.new.self c.set_link.new.self c.set_back_of.new.self c.args.slot
-    c.links-links.result c.links-links.ensures c.requires.heap c.set_links.ensures c.set_link.ensures.links c.set_link.ensures.root
+    let took = c.take_links-links.ensures in
+    (cut-step g.T.Ord.cmp c.args.self.now c.take_links-links.new.self c.set_link.new.self c.set_back_of.new.self c.args.slot
+    c.take_links-links.result took.links c.requires.heap took.taken c.set_link.ensures.links c.set_link.ensures.root
     c.set_link.ensures.kept c.set_back_of.ensures.links c.set_back_of.ensures.kept).0
 
 pub returns-clause-taken : goal.returns-clause-taken
 returns-clause-taken g c =
-    (cut-step g.T.Ord.cmp c.args.self.now c.set_links.new.self c.set_link.new.self c.set_back_of.new.self c.args.slot
-    c.links-links.result c.links-links.ensures c.requires.heap c.set_links.ensures c.set_link.ensures.links c.set_link.ensures.root
+    let took = c.take_links-links.ensures in
+    (cut-step g.T.Ord.cmp c.args.self.now c.take_links-links.new.self c.set_link.new.self c.set_back_of.new.self c.args.slot
+    c.take_links-links.result took.links c.requires.heap took.taken c.set_link.ensures.links c.set_link.ensures.root
     c.set_link.ensures.kept c.set_back_of.ensures.links c.set_back_of.ensures.kept).1

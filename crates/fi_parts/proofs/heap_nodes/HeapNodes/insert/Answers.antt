@@ -4,7 +4,7 @@ use Rattle.fi_parts.proofs.heap_nodes.HeapNodes.insert.Goals as goal
 
 pub add_tree-requires : goal.add_tree-requires
 add_tree-requires g c = add-step g.T.Ord.cmp c.args.self.now c.set_links.new.self c.args.slot c.requires.apart c.requires.heap
-    c.set_links.ensures
+    (rw (c.none.ensures, c.none-2.ensures) at c.set_links.ensures)
 
 pub returns-clause-put : goal.returns-clause-put
 returns-clause-put g c =
