@@ -1,7 +1,7 @@
 #!/bin/sh
 # Times the built `schedule` and another program that reads the same script in turn, on a script of N futures (100000 if not given), and
-# prints the best of nine runs of each in nanoseconds a line: `bench/beside.sh PROGRAM event|timer|semaphore|channel N`. `cargo build --release` in bench/rust makes such a program from the
-# Rust crate, bench/rust/target/release/schedule-rust; `rt run` in crates/schedule makes ours.
+# prints the best of nine runs of each in nanoseconds a line: `bench/beside.sh PROGRAM event|timer|semaphore|channel N`.
+# bench/rust/build.sh makes such a program from the Rust crate, OUT/schedule-rust; `rt run` in crates/schedule makes ours.
 set -eu
 here=$(cd "$(dirname "$0")" && pwd)
 [ $# -ge 1 ] || { echo "usage: beside.sh PROGRAM [KIND] [N]" >&2; exit 2; }

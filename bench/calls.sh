@@ -1,7 +1,7 @@
 #!/bin/sh
 # Times the primitives by call, ours and those of the Rust crate in turn, nine times each, and prints the least times in nanoseconds for
-# each future, with what ours are in a hundred of the crate's: `bench/calls.sh bench/rust/target/release/calls`. The argument is the
-# program of bench/rust of that name, built. Ours is proved and built first, beside a copy of the crates that it uses.
+# each future, with what ours are in a hundred of the crate's: `bench/calls.sh OUT/calls`, a program that bench/rust/build.sh made. Ours is
+# proved and built first, beside a copy of the crates that it uses.
 set -eu
 here=$(cd "$(dirname "$0")" && pwd)
 theirs=$(cd "$(dirname "$1")" && pwd)/$(basename "$1")

@@ -1,18 +1,15 @@
 #!/bin/sh
 # Times our pairing heap and that of the Rust crate in turn, nine times each, and prints the least times in nanoseconds for the insertion
-# and the removal of each of 1,000,000 values: `bench/heap.sh FILE`, where FILE is the crate's src/intrusive_pairing_heap.rs. Ours is
-# proved and built first, beside a copy of the crates that it uses.
+# and the removal of each of 1,000,000 values: `bench/heap.sh OUT/heap`, a program that bench/rust/build.sh made. Ours is proved and built
+# first, beside a copy of the crates that it uses.
 set -eu
 here=$(cd "$(dirname "$0")" && pwd)
 work=$(mktemp -d)
 trap 'rm -rf "$work"' EXIT
-cp "$here/rust/heap.rs" "$work/heap.rs"
-cp "$1" "$work/intrusive_pairing_heap.rs"
-rustc --edition 2021 -C opt-level=3 -o "$work/theirs" "$work/heap.rs"
 KEEP="$work" "$here/part.sh" bench_heap > /dev/null
 for _ in 1 2 3 4 5 6 7 8 9; do
     "$work/crates/bench_heap/out/bench_heap" time
-    "$work/theirs"
+    "$1"
 done | awk '
     function note(name, time) { if (!((order, name) in least) || time < least[order, name]) least[order, name] = time }
     /values/ { order = substr($1, 1, length($1) - 1); if (!(order in seen)) { seen[order]; orders[++count] = order } }

@@ -1,4 +1,4 @@
-//! Fills and empties the pairing heap of futures-intrusive, as bench_heap does ours. bench/heap.sh puts the crate's file beside it.
+//! Fills and empties the pairing heap of futures-intrusive, as bench_heap does ours. bench/rust/build.sh puts the crate's file beside it.
 
 #[allow(dead_code)]
 mod intrusive_pairing_heap;
