@@ -124,13 +124,7 @@ impl<T: Drop, B: RingBuf<Item = T>, W: Drop> Primitive for ChannelState<T, B, W>
             ChannelCall::PollReceive(slot, waker) => poll_receive(self, slot, waker),
             ChannelCall::PollNext(slot, waker) => poll_next(self, slot, waker),
             ChannelCall::CancelSend(slot) => cancel_send(self, slot),
-            ChannelCall::CancelReceive(slot) => {
-                if !self.has_receive(slot) {
-                    return Answer::Refused(Fault::NoSlot);
-                }
-                self.remove_receive_waiter(slot);
-                Answer::Done
-            }
+            ChannelCall::CancelReceive(slot) => cancel_receive(self, slot),
             ChannelCall::TrySend(value) => match self.try_send(value) {
                 Ok(()) => Answer::Done,
                 Err(TrySendError::Closed(value)) => Answer::Back(value, Fault::Closed),
@@ -230,6 +224,19 @@ fn cancel_send<T: Drop, B: RingBuf<Item = T>, W: Drop>(
         Some(value) => Answer::Item(value),
         None => Answer::Nothing,
     }
+}
+
+fn cancel_receive<T: Drop, B: RingBuf<Item = T>, W: Drop>(
+    channel: &mut ChannelState<T, B, W>,
+    slot: Slot,
+) -> Answer<T, W>
+    ensures { Step channel.old (calls.CancelReceive slot) result channel.new }
+{
+    if !channel.has_receive(slot) {
+        return Answer::Refused(Fault::NoSlot);
+    }
+    channel.remove_receive_waiter(slot);
+    Answer::Done
 }
 
 /// Every channel follows its promises, over any buffer and in every run from a sound state that owes no wake, so from an opening.
