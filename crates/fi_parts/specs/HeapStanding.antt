@@ -6,7 +6,7 @@ use Rattle.fi_parts.specs.declared.heap_nodes.Back.{Back}
 use Rattle.fi_parts.specs.declared.heap_nodes.Back.TheVariants.{Root, Parent, Sibling}
 use Rattle.fi_parts.specs.declared.heap_nodes.HeapLinks.{HeapLinks}
 
--- the link that leads to a node that stands so
+-- the link that leads to a node of this standing
 abbrev pub back_at : Standing → Option Back
 back_at Top = Some Root
 back_at (Under x) = Some (Parent x)

@@ -233,15 +233,13 @@ fn room_is_found_beside_others(rt: HostRuntime) -> Result<(), Fail> {
     assert_eq!(rt; outbox.len(), 4);
     let mut waits: Waits<u32, u64> = Waits::new(rt.alloc());
     let oldest = waits.make(1)?;
+    assert!(rt; waits.phase(oldest).is_some());
     waits.register(oldest, 7);
-    let next = waits.make(2)?;
-    waits.register(next, 8);
-    assert!(rt; waits.make(3).is_ok());
+    assert!(rt; waits.make(2).is_ok());
     let mut deadlines: Deadlines<u64> = Deadlines::new(rt.alloc());
     let first = deadlines.insert(5)?;
+    assert!(rt; deadlines.is_fresh(first));
     deadlines.register(first, 7);
-    let second = deadlines.insert(3)?;
-    deadlines.register(second, 8);
     assert!(rt; deadlines.insert(4).is_ok());
     Ok(())
 }
