@@ -1,6 +1,7 @@
 //! The channel of many values that threads share.
 ghost use Rattle.std.specs.Prelude.{◌≡◌, false, IfOk, IfErr};
 ghost use Rattle.fi_parts.specs.declared.errors.Fault.{Fault};
+ghost use Rattle.fi_channels.specs.ChannelErrors.{value_in};
 
 use crate::channel_stream::ChannelStream;
 use crate::claim::Claim;
@@ -11,7 +12,7 @@ use crate::slot_future::SlotFuture;
 use crate::wakes::HasOutbox;
 use fi_channels::{ChannelState, TryReceiveError, TrySendError};
 use fi_parts::buffer::{ArrayBuf, GrowingHeapBuf, RingBuf};
-use fi_parts::{CloseStatus, Fault, NoRoom};
+use fi_parts::{CloseStatus, Fault, NoRoom, Slot};
 use futures::task::Waker;
 use std::alloc::Global;
 use std::marker::Model;
@@ -64,9 +65,16 @@ impl<T: Drop, B: RingBuf<Item = T>, R: Drop> GenericChannel<T, B, R> {
 impl<T: Drop, B: RingBuf<Item = T>, R: Wait> GenericChannel<T, B, R> {
     /// Sends a value at once, if the channel is open and its buffer has room, and wakes the oldest receive that waits. Else the
     /// value comes back. Keeps `GenericChannel::try_send`.
-    pub fn try_send(&self, value: T) -> Result<(), TrySendError<T>> {
-        self.monitor
-            .call(value, |channel, value| channel.try_send(value))
+    pub fn try_send(&self, value: T) -> Result<(), TrySendError<T>>
+        ensures handed_back { IfErr result (λ refused. value_in refused ≡ value) }
+    {
+        let try_send = |channel: &mut ChannelState<T, B, Waker>, value: T| -> Result<
+            (),
+            TrySendError<T>,
+        >
+            ensures { IfErr result (λ refused. value_in refused ≡ value) }
+        { channel.try_send(value) };
+        self.monitor.call(value, try_send)
     }
 
     /// Receives the oldest value at once, if there is one. Keeps `GenericChannel::try_receive`.
@@ -86,10 +94,12 @@ impl<T: Drop, B: RingBuf<Item = T>, R: Wait> GenericChannel<T, B, R> {
         value: T,
     ) -> Result<ChannelSendFuture<'_, ChannelState<T, B, Waker>, R>, NoRoom<T>>
         ensures made { IfOk result (λ future. future ≡ record { source = self.now; has_ended = false }) }
+        ensures handed_back { IfErr result (λ failed. failed.0 ≡ value) }
     {
-        let slot = self
-            .monitor
-            .call(value, |channel, value| channel.claim_send(value))?;
+        let claim = |channel: &mut ChannelState<T, B, Waker>, value: T| -> Result<Slot, NoRoom<T>>
+            ensures { IfErr result (λ failed. failed.0 ≡ value) }
+        { channel.claim_send(value) };
+        let slot = self.monitor.call(value, claim)?;
         Ok(SlotFuture::new(&self.monitor, Claim::of(slot)))
     }
 

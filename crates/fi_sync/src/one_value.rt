@@ -50,9 +50,16 @@ impl<T: Drop, G: GivesValue<T>, R> OneValueChannel<T, G, R> {
 impl<T: Drop, G: GivesValue<T>, R: Wait> OneValueChannel<T, G, R> {
     /// Sends the one value, and wakes the receives that it is for. Refused, with the value, where one was sent before or the
     /// channel is closed. Keeps `OneshotChannel::send`.
-    pub fn send(&self, value: T) -> Result<(), ChannelSendError<T>> {
-        self.monitor
-            .call(value, |channel, value| channel.send(value))
+    pub fn send(&self, value: T) -> Result<(), ChannelSendError<T>>
+        ensures { IfErr result (λ refused. refused.0 ≡ value) }
+    {
+        let send = |channel: &mut OneValueState<T, Waker, G>, value: T| -> Result<
+            (),
+            ChannelSendError<T>,
+        >
+            ensures { IfErr result (λ refused. refused.0 ≡ value) }
+        { channel.send(value) };
+        self.monitor.call(value, send)
     }
 
     /// Closes the channel and wakes all receives that wait, the oldest first. Keeps `OneshotChannel::close`.

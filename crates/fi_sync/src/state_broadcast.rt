@@ -48,11 +48,16 @@ impl<T: Clone, R: Wait> StateBroadcastChannel<T, R> {
     /// Sends the next state and wakes all receives that wait, the oldest first. The state before it is let go after the lock is.
     ///
     /// Refused, with the value, on a closed channel and after `u64::MAX` states. Keeps `StateBroadcastChannel::send`.
-    pub fn send(&self, value: T) -> Result<(), ChannelSendError<T>> {
-        match self
-            .monitor
-            .call(value, |channel, value| channel.replace(value))
-        {
+    pub fn send(&self, value: T) -> Result<(), ChannelSendError<T>>
+        ensures { IfErr result (λ refused. refused.0 ≡ value) }
+    {
+        let replace = |channel: &mut StateBroadcastState<T, Waker>, value: T| -> Result<
+            Option<T>,
+            ChannelSendError<T>,
+        >
+            ensures { IfErr result (λ refused. refused.0 ≡ value) }
+        { channel.replace(value) };
+        match self.monitor.call(value, replace) {
             Ok(_replaced) => Ok(()),
             Err(refused) => Err(refused),
         }
