@@ -4,7 +4,7 @@ use Rattle.std.specs.Ordering.{nat_cmp}
 use Rattle.std.specs.FinMap as finmap
 use Rattle.std.specs.FinSet as set
 use Rattle.fi_parts.specs.NamedPairs.{has_by, waker_by, without_by, waker_in_pair}
-use Rattle.fi_parts.specs.Pairs.{Boxed, has, without_pair, waker_of}
+use Rattle.fi_parts.specs.Pairs.{OutboxModel, has, without_pair, waker_of}
 use Rattle.fi_parts.specs.Tied.{out_of, IsTied}
 use Rattle.fi_channels.specs.Waiter.{same_waiter, ticket_of_waiter}
 use Rattle.fi_channels.specs.declared.two_sides.Waiter.{Waiter}
@@ -44,7 +44,7 @@ module _ (s r : Tickets) where
   others_of_remove_receive n (Send m) ne = refl
   others_of_remove_receive n (Receive m) ne = get-remove_other r n m (λ e. ne (ap Receive e))
 
-  module _ {W : Type 0} (box : Boxed (Waiter × W)) (was : IsTied (ticket_of_waiter s r) box.tickets box.pairs) where
+  module _ {W : Type 0} (box : OutboxModel (Waiter × W)) (was : IsTied (ticket_of_waiter s r) box.tickets box.pairs) where
     pub send-inserted : (n t : ℕ) → finmap.get s n ≡ None → set.contains box.tickets t ≡ false →
         IsTied (ticket_of_waiter (finmap.insert s n t) r) (set.insert box.tickets t) box.pairs
     send-inserted n t free unused =

@@ -22,8 +22,8 @@ use Rattle.fi_parts.specs.WakerHistory.{WakerEffect, gives}
 use Rattle.fi_parts.specs.WakerHistory.WakerEffect.{Pends, Leaves, NoEffect}
 use Rattle.fi_parts.specs.Waiting.{asks_in}
 use Rattle.fi_parts.proofs.FiniteMaps.{get-insert_same}
-use Rattle.fi_parts.specs.Waiting.{Side, Waiting, phase_of, phase_in, asks_of, is_registered, made, registered, stays, ended}
-use Rattle.fi_parts.specs.Waiting.{forgotten, exchange, emptied, noticed, IsOrdered}
+use Rattle.fi_parts.specs.Waiting.{Waiters, Waiting, phase_of, phase_in, asks_of, is_registered, insert_fresh, registered, stays, ended}
+use Rattle.fi_parts.specs.Waiting.{without_future, exchange, clear_queue, noticed, IsOrdered}
 use Rattle.fi_parts.proofs.Effects.{some_phase, registered_as}
 use Rattle.fi_parts.proofs.Oldest.{phase-with_asks}
 use Rattle.fi_parts.proofs.Sound.{none_registered, sound-forgotten}
@@ -50,7 +50,7 @@ use Rattle.fi_channels.specs.declared.two_sides.Waiter.{Waiter}
 use Rattle.fi_channels.specs.declared.two_sides.Waiter.TheVariants.{Send, Receive}
 use Rattle.fi_channels.specs.TwoSidedEffects.{TwoSidedEffect, TakesOn, AllowsTwoSided, on_sends, on_receives}
 use Rattle.fi_channels.specs.TwoSidedEffects.TwoSidedEffect.{OnSends, OnReceives, PopsFirst, Then}
-use Rattle.fi_channels.specs.ChannelFields.{Waiters}
+use Rattle.fi_channels.specs.ChannelFields.{ChannelWaiters}
 use Rattle.fi_channels.specs.TwoSidedMachine.{TwoSidedLine, TwoSidedStep}
 use Rattle.fi_channels.specs.Waiter.{same_waiter, sends_in, receives_in}
 use Rattle.std.specs.Ordering.{nat_cmp}
@@ -68,11 +68,11 @@ sent_effect name waker (Ready (Err (send_fault.Fault fault))) = NoEffect
 sent_effect name waker (Ready answer) = Leaves name
 
 -- Whoever sends and waits finds the channel open and its buffer full.
-abbrev Waits : {T W : Type 0} → Buffered T → Side (Option T) W → Type 0
+abbrev Waits : {T W : Type 0} → Buffered T → Waiters (Option T) W → Type 0
 Waits own sends = (name : ℕ) → is_registered (phase_of sends name) ≡ true → (own.is_open ≡ true) × (has_room own ≡ false)
 
 -- What holds of a buffer, the sends and the receives, beside the order of the queues and of out.
-record Keeps {T W : Type 0} (own : Buffered T) (sending : Side (Option T) W) (receiving : Side ReceiveKind W) : Type 0 where
+record Keeps {T W : Type 0} (own : Buffered T) (sending : Waiters (Option T) W) (receiving : Waiters ReceiveKind W) : Type 0 where
   owned : Owned sending
   buffer : Fits own.buffer
   told : Enough receiving (length own.buffer.items + length sending.queue)
@@ -110,7 +110,7 @@ module _ {W : Type 0} where
   given_leaves (Some Stream) name = refl
 
   -- what was given an item
-  given_becomes : (kind : Option ReceiveKind) (old new : Side ReceiveKind W) (name : ℕ) (out after : List (Waiter × W)) →
+  given_becomes : (kind : Option ReceiveKind) (old new : Waiters ReceiveKind W) (name : ℕ) (out after : List (Waiter × W)) →
       TakesOn Receive same_waiter (is_given kind name) old out new after →
       (phase : Phase W) × (is_registered (Some phase) ≡ false)
       × Becomes old new name (Some phase) × (asks_of new name ≡ asks_of old name)
@@ -118,25 +118,25 @@ module _ {W : Type 0} where
       let p = some_phase (phase_of old name) did.0 in (
         Ended,
         refl,
-        subst (λ (s : Side ReceiveKind W). Becomes old s name (Some Ended)) (sym did.1)
+        subst (λ (s : Waiters ReceiveKind W). Becomes old s name (Some Ended)) (sym did.1)
             (becomes-with_phase old name Ended old.queue (lives_as old name p.0 p.1)),
-        ap (λ (s : Side ReceiveKind W). asks_of s name) did.1 ∙ asks-with_phase old.live name Ended name,
+        ap (λ (s : Waiters ReceiveKind W). asks_of s name) did.1 ∙ asks-with_phase old.live name Ended name,
       )
   given_becomes (Some Single) old new name out after did =
       let p = some_phase (phase_of old name) did.0 in (
         Ended,
         refl,
-        subst (λ (s : Side ReceiveKind W). Becomes old s name (Some Ended)) (sym did.1)
+        subst (λ (s : Waiters ReceiveKind W). Becomes old s name (Some Ended)) (sym did.1)
             (becomes-with_phase old name Ended old.queue (lives_as old name p.0 p.1)),
-        ap (λ (s : Side ReceiveKind W). asks_of s name) did.1 ∙ asks-with_phase old.live name Ended name,
+        ap (λ (s : Waiters ReceiveKind W). asks_of s name) did.1 ∙ asks-with_phase old.live name Ended name,
       )
   given_becomes (Some Stream) old new name out after did =
       let p = some_phase (phase_of old name) did.0 in (
         Fresh,
         refl,
-        subst (λ (s : Side ReceiveKind W). Becomes old s name (Some Fresh)) (sym did.1)
+        subst (λ (s : Waiters ReceiveKind W). Becomes old s name (Some Fresh)) (sym did.1)
             (becomes-with_phase old name Fresh old.queue (lives_as old name p.0 p.1)),
-        ap (λ (s : Side ReceiveKind W). asks_of s name) did.1 ∙ asks-with_phase old.live name Fresh name,
+        ap (λ (s : Waiters ReceiveKind W). asks_of s name) did.1 ∙ asks-with_phase old.live name Fresh name,
       )
 
   -- a receive of another phase than this is not told
@@ -153,7 +153,7 @@ module _ {W : Type 0} where
 
 module _ {D W : Type 0} where
   -- one name changed, and is not registered
-  not_joined : (old new : Side D W) (name : ℕ) (phase : Option (Phase W)) → Becomes old new name phase →
+  not_joined : (old new : Waiters D W) (name : ℕ) (phase : Option (Phase W)) → Becomes old new name phase →
       is_registered phase ≡ false →
       (q : ℕ) → is_registered (phase_of new q) ≡ true → is_registered (phase_of old q) ≡ true
   not_joined old new name phase becomes off q now = elim (cases_eq q name) [
@@ -163,7 +163,7 @@ module _ {D W : Type 0} where
   ]
 
   -- one that was registered already changed
-  joined_before : (old new : Side D W) (name : ℕ) (phase : Option (Phase W)) → Becomes old new name phase →
+  joined_before : (old new : Waiters D W) (name : ℕ) (phase : Option (Phase W)) → Becomes old new name phase →
       is_registered (phase_of old name) ≡ true →
       (q : ℕ) → is_registered (phase_of new q) ≡ true → is_registered (phase_of old q) ≡ true
   joined_before old new name phase becomes was q now = elim (cases_eq q name) [
@@ -183,19 +183,19 @@ module _ {T W : Type 0} where
   completing_allowed waiting [] = tt
   completing_allowed waiting (name ∷ others) = refl
 
-  pub completes : (queue : List ℕ) (side new : Side (Option T) W) (out after : List (Waiter × W)) → side.queue ≡ queue →
+  pub completes : (queue : List ℕ) (side new : Waiters (Option T) W) (out after : List (Waiter × W)) → side.queue ≡ queue →
       TakesOn Send same_waiter (completes_first None queue) side out new after → new ≡ complete_first None side queue
   completes [] side new out after is did = did.0
   completes (name ∷ others) side new out after is did =
       did.3 ∙ ap (λ (names : List ℕ). noticed Complete (exchange side name None) name names) (ap (drop 1) (sym did.1 ∙ is))
 
-  rest_of : (queue : List ℕ) (side : Side (Option T) W) → side.queue ≡ queue →
+  rest_of : (queue : List ℕ) (side : Waiters (Option T) W) → side.queue ≡ queue →
       (complete_first None side queue).queue ≡ drop 1 queue
   rest_of [] side is = is
   rest_of (name ∷ others) side is = refl
 
   -- who is registered once the oldest completed was so before
-  completed_before : (queue : List ℕ) (side : Side (Option T) W) (out : List (ℕ × W)) → IsOrdered side out →
+  completed_before : (queue : List ℕ) (side : Waiters (Option T) W) (out : List (ℕ × W)) → IsOrdered side out →
       side.queue ≡ queue → (q : ℕ) →
       is_registered (phase_of (complete_first None side queue) q) ≡ true → is_registered (phase_of side q) ≡ true
   completed_before [] side out ordered is q now = now
@@ -233,12 +233,12 @@ module _ {T W : Type 0} where
     abbrev Now : Type 0
     Now = Keeps new.own new.waiting.sends new.waiting.receives
 
-    keeps_at : (own : Buffered T) (sending : Side (Option T) W) (receiving : Side ReceiveKind W) → new.own ≡ own →
+    keeps_at : (own : Buffered T) (sending : Waiters (Option T) W) (receiving : Waiters ReceiveKind W) → new.own ≡ own →
         new.waiting.sends ≡ sending → new.waiting.receives ≡ receiving → Keeps own sending receiving → Now
     keeps_at own sending receiving owns sent received keeps =
         subst (λ (o : Buffered T). Keeps o new.waiting.sends new.waiting.receives) (sym owns)
-        (subst (λ (s : Side (Option T) W). Keeps own s new.waiting.receives) (sym sent)
-        (subst (λ (r : Side ReceiveKind W). Keeps own sending r) (sym received) keeps))
+        (subst (λ (s : Waiters (Option T) W). Keeps own s new.waiting.receives) (sym sent)
+        (subst (λ (r : Waiters ReceiveKind W). Keeps own sending r) (sym received) keeps))
 
     -- The call is a line of the table, and what held holds afterwards.
     abbrev pub Goes : (on_send on_receive : WakerEffect W) → Type 0
@@ -276,7 +276,7 @@ module _ {T W : Type 0} where
     )
 
     -- The sends changed alone, and nobody joined those who wait.
-    sends_alone : (sending : Side (Option T) W) → Was → Owned sending → length sending.queue ≤ length old.waiting.sends.queue →
+    sends_alone : (sending : Waiters (Option T) W) → Was → Owned sending → length sending.queue ≤ length old.waiting.sends.queue →
         ((q : ℕ) → is_registered (phase_of sending q) ≡ true → is_registered (send_phase old q) ≡ true) →
         Keeps old.own sending old.waiting.receives
     sends_alone sending was owned fewer joined = record {
@@ -288,7 +288,7 @@ module _ {T W : Type 0} where
     }
 
     -- One receive changed alone, and did not join those who wait.
-    receives_alone : (receiving : Side ReceiveKind W) (name : ℕ) (phase : Option (Phase W)) → Was →
+    receives_alone : (receiving : Waiters ReceiveKind W) (name : ℕ) (phase : Option (Phase W)) → Was →
         Becomes old.waiting.receives receiving name phase →
         is_told (receive_phase old name) ≡ false →
         ((q : ℕ) → is_registered (phase_of receiving q) ≡ true → is_registered (receive_phase old q) ≡ true) →
@@ -306,32 +306,32 @@ module _ {T W : Type 0} where
         let side = old.waiting.sends in
         let becomes = becomes-made side name (Some value) in
         goes old.own (OnSends (Inserts name (Some value))) did tt was
-        (keeps_at old.own (made side name (Some value)) old.waiting.receives did.0 did.1.0.1 did.1.1
-        (sends_alone (made side name (Some value)) (keeps_of was) (owned-made side name value was.0.owned) (omega arith)
-        (not_joined side (made side name (Some value)) name (Some Fresh) becomes refl)))
+        (keeps_at old.own (insert_fresh side name (Some value)) old.waiting.receives did.0 did.1.0.1 did.1.1
+        (sends_alone (insert_fresh side name (Some value)) (keeps_of was) (owned-made side name value was.0.owned) (omega arith)
+        (not_joined side (insert_fresh side name (Some value)) name (Some Fresh) becomes refl)))
 
     pub makes_receive : (kind : ReceiveKind) (name : ℕ) → MakesReceive old kind name new → Holds old → Goes NoEffect (Leaves name)
     makes_receive kind name did was =
         let side = old.waiting.receives in
         let becomes = becomes-made side name kind in
         goes old.own (OnReceives (Inserts name kind)) did tt was
-        (keeps_at old.own old.waiting.sends (made side name kind) did.0 did.1.1 did.1.0.1
-        (receives_alone (made side name kind) name (Some Fresh) (keeps_of was) becomes (ap is_told did.1.0.0)
-        (not_joined side (made side name kind) name (Some Fresh) becomes refl)))
+        (keeps_at old.own old.waiting.sends (insert_fresh side name kind) did.0 did.1.1 did.1.0.1
+        (receives_alone (insert_fresh side name kind) name (Some Fresh) (keeps_of was) becomes (ap is_told did.1.0.0)
+        (not_joined side (insert_fresh side name kind) name (Some Fresh) becomes refl)))
 
     pub cancels_send : (name : ℕ) (answer : Option T) → CancelsSend old name answer new → Holds old → Goes (Leaves name) NoEffect
     cancels_send name answer did was =
         let side = old.waiting.sends in
         goes old.own (OnSends (Removes name)) did.1 tt was
-        (keeps_at old.own (forgotten side name) old.waiting.receives did.1.0 did.1.1.0.1 did.1.1.1
-        (sends_alone (forgotten side name) (keeps_of was) (owned-forgotten side name was.0.owned) (shorter name side.queue)
-        (not_joined side (forgotten side name) name None (becomes-forgotten side name) refl)))
+        (keeps_at old.own (without_future side name) old.waiting.receives did.1.0 did.1.1.0.1 did.1.1.1
+        (sends_alone (without_future side name) (keeps_of was) (owned-forgotten side name was.0.owned) (shorter name side.queue)
+        (not_joined side (without_future side name) name None (becomes-forgotten side name) refl)))
 
     pub wakes : (answer : Option W) → Wakes old answer new → Holds old → Goes (gives answer) (gives answer)
     wakes answer did was =
         goes old.own (PopsFirst answer) did tt was
-        (keeps_at old.own old.waiting.sends old.waiting.receives did.0 (ap (λ (m : Waiters T W). m.sends) did.1.1)
-        (ap (λ (m : Waiters T W). m.receives) did.1.1) (keeps_of was))
+        (keeps_at old.own old.waiting.sends old.waiting.receives did.0 (ap (λ (m : ChannelWaiters T W). m.sends) did.1.1)
+        (ap (λ (m : ChannelWaiters T W). m.receives) did.1.1) (keeps_of was))
 
     line_closes : (status : CloseStatus) (is_open : Bool) → ClosesAt is_open old status new → Holds old → Goes NoEffect NoEffect
     line_closes status false did was = unchanged did.1 was
@@ -342,8 +342,8 @@ module _ {T W : Type 0} where
         let nobody = λ (q : ℕ). unregistered_fresh (phase_of sides.receives q) in
         goes (record old.own { is_open = false }) (Then (OnReceives (NotifiesAll Renew)) (OnSends (NotifiesAll Renew))) step
         (refl, λ m did2. refl, refl, refl) was
-        (keeps_at (record old.own { is_open = false }) (emptied Fresh sides.sends) (emptied Fresh sides.receives) step.0
-        (step.1.2.0.0 ∙ ap (emptied Fresh) step.1.1.1) (step.1.2.1 ∙ step.1.1.0.0) (record {
+        (keeps_at (record old.own { is_open = false }) (clear_queue Fresh sides.sends) (clear_queue Fresh sides.receives) step.0
+        (step.1.2.0.0 ∙ ap (clear_queue Fresh) step.1.1.1) (step.1.2.1 ∙ step.1.1.0.0) (record {
           owned = owned-emptied sides.sends (sends_in sides.out) was.0.waiters.sends.ordered was.0.owned;
           buffer = was.0.buffer;
           told = λ q now. absurd (both_ways _ (ap is_registered (phase-emptied Fresh sides.receives (receives_in sides.out) q
@@ -356,7 +356,7 @@ module _ {T W : Type 0} where
     closes status did was = line_closes status old.own.is_open did was
 
     -- One value more, and the oldest receive was told.
-    told_one_more : (own : Buffered T) (sending : Side (Option T) W) → Holds old → Owned sending → Fits own.buffer →
+    told_one_more : (own : Buffered T) (sending : Waiters (Option T) W) → Holds old → Owned sending → Fits own.buffer →
         length own.buffer.items + length sending.queue ≡ suc (value_count old) → Waits own sending →
         Keeps own sending (pop_oldest Told old.waiting.receives)
     told_one_more own sending was owned fits more waits = record {
@@ -395,10 +395,10 @@ module _ {T W : Type 0} where
         (λ q now. absurd (both_ways _ (was.1.sends q now).1 did.1))))
 
     -- The oldest send completed, and the next value is gone.
-    abbrev completed_side : Side (Option T) W
+    abbrev completed_side : Waiters (Option T) W
     completed_side = complete_oldest None old.waiting.sends
 
-    taken_keeps : (next : T × Bounded T) (receiving : Side ReceiveKind W) → next_of old ≡ Some next → Holds old →
+    taken_keeps : (next : T × Bounded T) (receiving : Waiters ReceiveKind W) → next_of old ≡ Some next → Holds old →
         ((n : ℕ) → value_count old ≡ suc n → Enough receiving n) →
         Keeps (record old.own { buffer = next.1 }) completed_side receiving
     taken_keeps next receiving took was enough =
@@ -448,9 +448,9 @@ module _ {T W : Type 0} where
         let side = old.waiting.receives in
         let becomes = becomes-forgotten side name in
         goes old.own (OnReceives (Removes name)) step tt was
-        (keeps_at old.own old.waiting.sends (forgotten side name) step.0 step.1.1 step.1.0.1
-        (receives_alone (forgotten side name) name None (keeps_of was) becomes (ap is_told is ∙ off)
-        (not_joined side (forgotten side name) name None becomes refl)))
+        (keeps_at old.own old.waiting.sends (without_future side name) step.0 step.1.1 step.1.0.1
+        (receives_alone (without_future side name) name None (keeps_of was) becomes (ap is_told is ∙ off)
+        (not_joined side (without_future side name) name None becomes refl)))
 
     cancels_as : (phase : Option (Phase W)) (name : ℕ) → receive_phase old name ≡ phase →
         CancelsReceiveAs phase old name new → Holds old →
@@ -458,7 +458,7 @@ module _ {T W : Type 0} where
     cancels_as (Some Told) name is step was =
         let side = old.waiting.receives in
         goes old.own (Then (OnReceives (Removes name)) tells_oldest) step (tt, λ m did2. refl, refl, refl) was
-        (keeps_at old.own old.waiting.sends (pop_oldest Told (forgotten side name)) step.0 (step.1.2.1 ∙ step.1.1.1)
+        (keeps_at old.own old.waiting.sends (pop_oldest Told (without_future side name)) step.0 (step.1.2.1 ∙ step.1.1.1)
         (step.1.2.0.0 ∙ ap (pop_oldest Told) step.1.1.0.1) (record {
           owned = was.0.owned;
           buffer = was.0.buffer;
@@ -486,23 +486,23 @@ module _ {T W : Type 0} where
     Sends answer = Goes old new (sent_effect name waker answer) NoEffect × (is_some (send_phase new name) ≡ true)
 
     -- nothing is there, so nobody need be told
-    nobody_owed : (receiving : Side ReceiveKind W) → next_of old ≡ None → Holds old → Enough receiving (value_count old)
+    nobody_owed : (receiving : Waiters ReceiveKind W) → next_of old ≡ None → Holds old → Enough receiving (value_count old)
     nobody_owed receiving none was =
         let zero = nothing_left old.own.buffer old.own.buffer.items old.waiting.sends.queue (option_flatten
         (asks_of_oldest old.waiting.sends))
         (fronts_of old was old.waiting.sends.queue refl) none in
         enough_fewer receiving (value_count old) 0 (omega (arith, zero)) (λ q now. none_told receiving)
 
-    quiet_keeps : (receiving : Side ReceiveKind W) → next_of old ≡ None → Holds old → Keeps old.own old.waiting.sends receiving
+    quiet_keeps : (receiving : Waiters ReceiveKind W) → next_of old ≡ None → Holds old → Keeps old.own old.waiting.sends receiving
     quiet_keeps receiving none was =
         record { owned = was.0.owned; buffer = was.0.buffer; told = nobody_owed receiving none was; waits = was.1.sends }
 
-    lives_received : (receiving : Side ReceiveKind W) (phase : Phase W) → new.waiting.receives ≡ receiving →
+    lives_received : (receiving : Waiters ReceiveKind W) (phase : Phase W) → new.waiting.receives ≡ receiving →
         phase_of receiving name ≡ Some phase → asks_of receiving name ≡ kind_of old name →
         (is_some (receive_phase new name) ≡ true) × (kind_of new name ≡ kind_of old name)
     lives_received receiving phase is here asks = (
-      ap (λ (s : Side ReceiveKind W). is_some (phase_of s name)) is ∙ ap is_some here,
-      ap (λ (s : Side ReceiveKind W). asks_of s name) is ∙ asks,
+      ap (λ (s : Waiters ReceiveKind W). is_some (phase_of s name)) is ∙ ap is_some here,
+      ap (λ (s : Waiters ReceiveKind W). asks_of s name) is ∙ asks,
     )
 
     takes_next : (next : Option (T × Bounded T)) (is_open : Bool) (answer : Poll (Option T)) → next_of old ≡ next →
@@ -515,9 +515,9 @@ module _ {T W : Type 0} where
         let given = given_becomes kind old.waiting.receives mid.receives name old.waiting.out mid.out step.1.1.0 in
         let received : new.waiting.receives ≡ mid.receives = step.1.2.1 in
         let sent : new.waiting.sends ≡ completed_side old new =
-        completes queue mid.sends new.waiting.sends mid.out new.waiting.out (ap (λ (s : Side
+        completes queue mid.sends new.waiting.sends mid.out new.waiting.out (ap (λ (s : Waiters
         (Option T) W). s.queue) step.1.1.1) step.1.2.0
-        ∙ ap (λ (s : Side (Option T) W). complete_first None s queue) step.1.1.1 in
+        ∙ ap (λ (s : Waiters (Option T) W). complete_first None s queue) step.1.1.1 in
         subst Receives (sym did.0) (
           subst (λ (e : WakerEffect W). Goes old new NoEffect e) (given_leaves kind name)
               (goes old new (record old.own { buffer = next.1 }) (Then (OnReceives (is_given kind name))
@@ -611,7 +611,7 @@ module _ {T W : Type 0} where
     still_streams can answer now = ap (λ kind. can_stream kind (receive_phase new name)) now.1.1
         ∙ can_still (kind_of old name) (receive_phase old name) (receive_phase new name) can now.1.0
 
-    abbrev finished_side : Side (Option T) W
+    abbrev finished_side : Waiters (Option T) W
     finished_side = exchange (ended old.waiting.sends name) name None
 
     finished_becomes : (before : Phase W) → send_phase old name ≡ Some before →
@@ -625,9 +625,9 @@ module _ {T W : Type 0} where
           others = λ q ne. phase-with_asks live name None q ∙ becomes.others q ne;
         }
 
-    lives_sent : (sending : Side (Option T) W) (phase : Phase W) → new.waiting.sends ≡ sending →
+    lives_sent : (sending : Waiters (Option T) W) (phase : Phase W) → new.waiting.sends ≡ sending →
         phase_of sending name ≡ Some phase → is_some (send_phase new name) ≡ true
-    lives_sent sending phase is here = ap (λ (s : Side (Option T) W). is_some (phase_of s name)) is ∙ ap is_some here
+    lives_sent sending phase is here = ap (λ (s : Waiters (Option T) W). is_some (phase_of s name)) is ∙ ap is_some here
 
     fresh_sends : (is_open room : Bool) (asks : Option T) (answer : Poll (Result (Unit {0}) (SendFault T))) →
         send_phase old name ≡ Some Fresh →
@@ -639,7 +639,7 @@ module _ {T W : Type 0} where
         let did2 = step.1.0 in
         let becomes = finished_becomes Fresh fresh in
         let sent : new.waiting.sends ≡ finished_side =
-        did2.3.1 ∙ ap (λ (s : Side (Option T) W). exchange s name None) did2.2.1 in
+        did2.3.1 ∙ ap (λ (s : Waiters (Option T) W). exchange s name None) did2.2.1 in
         subst Sends (sym did.0) (
           goes old new old.own (OnSends (finishes name)) step (tt, λ m d. tt, refl) was
               (keeps_at old new old.own finished_side old.waiting.receives step.0 sent step.1.1
@@ -654,7 +654,7 @@ module _ {T W : Type 0} where
         let did2 = step.1.1.0 in
         let becomes = finished_becomes Fresh fresh in
         let sent : new.waiting.sends ≡ finished_side =
-        step.1.2.1 ∙ did2.3.1 ∙ ap (λ (s : Side (Option T) W). exchange s name None) did2.2.1 in
+        step.1.2.1 ∙ did2.3.1 ∙ ap (λ (s : Waiters (Option T) W). exchange s name None) did2.2.1 in
         subst Sends (sym did.0) (
           goes old new own (Then (OnSends (finishes name)) tells_oldest) step ((tt, λ m d. tt, refl), λ m d. refl, refl, refl) was
               (keeps_at old new own finished_side (pop_oldest Told old.waiting.receives) step.0 sent
@@ -750,15 +750,15 @@ module _ {T W : Type 0} where
   -- a send, or a receive, that was just made may be polled
   pub send_pollable : (old new : ChannelMachine T W) (value : T) (name : ℕ) → MakesSend old value name new →
       can_send (send_phase new name) ≡ true
-  send_pollable old new value name did = ap (λ (s : Side (Option T) W). can_send (phase_of s name)) did.1.0.1
+  send_pollable old new value name did = ap (λ (s : Waiters (Option T) W). can_send (phase_of s name)) did.1.0.1
       ∙ ap can_send (becomes-made old.waiting.sends name (Some value)).here
 
   pub kind_made : (old new : ChannelMachine T W) (kind : ReceiveKind) (name : ℕ) → MakesReceive old kind name new →
       kind_of new name ≡ Some kind
-  kind_made old new kind name did = ap (λ (s : Side ReceiveKind W). asks_of s name) did.1.0.1
+  kind_made old new kind name did = ap (λ (s : Waiters ReceiveKind W). asks_of s name) did.1.0.1
       ∙ ap asks_in (get-insert_same old.waiting.receives.live name _)
 
   pub phase_made : (old new : ChannelMachine T W) (kind : ReceiveKind) (name : ℕ) → MakesReceive old kind name new →
       receive_phase new name ≡ Some Fresh
-  phase_made old new kind name did = ap (λ (s : Side ReceiveKind W). phase_of s name) did.1.0.1
+  phase_made old new kind name did = ap (λ (s : Waiters ReceiveKind W). phase_of s name) did.1.0.1
       ∙ (becomes-made old.waiting.receives name kind).here

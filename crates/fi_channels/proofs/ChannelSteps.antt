@@ -16,8 +16,8 @@ use Rattle.fi_parts.specs.declared.phase.Phase.TheVariants.{Fresh, Registered, T
 use Rattle.fi_parts.specs.Buffer.{Bounded, Fits, pushed}
 use Rattle.fi_parts.specs.NamedPairs.{without_by}
 use Rattle.fi_parts.specs.Oldest.{pop_oldest, pair_of_oldest}
-use Rattle.fi_parts.specs.Waiting.{Side, phase_of, phase_in, asks_of, asks_in, is_registered, may_be_named, with_phase}
-use Rattle.fi_parts.specs.Waiting.{with_asks, exchange, ended, registered, forgotten, IsLive, IsOrdered}
+use Rattle.fi_parts.specs.Waiting.{Waiters, phase_of, phase_in, asks_of, asks_in, is_registered, may_be_named, with_phase}
+use Rattle.fi_parts.specs.Waiting.{with_asks, exchange, ended, registered, without_future, IsLive, IsOrdered}
 use Rattle.fi_parts.proofs.Waiting.{get-with_phase, get-with_phase_other, lives_as, becomes-with_phase, asks-with_phase}
 use Rattle.fi_parts.proofs.Oldest.{get-with_asks, get-with_asks_other, phase-with_asks}
 use Rattle.fi_parts.proofs.PairsWithin.{none_some, some_same}
@@ -34,7 +34,7 @@ use Rattle.fi_channels.specs.Channel.{has_room, Stores}
 use Rattle.fi_channels.specs.Channel.{can_take, is_given, finishes, tells_oldest, completes_oldest, next_of}
 use Rattle.fi_channels.specs.Channel.{SendsAs, FreshSends, PollsReceive, ReceivesAs, TakesNext, CancelsReceive}
 use Rattle.fi_channels.specs.Channel.{CancelsReceiveAs, Closes, ClosesAt}
-use Rattle.fi_channels.specs.ChannelFields.{Waiters, machine, phase_given, Takes, TakesAt}
+use Rattle.fi_channels.specs.ChannelFields.{ChannelWaiters, machine, phase_given, Takes, TakesAt}
 use Rattle.fi_channels.specs.TwoSidedEffects.{TakesOn, TakesTwoSided}
 use Rattle.fi_channels.specs.TwoSidedEffects.TwoSidedEffect.{OnSends}
 use Rattle.fi_channels.specs.TwoSidesModel.{notify_sends, notify_receives}
@@ -44,7 +44,7 @@ use Rattle.fi_channels.proofs.Sides.{receives-without_send}
 use Rattle.fi_channels.proofs.TwoSidedEffects.{oldest_completes}
 
 module _ {D W : Type 0} where
-  pub future_there : (side : Side D W) (name : ℕ) (phase : Phase W) → phase_of side name ≡ Some phase →
+  pub future_there : (side : Waiters D W) (name : ℕ) (phase : Phase W) → phase_of side name ≡ Some phase →
       (future : Future D W) × (map.get side.live name ≡ Some future)
   future_there side name phase is = each (map.get side.live name) is
     where
@@ -95,24 +95,26 @@ stored {T} buffer left is_open value is grows stays fits = (
 
 module _ {T W : Type 0} where
   -- the oldest receive was told
-  abbrev told : Waiters T W → Waiters T W
+  abbrev told : ChannelWaiters T W → ChannelWaiters T W
   told waiters = record waiters {
     receives = pop_oldest Told waiters.receives;
     out = waiters.out ++ of_receives (pair_of_oldest waiters.receives);
   }
 
-  tells : (mid new : Waiters T W) → new ≡ told mid → TakesTwoSided tells_oldest mid new
-  tells mid new now =
-      ((ap (λ (v : Waiters T W). v.receives) now, ap (λ (v : Waiters T W). v.out) now), ap (λ (v : Waiters T W). v.sends) now)
+  tells : (mid new : ChannelWaiters T W) → new ≡ told mid → TakesTwoSided tells_oldest mid new
+  tells mid new now = (
+    (ap (λ (v : ChannelWaiters T W). v.receives) now, ap (λ (v : ChannelWaiters T W). v.out) now),
+    ap (λ (v : ChannelWaiters T W). v.sends) now,
+  )
 
   -- who lives still does without a pair
-  pub unpaired_lives : (one two : Waiters T W) (name : ℕ) (out : List (Waiter × W)) → two ≡ record one { out = out } →
+  pub unpaired_lives : (one two : ChannelWaiters T W) (name : ℕ) (out : List (Waiter × W)) → two ≡ record one { out = out } →
       IsLive one.sends name →
       IsLive two.sends name
-  unpaired_lives one two name out is lives = subst (λ (v : Waiters T W). IsLive v.sends name) (sym is) lives
+  unpaired_lives one two name out is lives = subst (λ (v : ChannelWaiters T W). IsLive v.sends name) (sym is) lives
 
   -- the phase that a receive has which was given an item
-  pub given_phase : (taken new : Waiters T W) (name : ℕ) (kind : Option ReceiveKind) (phase : Phase W) →
+  pub given_phase : (taken new : ChannelWaiters T W) (name : ℕ) (kind : Option ReceiveKind) (phase : Phase W) →
       phase ≡ phase_given kind →
       kind ≡ asks_of taken.receives name →
       new ≡ record taken { receives = record taken.receives { live = with_phase taken.receives.live name phase } } →
@@ -123,37 +125,37 @@ module _ {T W : Type 0} where
         };
       }
   given_phase taken new name kind phase is asks now =
-      now ∙ ap (λ (p : Phase W). let after : Waiters T W = record taken {
+      now ∙ ap (λ (p : Phase W). let after : ChannelWaiters T W = record taken {
         receives = record taken.receives { live = with_phase taken.receives.live name p };
       } in after) (is ∙ ap phase_given asks)
 
-module _ {T W : Type 0} (buffer : Bounded T) (waiters : Waiters T W) (is_open : Bool) (name : ℕ) where
+module _ {T W : Type 0} (buffer : Bounded T) (waiters : ChannelWaiters T W) (is_open : Bool) (name : ℕ) where
   abbrev Old : ChannelMachine T W
   Old = machine buffer waiters is_open
 
   -- the sends and receives without the pair of this receive, or of this send
-  abbrev no_receive_pair : Waiters T W
+  abbrev no_receive_pair : ChannelWaiters T W
   no_receive_pair = record waiters { out = without_by same_waiter (Receive name) waiters.out }
 
-  abbrev no_send_pair : Waiters T W
+  abbrev no_send_pair : ChannelWaiters T W
   no_send_pair = record waiters { out = without_by same_waiter (Send name) waiters.out }
 
-  pub sound_unpaired : IsSound Old → (mid : Waiters T W) → mid ≡ no_receive_pair → IsSound (machine buffer mid is_open)
-  sound_unpaired sound mid is = subst (λ (v : Waiters T W). IsSound (machine buffer v is_open)) (sym is) (record {
+  pub sound_unpaired : IsSound Old → (mid : ChannelWaiters T W) → mid ≡ no_receive_pair → IsSound (machine buffer mid is_open)
+  sound_unpaired sound mid is = subst (λ (v : ChannelWaiters T W). IsSound (machine buffer v is_open)) (sym is) (record {
     waiters = both_sound-take_out_receive is_send_phase is_receive_phase waiters name sound.waiters;
     owned = sound.owned;
     buffer = sound.buffer;
   })
 
   -- A receive was removed.
-  abbrev removed : Waiters T W
-  removed = record no_receive_pair { receives = forgotten waiters.receives name }
+  abbrev removed : ChannelWaiters T W
+  removed = record no_receive_pair { receives = without_future waiters.receives name }
 
-  pub ordered_removed : IsSound Old → (mid : Waiters T W) → mid ≡ removed → IsOrdered mid.receives (receives_in mid.out)
-  ordered_removed sound mid is = subst (λ (v : Waiters T W). IsOrdered v.receives (receives_in v.out)) (sym is)
+  pub ordered_removed : IsSound Old → (mid : ChannelWaiters T W) → mid ≡ removed → IsOrdered mid.receives (receives_in mid.out)
+  ordered_removed sound mid is = subst (λ (v : ChannelWaiters T W). IsOrdered v.receives (receives_in v.out)) (sym is)
       (both_sound-remove_receive is_send_phase is_receive_phase waiters name refl sound.waiters).receives.ordered
 
-  pub told_cancels : phase_of waiters.receives name ≡ Some Told → (mid new : Waiters T W) → mid ≡ removed → new ≡ told mid →
+  pub told_cancels : phase_of waiters.receives name ≡ Some Told → (mid new : ChannelWaiters T W) → mid ≡ removed → new ≡ told mid →
       CancelsReceive Old name (machine buffer new is_open)
   told_cancels was mid new is now =
       subst (λ (p : Option (Phase W)). CancelsReceiveAs p Old name (machine buffer new is_open)) (sym was) (
@@ -163,17 +165,17 @@ module _ {T W : Type 0} (buffer : Bounded T) (waiters : Waiters T W) (is_open : 
           (
             (
               lives_as waiters.receives name Told was,
-              ap (λ (v : Waiters T W). v.receives) is,
-              ap (λ (v : Waiters T W). v.out) is,
+              ap (λ (v : ChannelWaiters T W). v.receives) is,
+              ap (λ (v : ChannelWaiters T W). v.out) is,
             ),
-            ap (λ (v : Waiters T W). v.sends) is,
+            ap (λ (v : ChannelWaiters T W). v.sends) is,
           ),
           tells mid new now,
         ),
       )
 
   -- A receive was given an item.
-  abbrev given : Waiters T W
+  abbrev given : ChannelWaiters T W
   given = record no_receive_pair {
     receives = record waiters.receives {
       live = with_phase waiters.receives.live name (phase_given (asks_of waiters.receives name));
@@ -188,7 +190,7 @@ module _ {T W : Type 0} (buffer : Bounded T) (waiters : Waiters T W) (is_open : 
   given_by (Some Stream) may = (may, refl, refl)
 
   takes_given : (waker : W) → IsSound Old → may_be_named (phase_of waiters.receives name) ≡ true →
-      (next : Option (T × Bounded T)) (value : T) (left : Bounded T) (taken new : Waiters T W) →
+      (next : Option (T × Bounded T)) (value : T) (left : Bounded T) (taken new : ChannelWaiters T W) →
       TakesAt next buffer no_receive_pair (Some value) left taken →
       new ≡ record taken {
         receives = record taken.receives {
@@ -204,8 +206,8 @@ module _ {T W : Type 0} (buffer : Bounded T) (waiters : Waiters T W) (is_open : 
       (
         given,
         (given_by (asks_of waiters.receives name) may, refl),
-        subst (λ (v : Waiters T W). TakesTwoSided (completes_oldest Old) given v)
-            (sym (now ∙ ap (λ (v : Waiters T W). let after : Waiters T W = record v {
+        subst (λ (v : ChannelWaiters T W). TakesTwoSided (completes_oldest Old) given v)
+            (sym (now ∙ ap (λ (v : ChannelWaiters T W). let after : ChannelWaiters T W = record v {
               receives = record v.receives { live = with_phase v.receives.live name (phase_given (asks_of v.receives name)) };
             } in after) took.2)) (
               oldest_completes Send same_waiter is_send_phase None waiters.sends
@@ -236,7 +238,7 @@ module _ {T W : Type 0} (buffer : Bounded T) (waiters : Waiters T W) (is_open : 
 
   pub received : (waker : W) → IsSound Old → can_take (phase_of waiters.receives name) ≡ true →
       is_registered (phase_of waiters.receives name) ≡ false →
-      (value : T) (left : Bounded T) (mid taken new : Waiters T W) (flag : Bool) →
+      (value : T) (left : Bounded T) (mid taken new : ChannelWaiters T W) (flag : Bool) →
       mid ≡ no_receive_pair → Takes buffer mid (Some value) left taken → flag ≡ is_open →
       new ≡ record taken {
         receives = record taken.receives {
@@ -248,10 +250,10 @@ module _ {T W : Type 0} (buffer : Bounded T) (waiters : Waiters T W) (is_open : 
       subst (λ (f : Bool). PollsReceive Old name waker (Ready (Some value)) (machine left new f)) (sym same)
       (received_as waker (phase_of waiters.receives name) can off (Ready (Some value)) (machine left new is_open)
       (takes_given waker sound (may_take (phase_of waiters.receives name) can off) (next_of Old) value left taken new
-      (subst (λ (v : Waiters T W). Takes buffer v (Some value) left taken) is took) now))
+      (subst (λ (v : ChannelWaiters T W). Takes buffer v (Some value) left taken) is took) now))
 
   -- A stream that has ended ends again.
-  pub ends_again : (waker : W) → phase_of waiters.receives name ≡ Some Ended → (new : Waiters T W) → new ≡ no_receive_pair →
+  pub ends_again : (waker : W) → phase_of waiters.receives name ≡ Some Ended → (new : ChannelWaiters T W) → new ≡ no_receive_pair →
       PollsNext Old name waker (Ready None) (machine buffer new is_open)
   ends_again waker was new is =
       subst (λ (p : Option (Phase W)). StreamsAs p Old name waker (Ready None) (machine buffer new is_open)) (sym was) (
@@ -261,13 +263,13 @@ module _ {T W : Type 0} (buffer : Bounded T) (waiters : Waiters T W) (is_open : 
           (
             (
               ap may_be_named was,
-              ap (λ (v : Waiters T W). v.receives) is
-                  ∙ ap (λ (live : map.FinMap nat_cmp (Future ReceiveKind W)). let after : Side ReceiveKind W =
+              ap (λ (v : ChannelWaiters T W). v.receives) is
+                  ∙ ap (λ (live : map.FinMap nat_cmp (Future ReceiveKind W)). let after : Waiters ReceiveKind W =
                   record waiters.receives { live = live } in after)
                   (sym (with_phase-same waiters.receives.live name Ended was)),
-              ap (λ (v : Waiters T W). v.out) is,
+              ap (λ (v : ChannelWaiters T W). v.out) is,
             ),
-            ap (λ (v : Waiters T W). v.sends) is,
+            ap (λ (v : ChannelWaiters T W). v.sends) is,
           ),
         ),
       )
@@ -287,19 +289,19 @@ module _ {T W : Type 0} (buffer : Bounded T) (waiters : Waiters T W) (is_open : 
       (subst (λ (o : Option (Option T)). FreshSends open_now room (option_flatten o) Old name waker answer new) (sym asks) did)))
 
   -- Its value left it, and it ended.
-  abbrev exchanged : Waiters T W
+  abbrev exchanged : ChannelWaiters T W
   exchanged = record waiters { sends = exchange waiters.sends name None }
 
-  pub lives_exchanged : phase_of waiters.sends name ≡ Some Fresh → (mid : Waiters T W) (out : List (Waiter × W)) →
+  pub lives_exchanged : phase_of waiters.sends name ≡ Some Fresh → (mid : ChannelWaiters T W) (out : List (Waiter × W)) →
       mid ≡ record exchanged { out = out } → IsLive mid.sends name
   lives_exchanged fresh mid out is =
-      lives_as mid.sends name Fresh (ap (λ (v : Waiters T W). phase_of v.sends name) is
+      lives_as mid.sends name Fresh (ap (λ (v : ChannelWaiters T W). phase_of v.sends name) is
       ∙ phase-with_asks waiters.sends.live name None name ∙ fresh)
 
-  abbrev finished : Waiters T W
+  abbrev finished : ChannelWaiters T W
   finished = record no_send_pair { sends = exchange (ended waiters.sends name) name None }
 
-  finishes_send : phase_of waiters.sends name ≡ Some Fresh → (mid : Waiters T W) → mid ≡ finished →
+  finishes_send : phase_of waiters.sends name ≡ Some Fresh → (mid : ChannelWaiters T W) → mid ≡ finished →
       TakesTwoSided (OnSends (finishes name)) waiters mid
   finishes_send fresh mid is =
       let live : IsLive waiters.sends name = lives_as waiters.sends name Fresh fresh in
@@ -310,28 +312,28 @@ module _ {T W : Type 0} (buffer : Bounded T) (waiters : Waiters T W) (is_open : 
           (ap may_be_named fresh, refl, refl),
           (
             lives_as (ended waiters.sends name) name Ended becomes.here,
-            ap (λ (v : Waiters T W). v.sends) is,
-            ap (λ (v : Waiters T W). v.out) is,
+            ap (λ (v : ChannelWaiters T W). v.sends) is,
+            ap (λ (v : ChannelWaiters T W). v.out) is,
           ),
         ),
-        ap (λ (v : Waiters T W). v.receives) is,
+        ap (λ (v : ChannelWaiters T W). v.receives) is,
       )
 
   -- It ended, and still owns its value.
-  pub ended_lives : phase_of waiters.sends name ≡ Some Fresh → (one two : Waiters T W) → one ≡ no_send_pair →
+  pub ended_lives : phase_of waiters.sends name ≡ Some Fresh → (one two : ChannelWaiters T W) → one ≡ no_send_pair →
       two ≡ record one { sends = record one.sends { live = with_phase one.sends.live name Ended } } → IsLive two.sends name
   ended_lives fresh one two out phase =
-      subst (λ (v : Waiters T W). IsLive v.sends name)
-      (sym (phase ∙ ap (λ (v : Waiters T W). let after : Waiters T W = record v { sends = ended v.sends name } in after) out))
+      subst (λ (v : ChannelWaiters T W). IsLive v.sends name)
+      (sym (phase ∙ ap (λ (v : ChannelWaiters T W). let after : ChannelWaiters T W = record v { sends = ended v.sends name } in after) out))
       (lives_as (ended waiters.sends name) name Ended
       (becomes-with_phase waiters.sends name Ended waiters.sends.queue (lives_as waiters.sends name Fresh fresh)).here)
 
-  pub ended_asks : (one two : Waiters T W) → one ≡ no_send_pair →
+  pub ended_asks : (one two : ChannelWaiters T W) → one ≡ no_send_pair →
       two ≡ record one { sends = record one.sends { live = with_phase one.sends.live name Ended } } →
       (asks : Option T) → asks_of two.sends name ≡ Some asks → asks_of waiters.sends name ≡ Some asks
   ended_asks one two out phase asks is =
-      sym (ap (λ (v : Waiters T W). asks_of v.sends name)
-      (phase ∙ ap (λ (v : Waiters T W). let after : Waiters T W = record v { sends = ended v.sends name } in after) out)
+      sym (ap (λ (v : ChannelWaiters T W). asks_of v.sends name)
+      (phase ∙ ap (λ (v : ChannelWaiters T W). let after : ChannelWaiters T W = record v { sends = ended v.sends name } in after) out)
       ∙ asks-with_phase waiters.sends.live name Ended name) ∙ is
 
   pub fresh_asks : IsSound Old → phase_of waiters.sends name ≡ Some Fresh → (asks : Option T) →
@@ -345,36 +347,36 @@ module _ {T W : Type 0} (buffer : Bounded T) (waiters : Waiters T W) (is_open : 
   fresh_value sound fresh = some_value (asks_of waiters.sends name) (sound.owned name ∙ ap owns_value fresh)
 
   -- It was ended before its value left it, or after.
-  pub ended_then : (one two three : Waiters T W) → one ≡ no_send_pair →
+  pub ended_then : (one two three : ChannelWaiters T W) → one ≡ no_send_pair →
       two ≡ record one { sends = record one.sends { live = with_phase one.sends.live name Ended } } →
       three ≡ record two { sends = exchange two.sends name None } → three ≡ finished
   ended_then one two three out phase asks =
-      asks ∙ ap (λ (v : Waiters T W). let after : Waiters T W = record v { sends = exchange v.sends name None } in after)
-      (phase ∙ ap (λ (v : Waiters T W). let after : Waiters T W = record v { sends = ended v.sends name } in after) out)
+      asks ∙ ap (λ (v : ChannelWaiters T W). let after : ChannelWaiters T W = record v { sends = exchange v.sends name None } in after)
+      (phase ∙ ap (λ (v : ChannelWaiters T W). let after : ChannelWaiters T W = record v { sends = ended v.sends name } in after) out)
 
-  pub exchanged_then : phase_of waiters.sends name ≡ Some Fresh → (one two three : Waiters T W) → one ≡ exchanged →
+  pub exchanged_then : phase_of waiters.sends name ≡ Some Fresh → (one two three : ChannelWaiters T W) → one ≡ exchanged →
       two ≡ record one { out = without_by same_waiter (Send name) one.out } →
       three ≡ record two { sends = record two.sends { live = with_phase two.sends.live name Ended } } → three ≡ finished
   exchanged_then fresh one two three asks out phase =
       let f = future_there waiters.sends name Fresh fresh in
-      phase ∙ ap (λ (v : Waiters T W). let after : Waiters T W = record v { sends = ended v.sends name } in after)
-      (out ∙ ap (λ (v : Waiters T W). let after : Waiters T W = record v {
+      phase ∙ ap (λ (v : ChannelWaiters T W). let after : ChannelWaiters T W = record v { sends = ended v.sends name } in after)
+      (out ∙ ap (λ (v : ChannelWaiters T W). let after : ChannelWaiters T W = record v {
         out = without_by same_waiter (Send name) v.out;
       } in after) asks)
-      ∙ ap (λ (live : map.FinMap nat_cmp (Future (Option T) W)). let after : Waiters T W = record no_send_pair {
+      ∙ ap (λ (live : map.FinMap nat_cmp (Future (Option T) W)). let after : ChannelWaiters T W = record no_send_pair {
         sends = record waiters.sends { live = live };
       } in after) (phase_then_asks waiters.sends.live name None Ended f.0 f.1)
 
   pub put_back : (value : T) → phase_of waiters.sends name ≡ Some Fresh → asks_of waiters.sends name ≡ Some (Some value) →
-      (one two : Waiters T W) → one ≡ exchanged → two ≡ record one { sends = exchange one.sends name (Some value) } →
+      (one two : ChannelWaiters T W) → one ≡ exchanged → two ≡ record one { sends = exchange one.sends name (Some value) } →
       two ≡ waiters
   put_back value fresh asks one two took put =
       let f = future_there waiters.sends name Fresh fresh in
       let same : f.0.asks ≡ Some value = some_same f.0.asks (Some value) (ap asks_in (sym f.1) ∙ asks) in
-      put ∙ ap (λ (v : Waiters T W). let after : Waiters T W = record v {
+      put ∙ ap (λ (v : ChannelWaiters T W). let after : ChannelWaiters T W = record v {
         sends = exchange v.sends name (Some value);
       } in after) took
-      ∙ ap (λ (live : map.FinMap nat_cmp (Future (Option T) W)). let after : Waiters T W = record waiters {
+      ∙ ap (λ (live : map.FinMap nat_cmp (Future (Option T) W)). let after : ChannelWaiters T W = record waiters {
         sends = record waiters.sends { live = live };
       } in after)
       (ap (λ (d : Option T). with_asks (with_asks waiters.sends.live name None) name d) (sym same)
@@ -382,7 +384,7 @@ module _ {T W : Type 0} (buffer : Bounded T) (waiters : Waiters T W) (is_open : 
 
   pub closed_sends : (waker : W) (value : T) → phase_of waiters.sends name ≡ Some Fresh →
       asks_of waiters.sends name ≡ Some (Some value) →
-      is_open ≡ false → (new : Waiters T W) → new ≡ finished →
+      is_open ≡ false → (new : ChannelWaiters T W) → new ≡ finished →
       SendsAs (phase_of waiters.sends name) Old name waker (Ready (Err (send_fault.Closed value))) (machine buffer new is_open)
   closed_sends waker value fresh asks flag new is =
       fresh_sends waker value false (has_room Old.own) fresh asks flag refl (Ready (Err (send_fault.Closed value)))
@@ -393,25 +395,26 @@ module _ {T W : Type 0} (buffer : Bounded T) (waiters : Waiters T W) (is_open : 
       asks_of waiters.sends name ≡ Some (Some value) →
       is_open ≡ true → has_room Old.own ≡ true → (left : Bounded T) →
       Stores Old.own value (record { is_open = is_open; buffer = left }) →
-      (mid new : Waiters T W) → mid ≡ finished → new ≡ told mid →
+      (mid new : ChannelWaiters T W) → mid ≡ finished → new ≡ told mid →
       SendsAs (phase_of waiters.sends name) Old name waker (Ready (Ok tt)) (machine left new is_open)
   room_sends waker value fresh asks flag has left stored mid new is now =
       fresh_sends waker value true true fresh asks flag has (Ready (Ok tt)) (machine left new is_open)
       (refl, record { is_open = is_open; buffer = left }, stored, (refl, (mid, finishes_send fresh mid is, tells mid new now)))
 
   -- A full buffer lets it wait.
-  abbrev waits_on : W → Waiters T W
+  abbrev waits_on : W → ChannelWaiters T W
   waits_on waker = record no_send_pair { sends = registered waiters.sends name waker }
 
-  pub waits_then : (waker : W) (one two : Waiters T W) → one ≡ no_send_pair →
+  pub waits_then : (waker : W) (one two : ChannelWaiters T W) → one ≡ no_send_pair →
       two ≡ record one { sends = registered one.sends name waker } →
       two ≡ waits_on waker
   waits_then waker one two out now =
-      now ∙ ap (λ (v : Waiters T W). let after : Waiters T W = record v { sends = registered v.sends name waker } in after) out
+      now ∙ ap (λ (v : ChannelWaiters T W). let after : ChannelWaiters T W =
+      record v { sends = registered v.sends name waker } in after) out
 
   pub full_sends : (waker : W) (value : T) → phase_of waiters.sends name ≡ Some Fresh →
       asks_of waiters.sends name ≡ Some (Some value) →
-      is_open ≡ true → has_room Old.own ≡ false → (mid new : Waiters T W) → mid ≡ waits_on waker → new ≡ told mid →
+      is_open ≡ true → has_room Old.own ≡ false → (mid new : ChannelWaiters T W) → mid ≡ waits_on waker → new ≡ told mid →
       SendsAs (phase_of waiters.sends name) Old name waker Pending (machine buffer new is_open)
   full_sends waker value fresh asks flag has mid new is now =
       fresh_sends waker value true false fresh asks flag has Pending (machine buffer new is_open) (
@@ -421,8 +424,8 @@ module _ {T W : Type 0} (buffer : Bounded T) (waiters : Waiters T W) (is_open : 
           (
             mid,
             (
-              (ap may_be_named fresh, ap (λ (v : Waiters T W). v.sends) is, ap (λ (v : Waiters T W). v.out) is),
-              ap (λ (v : Waiters T W). v.receives) is,
+              (ap may_be_named fresh, ap (λ (v : ChannelWaiters T W). v.sends) is, ap (λ (v : ChannelWaiters T W). v.out) is),
+              ap (λ (v : ChannelWaiters T W). v.receives) is,
             ),
             tells mid new now,
           ),
@@ -430,20 +433,20 @@ module _ {T W : Type 0} (buffer : Bounded T) (waiters : Waiters T W) (is_open : 
       )
 
   -- The receives stay in order where a send changes.
-  pub ordered_beside : IsSound Old → (sends : Side (Option T) W) (mid : Waiters T W) →
+  pub ordered_beside : IsSound Old → (sends : Waiters (Option T) W) (mid : ChannelWaiters T W) →
       mid ≡ record no_send_pair { sends = sends } →
       IsOrdered mid.receives (receives_in mid.out)
-  ordered_beside sound sends mid is = subst (λ (v : Waiters T W). IsOrdered v.receives (receives_in v.out)) (sym is)
+  ordered_beside sound sends mid is = subst (λ (v : ChannelWaiters T W). IsOrdered v.receives (receives_in v.out)) (sym is)
       (subst (λ (ps : List (ℕ × W)). IsOrdered waiters.receives ps) (sym
       (receives-without_send name waiters.out)) sound.waiters.receives.ordered)
 
-module _ {T W : Type 0} (buffer : Bounded T) (waiters : Waiters T W) (is_open : Bool) where
-  pub ordered_notified : IsSound (machine buffer waiters is_open) → (mid : Waiters T W) → mid ≡ notify_receives Fresh waiters →
+module _ {T W : Type 0} (buffer : Bounded T) (waiters : ChannelWaiters T W) (is_open : Bool) where
+  pub ordered_notified : IsSound (machine buffer waiters is_open) → (mid : ChannelWaiters T W) → mid ≡ notify_receives Fresh waiters →
       IsOrdered mid.sends (sends_in mid.out)
-  ordered_notified sound mid is = subst (λ (v : Waiters T W). IsOrdered v.sends (sends_in v.out)) (sym is)
+  ordered_notified sound mid is = subst (λ (v : ChannelWaiters T W). IsOrdered v.sends (sends_in v.out)) (sym is)
       (both_sound-notify_receives is_send_phase is_receive_phase waiters Fresh refl refl sound.waiters).sends.ordered
 
-  pub closes : is_open ≡ true → (mid new : Waiters T W) → mid ≡ notify_receives Fresh waiters → new ≡ notify_sends Fresh mid →
+  pub closes : is_open ≡ true → (mid new : ChannelWaiters T W) → mid ≡ notify_receives Fresh waiters → new ≡ notify_sends Fresh mid →
       Closes (machine buffer waiters is_open) NewlyClosed (machine buffer new false)
   closes flag mid new is now =
       subst (λ (f : Bool). ClosesAt f (machine buffer waiters is_open) NewlyClosed (machine buffer new false)) (sym flag) (
@@ -452,10 +455,13 @@ module _ {T W : Type 0} (buffer : Bounded T) (waiters : Waiters T W) (is_open : 
           refl,
           (
             mid,
-            ((ap (λ (v : Waiters T W). v.receives) is, ap (λ (v : Waiters T W). v.out) is), ap (λ (v : Waiters T W). v.sends) is),
             (
-              (ap (λ (v : Waiters T W). v.sends) now, ap (λ (v : Waiters T W). v.out) now),
-              ap (λ (v : Waiters T W). v.receives) now,
+              (ap (λ (v : ChannelWaiters T W). v.receives) is, ap (λ (v : ChannelWaiters T W). v.out) is),
+              ap (λ (v : ChannelWaiters T W). v.sends) is,
+            ),
+            (
+              (ap (λ (v : ChannelWaiters T W). v.sends) now, ap (λ (v : ChannelWaiters T W). v.out) now),
+              ap (λ (v : ChannelWaiters T W). v.receives) now,
             ),
           ),
         ),

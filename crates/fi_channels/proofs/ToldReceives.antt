@@ -5,7 +5,7 @@ use Rattle.std.proofs.lemmas.Bool.{cases_eq, both_ways, eqb-true, ne_eqb}
 use Rattle.fi_parts.specs.declared.phase.Phase.{Phase}
 use Rattle.fi_parts.specs.declared.phase.Phase.TheVariants.{Told}
 use Rattle.fi_parts.specs.Order.{holds, Apart, without}
-use Rattle.fi_parts.specs.Waiting.{Side, phase_of, is_registered, noticed, forgotten, AreSound}
+use Rattle.fi_parts.specs.Waiting.{Waiters, phase_of, is_registered, noticed, without_future, AreSound}
 use Rattle.fi_parts.proofs.Queues.{holds-without, holds-without_same, Apart-without_one}
 use Rattle.fi_parts.proofs.Slots.{without_absent}
 use Rattle.fi_parts.proofs.Waiting.{Becomes, becomes-with_phase, becomes-forgotten, live_if_registered, first_registered}
@@ -31,10 +31,10 @@ told_or_registered : {W : Type 0} (p : Option (Phase W)) → p ≡ Some Told →
 told_or_registered p e h = both_ways (is_registered p) (ap is_registered e) h
 
 module _ {W : Type 0} where
-  pub none_told : (receives : Side ReceiveKind W) → AreTold receives 0
+  pub none_told : (receives : Waiters ReceiveKind W) → AreTold receives 0
   none_told receives = record { names = []; apart = tt; told = λ name at. absurd (both_ways false refl at); many = omega arith }
 
-  pub fewer_told : (receives : Side ReceiveKind W) (m n : ℕ) → m ≤ n → AreTold receives n → AreTold receives m
+  pub fewer_told : (receives : Waiters ReceiveKind W) (m n : ℕ) → m ≤ n → AreTold receives n → AreTold receives m
   fewer_told receives m n less was = let many = was.many in record {
     names = was.names;
     apart = was.apart;
@@ -43,7 +43,7 @@ module _ {W : Type 0} where
   }
 
   -- the others stand as before
-  pub told_but : (old new : Side ReceiveKind W) (name n : ℕ) → ((q : ℕ) → q ≢ name → phase_of new q ≡ phase_of old q) →
+  pub told_but : (old new : Waiters ReceiveKind W) (name n : ℕ) → ((q : ℕ) → q ≢ name → phase_of new q ≡ phase_of old q) →
       AreTold old (suc n) → AreTold new n
   told_but old new name n others was =
       let many = was.many in
@@ -60,7 +60,7 @@ module _ {W : Type 0} where
       }
 
   -- one that was not told is told
-  told_more : (old new : Side ReceiveKind W) (name n : ℕ) → Becomes old new name (Some Told) →
+  told_more : (old new : Waiters ReceiveKind W) (name n : ℕ) → Becomes old new name (Some Told) →
       (phase_of old name ≡ Some Told → ⊥) → AreTold old n → AreTold new (suc n)
   told_more old new name n becomes apart was =
       let many = was.many in
@@ -79,13 +79,13 @@ module _ {W : Type 0} where
       each false e = e
 
   -- Where a receive is registered, so many are told.
-  abbrev pub Enough : Side ReceiveKind W → ℕ → Type 0
+  abbrev pub Enough : Waiters ReceiveKind W → ℕ → Type 0
   Enough receives n = (name : ℕ) → is_registered (phase_of receives name) ≡ true → AreTold receives n
 
-  pub enough_fewer : (receives : Side ReceiveKind W) (m n : ℕ) → m ≤ n → Enough receives n → Enough receives m
+  pub enough_fewer : (receives : Waiters ReceiveKind W) (m n : ℕ) → m ≤ n → Enough receives n → Enough receives m
   enough_fewer receives m n less was name is = fewer_told receives m n less (was name is)
 
-  pub enough_but : (old new : Side ReceiveKind W) (name n : ℕ) (phase : Option (Phase W)) → Becomes old new name phase →
+  pub enough_but : (old new : Waiters ReceiveKind W) (name n : ℕ) (phase : Option (Phase W)) → Becomes old new name phase →
       is_registered phase ≡ false → Enough old (suc n) → Enough new n
   enough_but old new name n phase becomes apart was q is = told_but old new name n becomes.others (was q (elim (cases_eq q name) [
     | inl same ↦ absurd (both_ways _ apart (ap is_registered (sym becomes.here)
@@ -93,7 +93,7 @@ module _ {W : Type 0} where
     | inr ne ↦ ap is_registered (sym (becomes.others q ne)) ∙ is
   ]))
 
-  first_told : (receives : Side ReceiveKind W) (out : List (ℕ × W)) (n : ℕ) (queue : List ℕ) →
+  first_told : (receives : Waiters ReceiveKind W) (out : List (ℕ × W)) (n : ℕ) (queue : List ℕ) →
       AreSound is_receive_phase receives out → receives.queue ≡ queue → Enough receives n →
       Enough (pop_first Told receives queue) (suc n)
   first_told receives out n [] sound queue was name is =
@@ -105,21 +105,21 @@ module _ {W : Type 0} where
       (phase_of receives first) e waits) (was first waits)
 
   -- the oldest was told
-  pub oldest_enough : (receives : Side ReceiveKind W) (out : List (ℕ × W)) (n : ℕ) → AreSound is_receive_phase receives out →
+  pub oldest_enough : (receives : Waiters ReceiveKind W) (out : List (ℕ × W)) (n : ℕ) → AreSound is_receive_phase receives out →
       Enough receives n → Enough (pop_oldest Told receives) (suc n)
   oldest_enough receives out n sound was = first_told receives out n receives.queue sound refl was
 
   -- a told one passed its notice on
-  pub passed_on : (receives : Side ReceiveKind W) (out : List (ℕ × W)) (name n : ℕ) →
-      AreSound is_receive_phase (forgotten receives name) out → Enough receives n →
-      Enough (pop_oldest Told (forgotten receives name)) n
-  passed_on receives out name zero sound was = λ q is. none_told (pop_oldest Told (forgotten receives name))
+  pub passed_on : (receives : Waiters ReceiveKind W) (out : List (ℕ × W)) (name n : ℕ) →
+      AreSound is_receive_phase (without_future receives name) out → Enough receives n →
+      Enough (pop_oldest Told (without_future receives name)) n
+  passed_on receives out name zero sound was = λ q is. none_told (pop_oldest Told (without_future receives name))
   passed_on receives out name (suc n) sound was =
-      oldest_enough (forgotten receives name) out n sound (enough_but receives (forgotten receives name) name n None
+      oldest_enough (without_future receives name) out n sound (enough_but receives (without_future receives name) name n None
       (becomes-forgotten receives name) refl was)
 
   -- one that was not told changed, and is told no less
-  pub enough_beside : (old new : Side ReceiveKind W) (name n : ℕ) → ((q : ℕ) → q ≢ name → phase_of new q ≡ phase_of old q) →
+  pub enough_beside : (old new : Waiters ReceiveKind W) (name n : ℕ) → ((q : ℕ) → q ≢ name → phase_of new q ≡ phase_of old q) →
       (phase_of old name ≡ Some Told → ⊥) → AreTold old n → AreTold new n
   enough_beside old new name n others untold was = record {
     names = was.names;

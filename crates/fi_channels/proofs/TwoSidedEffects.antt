@@ -20,7 +20,7 @@ use Rattle.fi_channels.specs.TwoSidedEffects.{on_sends, on_receives, AllowsTwoSi
 use Rattle.fi_channels.specs.TwoSidedEffects.TwoSidedEffect.{OnSends, OnReceives, PopsFirst, Then}
 use Rattle.fi_channels.specs.TwoSidesModel.{TwoSidesModel, AreBothSound}
 use Rattle.fi_channels.specs.Waiter.{same_waiter, sends_in, receives_in}
-use Rattle.fi_parts.specs.Waiting.{Side, Waiting, pair, named, named_all, AreSound}
+use Rattle.fi_parts.specs.Waiting.{Waiters, Waiting, pair, named, named_all, AreSound}
 use Rattle.fi_parts.specs.WakerHistory.{WakerEffect, HasWaker, gives}
 use Rattle.fi_parts.specs.WakerHistory.WakerEffect.{NoEffect}
 use Rattle.fi_channels.proofs.BothSound.{both_sound-next_wake}
@@ -41,30 +41,30 @@ pub record IsOtherView {W N : Type 0} (mark : ℕ → N) (same : N → N → Boo
   pub append : (out : List (N × W)) (pairs : List (ℕ × W)) → view (out ++ marked mark pairs) ≡ view out
 
 module _ {D W : Type 0} where
-  same_waiting : (new old : Side D W) (after out : List (ℕ × W)) → new ≡ old → after ≡ out →
+  same_waiting : (new old : Waiters D W) (after out : List (ℕ × W)) → new ≡ old → after ≡ out →
       ◌≡◌ {A = Waiting D W} (record { side = new; out = after }) (record { side = old; out = out })
   same_waiting new old after out sides pairs = λ i. record { side = sides i; out = pairs i }
 
-  popped_first : (phase : Phase W) (side : Side D W) (out : List (ℕ × W)) (names : List ℕ) →
+  popped_first : (phase : Phase W) (side : Waiters D W) (out : List (ℕ × W)) (names : List ℕ) →
       ◌≡◌ {A = Waiting D W} (record { side = pop_first phase side names; out = out ++ pair_of_first side names })
       (oldest_notified phase names (record { side = side; out = out }))
   popped_first phase side out [] = λ i. record { side = side; out = append-nil out i }
   popped_first phase side out (name ∷ others) = refl
 
 module _ {D W N : Type 0} (mark : ℕ → N) (same : N → N → Bool) (view : List (N × W) → List (ℕ × W)) (is : IsView mark same view) where
-  abbrev seen : Side D W → List (N × W) → Waiting D W
+  abbrev seen : Waiters D W → List (N × W) → Waiting D W
   seen side out = record { side = side; out = view out }
 
-  taken_out : (name : ℕ) (old new : Side D W) (out after : List (N × W)) → new ≡ old → after ≡ without_by same (mark name) out →
+  taken_out : (name : ℕ) (old new : Waiters D W) (out after : List (N × W)) → new ≡ old → after ≡ without_by same (mark name) out →
       seen new after ≡ record { side = old; out = without_pair name (view out) }
   taken_out name old new out after sides pairs = same_waiting new old _ _ sides (ap view pairs ∙ is.without name out)
 
-  named_then : (old new : Side D W) (out after : List (N × W)) (pairs : List (ℕ × W)) → new ≡ old → after ≡ out ++ marked mark pairs →
+  named_then : (old new : Waiters D W) (out after : List (N × W)) (pairs : List (ℕ × W)) → new ≡ old → after ≡ out ++ marked mark pairs →
       seen new after ≡ record { side = old; out = view out ++ pairs }
   named_then old new out after pairs sides appended = same_waiting new old _ _ sides (ap view appended ∙ is.append out pairs)
 
   -- An effect on a side is that effect on its own pairs.
-  pub effect_seen : (effect : WaiterEffect D W) (old : Side D W) (out : List (N × W)) (new : Side D W) (after : List (N × W)) →
+  pub effect_seen : (effect : WaiterEffect D W) (old : Waiters D W) (out : List (N × W)) (new : Waiters D W) (after : List (N × W)) →
       TakesOn mark same effect old out new after → TakesEffect effect (seen old out) (seen new after)
   effect_seen NoChange old out new after did = same_waiting new old _ _ did.0 (ap view did.1)
   effect_seen (Inserts name asks) old out new after did = (did.0, same_waiting new _ _ _ did.1 (ap view did.2))
@@ -90,7 +90,7 @@ module _ {D W N : Type 0} (mark : ℕ → N) (same : N → N → Bool) (view : L
 
 module _ {D W N : Type 0} (mark : ℕ → N) (same : N → N → Bool) where
   -- what the store's words for the completing of the oldest are
-  pub oldest_completes : (allowed : Option (Phase W) → Bool) (asks : D) (old : Side D W) (pairs : List (ℕ × W)) (out : List (N × W)) →
+  pub oldest_completes : (allowed : Option (Phase W) → Bool) (asks : D) (old : Waiters D W) (pairs : List (ℕ × W)) (out : List (N × W)) →
       AreSound allowed old pairs → TakesOn mark same (completes_first asks old.queue) old out (complete_oldest asks old)
       (out ++ marked mark (pair_of_oldest old))
   oldest_completes allowed asks old pairs out was = each old.queue refl
@@ -103,7 +103,7 @@ module _ {D W N : Type 0} (mark : ℕ → N) (same : N → N → Bool) where
 
 module _ {D W N : Type 0} (mark : ℕ → N) (same : N → N → Bool) (view : List (N × W) → List (ℕ × W)) (is : IsOtherView mark same view) where
   -- It leaves the pairs of the other side.
-  pub effect_unseen : (effect : WaiterEffect D W) (old : Side D W) (out : List (N × W)) (new : Side D W) (after : List (N × W)) →
+  pub effect_unseen : (effect : WaiterEffect D W) (old : Waiters D W) (out : List (N × W)) (new : Waiters D W) (after : List (N × W)) →
       TakesOn mark same effect old out new after → view after ≡ view out
   effect_unseen NoChange old out new after did = ap view did.1
   effect_unseen (Inserts name asks) old out new after did = ap view did.2
@@ -160,7 +160,7 @@ module _ {D E W : Type 0} where
 
 module _ {D W : Type 0} where
   -- one waker of either side is handed out
-  sends_popped : (side : Side D W) (out : List (Waiter × W)) → CarriesOn (gives (first_waker out)) (record {
+  sends_popped : (side : Waiters D W) (out : List (Waiter × W)) → CarriesOn (gives (first_waker out)) (record {
     side =
         side;
     out = sends_in out;
@@ -171,7 +171,7 @@ module _ {D W : Type 0} where
       handed_carries (Some w) (record { side = side; out = (n, w) ∷ sends_in ps }) (record { side = side; out = sends_in ps }) refl refl
   sends_popped side ((Receive n, w) ∷ ps) = λ q v has. inl has
 
-  receives_popped : (side : Side D W) (out : List (Waiter × W)) → CarriesOn (gives (first_waker out))
+  receives_popped : (side : Waiters D W) (out : List (Waiter × W)) → CarriesOn (gives (first_waker out))
       (record { side = side; out = receives_in out }) (record { side = side; out = receives_in (drop 1 out) })
   receives_popped side [] = λ q v has. has
   receives_popped side ((Send n, w) ∷ ps) = λ q v has. inl has

@@ -19,7 +19,7 @@ use Rattle.fi_parts.specs.Machine.{AllowsBasics}
 use Rattle.fi_parts.specs.NamedPairs.{waker_by}
 use Rattle.fi_parts.specs.Oldest.{asks_of_oldest}
 use Rattle.fi_parts.specs.Order.{holds, Apart}
-use Rattle.fi_parts.specs.Waiting.{Side, phase_of, asks_of, is_registered, displaced_from}
+use Rattle.fi_parts.specs.Waiting.{Waiters, phase_of, asks_of, is_registered, displaced_from}
 use Rattle.fi_channels.specs.declared.channel_errors.SendFault.{SendFault}
 use Rattle.fi_channels.specs.declared.channel_errors.SendFault.TheVariants as send_fault
 use Rattle.fi_channels.specs.declared.channel_errors.TryReceiveError.{TryReceiveError}
@@ -112,7 +112,7 @@ module _ {W : Type 0} where
   is_given kind name = Ends name
 
   -- So many receives are told.
-  pub record AreTold (receives : Side ReceiveKind W) (count : ℕ) : Type 0 where
+  pub record AreTold (receives : Waiters ReceiveKind W) (count : ℕ) : Type 0 where
     pub names : List ℕ
     pub apart : Apart names
     pub told : (name : ℕ) → holds name names ≡ true → phase_of receives name ≡ Some Told

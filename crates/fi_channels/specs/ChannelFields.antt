@@ -13,8 +13,8 @@ use Rattle.fi_channels.specs.TwoSidesModel.{TwoSidesModel}
 use Rattle.fi_channels.specs.Waiter.{of_sends}
 
 -- The sends and receives of a channel.
-abbrev pub Waiters : Type 0 → Type 0 → Type 0
-Waiters T W = TwoSidesModel (Option T) ReceiveKind W
+abbrev pub ChannelWaiters : Type 0 → Type 0 → Type 0
+ChannelWaiters T W = TwoSidesModel (Option T) ReceiveKind W
 
 -- how a receive that was given an item stands
 abbrev pub phase_given : {W : Type 0} → Option ReceiveKind → Phase W
@@ -23,7 +23,7 @@ phase_given kind = Ended
 
 module _ {T W : Type 0} where
   -- the machine of a buffer, the sends and receives, and the flag
-  abbrev pub machine : Bounded T → Waiters T W → Bool → ChannelMachine T W
+  abbrev pub machine : Bounded T → ChannelWaiters T W → Bool → ChannelMachine T W
   machine buffer waiters is_open = record { own = record { is_open = is_open; buffer = buffer }; waiting = waiters }
 
   -- the machine of these fields, whose buffer is seen in this way
@@ -31,17 +31,17 @@ module _ {T W : Type 0} where
   machine_of bounded fields = machine (bounded fields.buffer) fields.waiters fields.is_open
 
   -- the oldest send is complete and named, and owns no value, if one waits
-  abbrev pub completed : Waiters T W → Waiters T W
+  abbrev pub completed : ChannelWaiters T W → ChannelWaiters T W
   completed waiters = record waiters {
     sends = complete_oldest None waiters.sends;
     out = waiters.out ++ of_sends (pair_of_oldest waiters.sends);
   }
 
-  abbrev pub TakesAt : Option (T × Bounded T) → Bounded T → Waiters T W → Option T → Bounded T → Waiters T W → Type 0
+  abbrev pub TakesAt : Option (T × Bounded T) → Bounded T → ChannelWaiters T W → Option T → Bounded T → ChannelWaiters T W → Type 0
   TakesAt None buffer waiters answer left others = (answer ≡ None) × (left ≡ buffer) × (others ≡ waiters)
   TakesAt (Some next) buffer waiters answer left others = (answer ≡ Some next.0) × (left ≡ next.1) × (others ≡ completed waiters)
 
   -- The next value was taken, if there is one; the oldest send that waits handed its value on.
-  abbrev pub Takes : Bounded T → Waiters T W → Option T → Bounded T → Waiters T W → Type 0
+  abbrev pub Takes : Bounded T → ChannelWaiters T W → Option T → Bounded T → ChannelWaiters T W → Type 0
   Takes buffer waiters answer left others =
       TakesAt (next_value buffer buffer.items (option_flatten (asks_of_oldest waiters.sends))) buffer waiters answer left others

@@ -16,8 +16,9 @@ use Rattle.fi_channels.specs.TwoSidesModel.{TwoSidesModel}
 use Rattle.fi_parts.specs.WakerHistory.{WakerEffect, gives}
 use Rattle.fi_parts.specs.WakerHistory.WakerEffect.{NoEffect}
 use Rattle.fi_channels.specs.Waiter.{same_waiter, sends_in, receives_in}
-use Rattle.fi_parts.specs.Waiting.{Side, Waiting, phase_of, is_registered, may_be_named, IsLive, made, registered, stays, ended, forgotten}
-use Rattle.fi_parts.specs.Waiting.{exchange, noticed, pair, emptied, named, named_all, with_phases, without_place}
+use Rattle.fi_parts.specs.Waiting.{Waiters, Waiting, phase_of, is_registered, may_be_named}
+use Rattle.fi_parts.specs.Waiting.{IsLive, insert_fresh, registered, stays, ended, without_future}
+use Rattle.fi_parts.specs.Waiting.{exchange, noticed, pair, clear_queue, named, named_all, with_phases, without_place}
 
 -- these pairs, with names of another type
 abbrev pub marked : {W N : Type 0} → (ℕ → N) → List (ℕ × W) → List (N × W)
@@ -26,9 +27,9 @@ marked mark pairs = map (λ p. (mark p.0, p.1)) pairs
 -- One side of a store whose outbox has names of any type: `mark` makes a name of a slot.
 module _ {D W N : Type 0} (mark : ℕ → N) (same : N → N → Bool) where
   -- This effect led from this side and outbox to those. The oldest pair is popped of both sides at once, so here it isn't.
-  abbrev pub TakesOn : WaiterEffect D W → Side D W → List (N × W) → Side D W → List (N × W) → Type 0
+  abbrev pub TakesOn : WaiterEffect D W → Waiters D W → List (N × W) → Waiters D W → List (N × W) → Type 0
   TakesOn NoChange old out new after = (new ≡ old) × (after ≡ out)
-  TakesOn (Inserts name asks) old out new after = (phase_of old name ≡ None) × (new ≡ made old name asks) × (after ≡ out)
+  TakesOn (Inserts name asks) old out new after = (phase_of old name ≡ None) × (new ≡ insert_fresh old name asks) × (after ≡ out)
   TakesOn (Registers name waker) old out new after =
       (may_be_named (phase_of old name) ≡ true) × (new ≡ registered old name waker) × (after ≡ without_by same (mark name) out)
   TakesOn (RegistersApart name waker) old out new after =
@@ -42,10 +43,11 @@ module _ {D W N : Type 0} (mark : ℕ → N) (same : N → N → Bool) where
   TakesOn (Renews name) old out new after =
       (may_be_named (phase_of old name) ≡ true) × (new ≡ renewed old name) × (after ≡ without_by same (mark name) out)
   TakesOn (Asks name asks) old out new after = IsLive old name × (new ≡ exchange old name asks) × (after ≡ out)
-  TakesOn (Removes name) old out new after = IsLive old name × (new ≡ forgotten old name) × (after ≡ without_by same (mark name) out)
+  TakesOn (Removes name) old out new after = IsLive old name × (new ≡ without_future old name) × (after ≡ without_by same (mark name) out)
   TakesOn (NotifiesOldest notice) old out new after =
       (new ≡ pop_oldest (phase_after notice) old) × (after ≡ out ++ marked mark (pair_of_oldest old))
-  TakesOn (NotifiesAll notice) old out new after = (new ≡ emptied (phase_after notice) old) × (after ≡ out ++ marked mark (named_all old))
+  TakesOn (NotifiesAll notice) old out new after =
+      (new ≡ clear_queue (phase_after notice) old) × (after ≡ out ++ marked mark (named_all old))
   TakesOn (NotifiesListed notice names) old out new after = AreRegistered old names
       × (new ≡ record old { live = with_phases old.live names (phase_after notice) }) × (after ≡ out ++ marked mark (named old.live names))
   TakesOn (NotifiesFront keeps front) old out new after = (rest : List ℕ) × (old.queue ≡ front ++ rest)
@@ -54,7 +56,7 @@ module _ {D W N : Type 0} (mark : ℕ → N) (same : N → N → Bool) where
   TakesOn (CompletesOldest name asks) old out new after = (others : List ℕ) × (old.queue ≡ name ∷ others) × IsLive old name
       × (new ≡ noticed Complete (exchange old name asks) name others) × (after ≡ out ++ marked mark (pair old name))
   TakesOn (PopsOldest waker) old out new after = ⊥
-  TakesOn (AndThen one other) old out new after = (mid : Side D W) × (between : List (N × W))
+  TakesOn (AndThen one other) old out new after = (mid : Waiters D W) × (between : List (N × W))
       × TakesOn one old out mid between × TakesOn other mid between new after
 
 -- D is what a send asks for, E what a receive asks for.

@@ -1,33 +1,33 @@
 -- Sends and receives that wait, over one outbox.
 use Rattle.std.specs.Prelude.{Bool, Option, List, [], ◌++◌, refl}
 use Rattle.std.specs.Coded.{Coded, code_by, coded×, coded_list}
-use Rattle.fi_parts.specs.Codes.{side_code}
+use Rattle.fi_parts.specs.Codes.{waiters_code}
 use Rattle.fi_parts.specs.LineModel.{LineModel}
-use Rattle.fi_parts.specs.Pairs.{Boxed}
+use Rattle.fi_parts.specs.Pairs.{OutboxModel}
 use Rattle.fi_parts.specs.Tied.{out_of, IsTied}
 use Rattle.fi_channels.specs.Waiter.{waiter_code, ticket_of_waiter, of_sends, of_receives, sends_in, receives_in}
-use Rattle.fi_parts.specs.Waiting.{Side, no_futures, emptied, named_all, AreSound}
+use Rattle.fi_parts.specs.Waiting.{Waiters, no_futures, clear_queue, named_all, AreSound}
 use Rattle.fi_parts.specs.declared.phase.Phase.{Phase}
 use Rattle.fi_channels.specs.declared.two_sides.Waiter.{Waiter}
 
 -- The sends, the receives, and who is to be woken with which waker, oldest first.
 pub record TwoSidesModel (D E W : Type 0) : Type 0 where
-  pub sends : Side D W
-  pub receives : Side E W
+  pub sends : Waiters D W
+  pub receives : Waiters E W
   pub out : List (Waiter × W)
 
 module _ {D E W : Type 0} where
   abbrev pub two_sides_code : Coded D → Coded E → Coded W → Coded (TwoSidesModel D E W)
   two_sides_code d e w =
-      code_by (Side D W × (Side E W × List (Waiter × W)))
-      (coded× (side_code d w) (coded× (side_code e w) (coded_list (coded× waiter_code w))))
+      code_by (Waiters D W × (Waiters E W × List (Waiter × W)))
+      (coded× (waiters_code d w) (coded× (waiters_code e w) (coded_list (coded× waiter_code w))))
       (λ s. (s.sends, (s.receives, s.out))) (λ p. record { sends = p.0; receives = p.1.0; out = p.1.1 }) (λ _. refl)
 
-  abbrev pub two_sides_of : LineModel D W → LineModel E W → Boxed (Waiter × W) → TwoSidesModel D E W
+  abbrev pub two_sides_of : LineModel D W → LineModel E W → OutboxModel (Waiter × W) → TwoSidesModel D E W
   two_sides_of sends receives box = record { sends = sends.side; receives = receives.side; out = out_of box.pairs }
 
   -- The tickets of both lines and the pairs of the outbox go together.
-  abbrev pub AreBothTied : LineModel D W → LineModel E W → Boxed (Waiter × W) → Type 0
+  abbrev pub AreBothTied : LineModel D W → LineModel E W → OutboxModel (Waiter × W) → Type 0
   AreBothTied sends receives box = IsTied (ticket_of_waiter sends.tickets receives.tickets) box.tickets box.pairs
 
   -- nobody waits
@@ -37,13 +37,13 @@ module _ {D E W : Type 0} where
   -- all queued sends, or receives, leave the queue with this phase and are named, in order
   abbrev pub notify_sends : Phase W → TwoSidesModel D E W → TwoSidesModel D E W
   notify_sends phase both = record both {
-    sends = emptied phase both.sends;
+    sends = clear_queue phase both.sends;
     out = both.out ++ of_sends (named_all both.sends);
   }
 
   abbrev pub notify_receives : Phase W → TwoSidesModel D E W → TwoSidesModel D E W
   notify_receives phase both = record both {
-    receives = emptied phase both.receives;
+    receives = clear_queue phase both.receives;
     out = both.out ++ of_receives (named_all both.receives);
   }
 

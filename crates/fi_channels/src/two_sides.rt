@@ -5,7 +5,7 @@ ghost use Rattle.std.specs.FinMap as map;
 ghost use Rattle.fi_parts.specs.Order.{holds};
 ghost use Rattle.fi_parts.specs.Noticed.{phase_after};
 ghost use Rattle.fi_parts.specs.Waiting.{with_phase, exchange, phase_of, IsLive, IsOrdered, is_registered};
-ghost use Rattle.fi_parts.specs.Waiting.{made, registered, forgotten, pair, asks_of, waker_in, waker_or};
+ghost use Rattle.fi_parts.specs.Waiting.{insert_fresh, registered, without_future, pair, asks_of, waker_in, waker_or};
 ghost use Rattle.fi_channels.specs.declared.two_sides.Waiter.TheVariants.{Send, Receive};
 ghost use Rattle.fi_parts.specs.NamedPairs.{has_by, waker_by, without_by, first_waker};
 ghost use Rattle.fi_parts.specs.Oldest.{pop_oldest, pair_of_oldest, asks_of_oldest, complete_oldest};
@@ -77,7 +77,7 @@ impl<D: Drop, E: Drop, W: Drop> TwoSides<D, E, W> {
     /// Refused if there is no memory for it or its ticket; then what it asks for comes back, and nothing has changed.
     pub fn insert_send(&mut self, asks: D) -> Result<Slot, NoRoom<D>>
         ensures was_free { IfOk result (λ slot. phase_of self.old.sends slot.0 ≡ None) }
-        ensures inserted { IfOk result (λ slot. self.new ≡ record self.old { sends = made self.old.sends slot.0 asks }) }
+        ensures inserted { IfOk result (λ slot. self.new ≡ record self.old { sends = insert_fresh self.old.sends slot.0 asks }) }
         ensures refused { OnErr result (self.new ≡ self.old) }
         ensures handed_back { IfErr result (λ failed. failed.0 ≡ asks) }
     {
@@ -94,6 +94,9 @@ impl<D: Drop, E: Drop, W: Drop> TwoSides<D, E, W> {
         ensures waker { result ≡ waker_by same_waiter (Send slot.0) self.old.out }
         ensures rest { self.new ≡ record self.old { out = without_by same_waiter (Send slot.0) self.old.out } }
     {
+        if self.outbox.len() == 0 {
+            return None;
+        }
         let ticket = self.sends.ticket(slot);
         waker_from(self.outbox.take_out(ticket))
     }
@@ -123,7 +126,7 @@ impl<D: Drop, E: Drop, W: Drop> TwoSides<D, E, W> {
         ensures waker { MatchOption (phase_of self.old.sends slot.0) ⊥
             (λ before. result.1 ≡ waker_or before (waker_by same_waiter (Send slot.0) self.old.out)) }
         ensures removed { self.new ≡ record self.old {
-          sends = forgotten self.old.sends slot.0;
+          sends = without_future self.old.sends slot.0;
           out = without_by same_waiter (Send slot.0) self.old.out;
         } }
     {
@@ -213,7 +216,7 @@ impl<D: Drop, E: Drop, W: Drop> TwoSides<D, E, W> {
     /// Refused if there is no memory for it or its ticket; then what it asks for comes back, and nothing has changed.
     pub fn insert_receive(&mut self, asks: E) -> Result<Slot, NoRoom<E>>
         ensures was_free { IfOk result (λ slot. phase_of self.old.receives slot.0 ≡ None) }
-        ensures inserted { IfOk result (λ slot. self.new ≡ record self.old { receives = made self.old.receives slot.0 asks }) }
+        ensures inserted { IfOk result (λ slot. self.new ≡ record self.old { receives = insert_fresh self.old.receives slot.0 asks }) }
         ensures refused { OnErr result (self.new ≡ self.old) }
         ensures handed_back { IfErr result (λ failed. failed.0 ≡ asks) }
     {
@@ -230,6 +233,9 @@ impl<D: Drop, E: Drop, W: Drop> TwoSides<D, E, W> {
         ensures waker { result ≡ waker_by same_waiter (Receive slot.0) self.old.out }
         ensures rest { self.new ≡ record self.old { out = without_by same_waiter (Receive slot.0) self.old.out } }
     {
+        if self.outbox.len() == 0 {
+            return None;
+        }
         let ticket = self.receives.ticket(slot);
         waker_from(self.outbox.take_out(ticket))
     }
@@ -261,7 +267,7 @@ impl<D: Drop, E: Drop, W: Drop> TwoSides<D, E, W> {
         ensures waker { MatchOption (phase_of self.old.receives slot.0) ⊥
             (λ before. result.1 ≡ waker_or before (waker_by same_waiter (Receive slot.0) self.old.out)) }
         ensures removed { self.new ≡ record self.old {
-          receives = forgotten self.old.receives slot.0;
+          receives = without_future self.old.receives slot.0;
           out = without_by same_waiter (Receive slot.0) self.old.out;
         } }
     {

@@ -14,7 +14,7 @@ use Rattle.fi_parts.specs.Effects.WaiterEffect.{Inserts, Registers, KeepsWaiting
 use Rattle.fi_parts.specs.Machine.{phase_at}
 use Rattle.fi_parts.specs.Order.{holds, Apart, without}
 use Rattle.fi_parts.specs.Places.{is_told}
-use Rattle.fi_parts.specs.Waiting.{Side, Waiting, phase_in, phase_of, is_queued, is_registered}
+use Rattle.fi_parts.specs.Waiting.{Waiters, Waiting, phase_in, phase_of, is_queued, is_registered}
 use Rattle.fi_parts.proofs.Effects.{untold}
 use Rattle.fi_parts.proofs.Queues.{holds-without_same}
 use Rattle.fi_parts.proofs.Slots.{eqb_same, holds-append, without_absent, without_first, Apart-front, Apart-back, Apart-disjoint}
@@ -43,27 +43,27 @@ first_still (Some first) name rest is ne =
 
 module _ {W : Type 0} where
   -- What fair semaphores need shown: in an unfair one nothing is promised.
-  pub if_fair : (is_fair : Bool) (free free_now promised : ℕ) (untold untold_now : Option Slot) (old new : Side ℕ W) →
+  pub if_fair : (is_fair : Bool) (free free_now promised : ℕ) (untold untold_now : Option Slot) (old new : Waiters ℕ W) →
       MarksIf is_fair free promised untold old →
       (is_fair ≡ true → Marks free promised untold old → Marks free_now promised untold_now new) →
       MarksIf is_fair free_now promised untold_now new
   if_fair true free free_now promised untold untold_now old new was fair = fair refl was
   if_fair false free free_now promised untold untold_now old new was fair = was
 
-  pub marks_fair : (is_fair : Bool) (free promised : ℕ) (untold : Option Slot) (side : Side ℕ W) → is_fair ≡ true →
+  pub marks_fair : (is_fair : Bool) (free promised : ℕ) (untold : Option Slot) (side : Waiters ℕ W) → is_fair ≡ true →
       MarksIf is_fair free promised untold side → Marks free promised untold side
   marks_fair is_fair free promised untold side fair was = subst (λ b. MarksIf b free promised untold side) fair was
 
-  pub marks_unfair : (is_fair : Bool) (free promised : ℕ) (untold : Option Slot) (side : Side ℕ W) → is_fair ≡ false →
+  pub marks_unfair : (is_fair : Bool) (free promised : ℕ) (untold : Option Slot) (side : Waiters ℕ W) → is_fair ≡ false →
       MarksIf is_fair free promised untold side → promised ≡ 0
   marks_unfair is_fair free promised untold side unfair was = subst (λ b. MarksIf b free promised untold side) unfair was
 
-  told_queued : (side : Side ℕ W) (told rest : List ℕ) → IsToldFront side told rest → (q : ℕ) → holds q told ≡ true →
+  told_queued : (side : Waiters ℕ W) (told rest : List ℕ) → IsToldFront side told rest → (q : ℕ) → holds q told ≡ true →
       holds q side.queue ≡ true
   told_queued side told rest front q at = ap (holds q) front.is_front ∙ holds-append q told rest ∙ or_left _ _ at
 
   -- Queue and told futures are as before, those queued need what they needed, and what is promised is free.
-  pub marks_still : (free free_now promised : ℕ) (untold : Option Slot) (old new : Side ℕ W) → Marks free promised untold old →
+  pub marks_still : (free free_now promised : ℕ) (untold : Option Slot) (old new : Waiters ℕ W) → Marks free promised untold old →
       new.queue ≡ old.queue → ((q : ℕ) → is_told (phase_of new q) ≡ is_told (phase_of old q)) →
       ((q : ℕ) → holds q old.queue ≡ true → need_of new q ≡ need_of old q) → promised ≤ free_now → Marks free_now promised untold new
   marks_still free free_now promised untold old new was queue told needs fits = record {
@@ -76,15 +76,15 @@ module _ {W : Type 0} where
   }
 
   -- nobody changed, and no less is free
-  pub marks_more : (is_fair : Bool) (free free_now promised : ℕ) (untold : Option Slot) (old new : Side ℕ W) → new ≡ old →
+  pub marks_more : (is_fair : Bool) (free free_now promised : ℕ) (untold : Option Slot) (old new : Waiters ℕ W) → new ≡ old →
       free ≤ free_now → MarksIf is_fair free promised untold old → MarksIf is_fair free_now promised untold new
   marks_more is_fair free free_now promised untold old new same more was =
       if_fair is_fair free free_now promised untold untold old new was
-      (λ fair marks. marks_still free free_now promised untold old new marks (ap (λ (s : Side ℕ W). s.queue) same)
+      (λ fair marks. marks_still free free_now promised untold old new marks (ap (λ (s : Waiters ℕ W). s.queue) same)
       (λ q. ap (λ s. is_told (phase_of s q)) same) (λ q at. ap (λ s. need_of s q) same) (omega (arith, marks.fits, more)))
 
   -- where permits are granted to one that does not wait, what is promised is free still
-  promised_still : (permits : Permits) (side : Side ℕ W) (n promised : ℕ) (untold : Option Slot) → permits.is_fair ≡ true →
+  promised_still : (permits : Permits) (side : Waiters ℕ W) (n promised : ℕ) (untold : Option Slot) → permits.is_fair ≡ true →
       can_take permits side.queue n ≡ true → Marks permits.free promised untold side → promised ≤ permits.free - n
   promised_still permits side n promised untold fair takes was = elim (taken_fairly permits side.queue n fair takes) [
     | inl empty ↦ omega (arith, sym was.sums ∙ ap (sum_by (need_of side)) (none was.told was.rest (sym was.front.is_front ∙ empty)))
@@ -95,7 +95,7 @@ module _ {W : Type 0} where
       none [] ys e = refl
       none (x ∷ xs) ys e = absurd (not_empty x (xs ++ ys) (sym e))
 
-  pub marks_taken : (permits : Permits) (n promised : ℕ) (untold : Option Slot) (side : Side ℕ W) →
+  pub marks_taken : (permits : Permits) (n promised : ℕ) (untold : Option Slot) (side : Waiters ℕ W) →
       can_take permits side.queue n ≡ true → MarksIf permits.is_fair permits.free promised untold side →
       MarksIf permits.is_fair (permits.free - n) promised untold side
   marks_taken permits n promised untold side takes was =
@@ -161,7 +161,7 @@ module _ {W : Type 0} where
         (same_told old.waiting.side new.side name (Some (Registered waker)) b refl (ap is_told stood)) (λ q at. needs q) marks.fits)
 
   -- A name left the queue that the marks leave out.
-  marks_left : (old new : Side ℕ W) (name : ℕ) (phase : Option (Phase W)) (free promised : ℕ) (untold : Option Slot) →
+  marks_left : (old new : Waiters ℕ W) (name : ℕ) (phase : Option (Phase W)) (free promised : ℕ) (untold : Option Slot) →
       MarksWithout name free promised untold old → Becomes old new name phase → is_told phase ≡ false →
       new.queue ≡ without name old.queue → ((q : ℕ) → q ≢ name → need_of new q ≡ need_of old q) → Marks free promised untold new
   marks_left old new name phase free promised untold was b not_told queue needs = record {
@@ -173,7 +173,7 @@ module _ {W : Type 0} where
     first = was.first;
   }
 
-  module _ (free free_now promised : ℕ) (untold : Option Slot) (side : Side ℕ W) (name : ℕ) (once : Apart side.queue)
+  module _ (free free_now promised : ℕ) (untold : Option Slot) (side : Waiters ℕ W) (name : ℕ) (once : Apart side.queue)
       (was : Marks free promised untold side) where
     once_here : Apart (was.told ++ was.rest)
     once_here = subst Apart was.front.is_front once

@@ -14,7 +14,7 @@ use Rattle.fi_parts.specs.Effects.WaiterEffect.{Registers, EndsPlaced}
 use Rattle.fi_parts.specs.Machine.{phase_at, StepsTo}
 use Rattle.fi_parts.specs.Order.{holds}
 use Rattle.fi_parts.specs.Places.{is_told}
-use Rattle.fi_parts.specs.Waiting.{Side, phase_in, phase_of, is_queued, is_registered, IsLive}
+use Rattle.fi_parts.specs.Waiting.{Waiters, phase_in, phase_of, is_queued, is_registered, IsLive}
 use Rattle.fi_locks.specs.Semaphore.{Permits, SemaphoreMachine, granted, need_of}
 use Rattle.fi_locks.specs.Semaphore.{can_be_polled, is_granted, StepsTelling, PollsAs, Polls, IsSound}
 use Rattle.fi_locks.specs.SemaphoreFields.{Marks, MarksIf}
@@ -33,7 +33,7 @@ module _ {W : Type 0} where
   quiet_if tells old permits effect new is did = subst (λ b. StepsTelling b old permits effect new) (sym is) did
 
   -- who has a phase lives
-  pub live_from : (side : Side ℕ W) (name : ℕ) → is_some (phase_of side name) ≡ true → IsLive side name
+  pub live_from : (side : Waiters ℕ W) (name : ℕ) → is_some (phase_of side name) ≡ true → IsLive side name
   live_from side name is = each (map.get side.live name) is
     where
       each : (o : Option (Future ℕ W)) → is_some (phase_in o) ≡ true → IsSome o
@@ -57,7 +57,8 @@ module _ {W : Type 0} where
   fresh_is (Some Ended) h r t = absurd (both_ways false refl h)
 
   -- nothing is marked in an unfair semaphore
-  pub marks_any : (is_fair : Bool) (free free_now promised : ℕ) (untold untold_now : Option Slot) (old new : Side ℕ W) → is_fair ≡ false →
+  pub marks_any : (is_fair : Bool) (free free_now promised : ℕ) (untold untold_now : Option Slot) (old new : Waiters ℕ W) →
+      is_fair ≡ false →
       MarksIf is_fair free promised untold old → MarksIf is_fair free_now promised untold_now new
   marks_any is_fair free free_now promised untold untold_now old new unfair was =
       subst (λ b. MarksIf b free_now promised untold_now new) (sym unfair) (marks_unfair is_fair free promised untold old unfair was)

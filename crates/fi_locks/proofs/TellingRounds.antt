@@ -15,7 +15,7 @@ use Rattle.fi_parts.specs.declared.phase.Phase.TheVariants.{Told}
 use Rattle.fi_parts.specs.Machine.{phase_at}
 use Rattle.fi_parts.specs.Order.{holds, Apart}
 use Rattle.fi_parts.specs.Places.{is_told, queued_rule}
-use Rattle.fi_parts.specs.Waiting.{Side, Waiting, phase_in, phase_of, is_queued, with_phase}
+use Rattle.fi_parts.specs.Waiting.{Waiters, Waiting, phase_in, phase_of, is_queued, with_phase}
 use Rattle.fi_parts.specs.Waiting.{with_phases, pair_of, named, IsOrderedBy, told_one, front_told}
 use Rattle.fi_parts.proofs.Slots.{eqb_same, holds-append}
 use Rattle.fi_parts.proofs.Told.{with_phase-same, front_told-step, front_told-none}

@@ -19,7 +19,7 @@ use Rattle.fi_parts.specs.Order.{holds, without}
 use Rattle.fi_parts.specs.Places.{is_told, queued_rule}
 use Rattle.fi_parts.specs.WakerHistory.{WakerEffect, gives}
 use Rattle.fi_parts.specs.WakerHistory.WakerEffect.{Leaves, NoEffect}
-use Rattle.fi_parts.specs.Waiting.{Side, Waiting, phase_in, phase_of, is_queued}
+use Rattle.fi_parts.specs.Waiting.{Waiters, Waiting, phase_in, phase_of, is_queued}
 use Rattle.fi_parts.proofs.Effects.{untold, untold_if_leaving, effect_after, effect_sound}
 use Rattle.fi_parts.proofs.Machines.{initial_holds, line_preserves, line, unchanged, inserts, removes, pops, ends_placed}
 use Rattle.fi_parts.proofs.Machines.{registers, stays, added, phases_after}
@@ -103,7 +103,7 @@ module _ {D W : Type 0} where
   queue_if waiting now is = ap (λ (w : Waiting D W). w.side.queue) is
 
   -- one future changed, and is told as it was
-  told_as_before : (old new : Side D W) (name : ℕ) (phase : Option (Phase W)) → Becomes old new name phase →
+  told_as_before : (old new : Waiters D W) (name : ℕ) (phase : Option (Phase W)) → Becomes old new name phase →
       is_told phase ≡ is_told (phase_of old name) → (q : ℕ) → is_told (phase_of new q) ≡ is_told (phase_of old q)
   told_as_before old new name phase becomes same q = elim (cases_eq q name) [
     | inl e ↦ rw e (ap is_told becomes.here ∙ same)
@@ -111,7 +111,7 @@ module _ {D W : Type 0} where
   ]
 
   -- one future changed and isn't told, nor is another
-  none_told : (old new : Side D W) (name : ℕ) (phase : Option (Phase W)) → Becomes old new name phase → is_told phase ≡ false →
+  none_told : (old new : Waiters D W) (name : ℕ) (phase : Option (Phase W)) → Becomes old new name phase → is_told phase ≡ false →
       ((q : ℕ) → q ≢ name → is_told (phase_of old q) ≡ false) → (q : ℕ) → is_told (phase_of new q) ≡ false
   none_told old new name phase becomes off others q = elim (cases_eq q name) [
     | inl e ↦ rw e (ap is_told becomes.here ∙ off)

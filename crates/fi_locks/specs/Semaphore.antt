@@ -10,7 +10,7 @@ use Rattle.fi_parts.specs.Effects.WaiterEffect.{NoChange, Inserts, Registers, Ke
 use Rattle.fi_parts.specs.Effects.WaiterEffect.{EndsPlaced, Removes, NotifiesFront, PopsOldest}
 use Rattle.fi_parts.specs.Machine.{Machine, phase_at, initial, StepsTo, HasSoundWaitersBy}
 use Rattle.fi_parts.specs.Places.{is_told}
-use Rattle.fi_parts.specs.Waiting.{Side, Waiting, phase_of, asks_of, is_queued, is_registered}
+use Rattle.fi_parts.specs.Waiting.{Waiters, Waiting, phase_of, asks_of, is_queued, is_registered}
 use Rattle.fi_locks.specs.declared.asked.Asked.{Asked}
 use Rattle.fi_locks.specs.declared.asked.Asked.TheVariants.{NoNeed, OneNeed, MixedNeeds}
 use Rattle.fi_locks.specs.ToldFutures.{AreTold, IsToldFront}
@@ -67,7 +67,7 @@ module _ {W : Type 0} where
   opened is_fair permits = initial (record { is_fair = is_fair; free = permits; held = 0; asked = NoNeed })
 
   -- how many permits a future needs
-  abbrev pub need_of : Side ℕ W → ℕ → ℕ
+  abbrev pub need_of : Waiters ℕ W → ℕ → ℕ
   need_of side name = unwrap_or (asks_of side name) 0
 
   -- a poll may be made: the name is live and has not ended
@@ -175,7 +175,7 @@ module _ {W : Type 0} where
 
   -- Of a fair semaphore: the told are a front of the queue, their needs together are free, and the oldest is told exactly if its need
   -- is free.
-  pub record OwesNoWakeFair (free : ℕ) (side : Side ℕ W) : Type 0 where
+  pub record OwesNoWakeFair (free : ℕ) (side : Waiters ℕ W) : Type 0 where
     pub told : List ℕ
     pub rest : List ℕ
     pub front : IsToldFront side told rest
@@ -184,13 +184,13 @@ module _ {W : Type 0} where
         is_told (phase_of side next) ≡ nat_le (need_of side next) free
 
   -- Of an unfair semaphore whose futures all needed this many: if one is registered, the told and one more need more than is free.
-  pub record OwesNoWakeUnfair (free only : ℕ) (side : Side ℕ W) : Type 0 where
+  pub record OwesNoWakeUnfair (free only : ℕ) (side : Waiters ℕ W) : Type 0 where
     pub told : List ℕ
     pub are : AreTold side told
     pub enough : (name : ℕ) → is_registered (phase_of side name) ≡ true → free < (length told + 1) * only
 
   -- Where the futures of an unfair semaphore needed different numbers, nothing is claimed.
-  abbrev pub OwesNoWakeIf : Bool → Asked → ℕ → Side ℕ W → Type 0
+  abbrev pub OwesNoWakeIf : Bool → Asked → ℕ → Waiters ℕ W → Type 0
   OwesNoWakeIf true asked free side = OwesNoWakeFair free side
   OwesNoWakeIf false (OneNeed only) free side = OwesNoWakeUnfair free only side
   OwesNoWakeIf false asked free side = ⊤

@@ -9,7 +9,7 @@ use Rattle.fi_parts.specs.declared.phase.Phase.{Phase}
 use Rattle.fi_parts.specs.declared.phase.Phase.TheVariants.{Registered, Told}
 use Rattle.fi_parts.specs.Order.{holds, Apart, without}
 use Rattle.fi_parts.specs.Places.{is_told}
-use Rattle.fi_parts.specs.Waiting.{Side, Waiting, phase_of}
+use Rattle.fi_parts.specs.Waiting.{Waiters, Waiting, phase_of}
 use Rattle.fi_parts.proofs.Queues.{holds-without_same}
 use Rattle.fi_parts.proofs.Slots.{in_neither}
 use Rattle.fi_parts.proofs.Waiting.{Becomes}
@@ -37,16 +37,16 @@ taken_fairly permits queue n fair takes =
 
 module _ {W : Type 0} where
   -- who is first in a queue stands in it
-  pub first_held : (side : Side ℕ W) (next : ℕ) (later : List ℕ) → side.queue ≡ next ∷ later → holds next side.queue ≡ true
+  pub first_held : (side : Waiters ℕ W) (next : ℕ) (later : List ℕ) → side.queue ≡ next ∷ later → holds next side.queue ≡ true
   first_held side next later is = ap (holds next) is ∙ or_left (eqb next next) _ (eq-eqb next next refl)
 
   -- one that is not queued is not the first
-  pub not_first : (side : Side ℕ W) (name next : ℕ) (later : List ℕ) → holds name side.queue ≡ false → side.queue ≡ next ∷ later →
+  pub not_first : (side : Waiters ℕ W) (name next : ℕ) (later : List ℕ) → holds name side.queue ≡ false → side.queue ≡ next ∷ later →
       next ≢ name
   not_first side name next later off is same = both_ways _ off (ap (λ n. holds n side.queue) (sym same) ∙ first_held side next later is)
 
   -- Queue and told futures are as before, those queued need what they needed, and as many permits are free.
-  pub fair_still : (old new : Side ℕ W) (free : ℕ) → OwesNoWakeFair free old → new.queue ≡ old.queue →
+  pub fair_still : (old new : Waiters ℕ W) (free : ℕ) → OwesNoWakeFair free old → new.queue ≡ old.queue →
       ((q : ℕ) → is_told (phase_of new q) ≡ is_told (phase_of old q)) →
       ((q : ℕ) → holds q old.queue ≡ true → need_of new q ≡ need_of old q) → OwesNoWakeFair free new
   fair_still old new free was queue same needs = record {
@@ -66,7 +66,7 @@ module _ {W : Type 0} where
       ]
 
   -- Nobody is queued, and the same are told: nobody.
-  pub fair_empty : (old new : Side ℕ W) (free free_now : ℕ) → OwesNoWakeFair free old → old.queue ≡ [] → new.queue ≡ old.queue →
+  pub fair_empty : (old new : Waiters ℕ W) (free free_now : ℕ) → OwesNoWakeFair free old → old.queue ≡ [] → new.queue ≡ old.queue →
       ((q : ℕ) → is_told (phase_of new q) ≡ is_told (phase_of old q)) → OwesNoWakeFair free_now new
   fair_empty old new free free_now was empty queue same = record {
     told = [];
@@ -80,7 +80,7 @@ module _ {W : Type 0} where
   }
 
   -- One name changed that was not queued.
-  pub fair_changed : (old new : Side ℕ W) (name : ℕ) (phase : Option (Phase W)) (free : ℕ) → OwesNoWakeFair free old →
+  pub fair_changed : (old new : Waiters ℕ W) (name : ℕ) (phase : Option (Phase W)) (free : ℕ) → OwesNoWakeFair free old →
       holds name old.queue ≡ false → new.queue ≡ old.queue → Changes old new name phase → is_told phase ≡ false →
       OwesNoWakeFair free new
   fair_changed old new name phase free was off queue c not_told =
@@ -89,7 +89,7 @@ module _ {W : Type 0} where
       (λ q at. c.needs q (λ e. both_ways _ off (subst (λ (n : ℕ). holds n old.queue ≡ true) e at)))
 
   -- One that is not granted registers: it is the oldest only if its need is not free.
-  pub fair_registered : (old : SemaphoreMachine W) (new : Side ℕ W) (name : ℕ) (waker : W) → old.own.is_fair ≡ true →
+  pub fair_registered : (old : SemaphoreMachine W) (new : Waiters ℕ W) (name : ℕ) (waker : W) → old.own.is_fair ≡ true →
       OwesNoWakeFair old.own.free old.waiting.side → holds name old.waiting.side.queue ≡ false →
       Becomes old.waiting.side new name (Some (Registered waker)) → new.queue ≡ old.waiting.side.queue ++ name ∷ [] →
       ((q : ℕ) → need_of new q ≡ need_of old.waiting.side q) →
@@ -102,7 +102,7 @@ module _ {W : Type 0} where
     oldest = λ next later is. oldest_at side.queue refl next later (sym queue ∙ is);
   }
     where
-      side : Side ℕ W
+      side : Waiters ℕ W
       side = old.waiting.side
 
       oldest_at : (names : List ℕ) → side.queue ≡ names → (next : ℕ) (later : List ℕ) → side.queue ++ name ∷ [] ≡ next ∷ later →
@@ -198,14 +198,14 @@ module _ {W : Type 0} where
             ∙ sym (le-leb (need next) old.own.free (subst (λ (n : ℕ). need n ≤ old.own.free) same small))
 
   -- The needs of the told are together free: a told future's need, and the others' with it.
-  pub told_fits : (side : Side ℕ W) (name free : ℕ) (told rest : List ℕ) → IsToldFront side told rest → Apart told →
+  pub told_fits : (side : Waiters ℕ W) (name free : ℕ) (told rest : List ℕ) → IsToldFront side told rest → Apart told →
       sum_by (need_of side) told ≤ free → is_told (phase_of side name) ≡ true →
       sum_by (need_of side) (without name told) + need_of side name ≤ free
   told_fits side name free told rest front once fits is =
       omega (arith, fits, sum_without_one (need_of side) name told once (sym (front.all name) ∙ is))
 
   -- One that was queued left the queue, and is not told now: the others that are told need no more than before.
-  pub less_told : (old new : Side ℕ W) (name : ℕ) (told : List ℕ) → ((q : ℕ) → q ≢ name → need_of new q ≡ need_of old q) →
+  pub less_told : (old new : Waiters ℕ W) (name : ℕ) (told : List ℕ) → ((q : ℕ) → q ≢ name → need_of new q ≡ need_of old q) →
       sum_by (need_of new) (without name told) ≡ sum_by (need_of old) (without name told)
   less_told old new name told needs =
       sum_held (need_of new) (need_of old) (without name told)

@@ -2,7 +2,7 @@
 use Rattle.std.specs.Prelude.{◌≡◌, ◌≢◌, ◌+◌, ◌≤◌, ◌<◌, ⊤, ℕ, Bool, true, false, Option, List, [], ◌∷◌, ◌++◌, sum_by, MatchOption}
 use Rattle.fi_parts.specs.declared.errors.Slot.{Slot}
 use Rattle.fi_parts.specs.Order.{without}
-use Rattle.fi_parts.specs.Waiting.{Side, Waiting, front_told}
+use Rattle.fi_parts.specs.Waiting.{Waiters, Waiting, front_told}
 use Rattle.fi_locks.specs.declared.semaphore.Fields.{Fields}
 use Rattle.fi_locks.specs.Semaphore.{SemaphoreMachine, need_of}
 use Rattle.fi_locks.specs.ToldFutures.{IsToldFront}
@@ -20,7 +20,7 @@ IsFirst first names = MatchOption first (names ≡ []) (λ slot. (later : List �
 
 module _ {W : Type 0} where
   -- Those told are a front of the queue and need together what is promised, which is free; this is the oldest that is not told.
-  pub record Marks (free promised : ℕ) (untold : Option Slot) (side : Side ℕ W) : Type 0 where
+  pub record Marks (free promised : ℕ) (untold : Option Slot) (side : Waiters ℕ W) : Type 0 where
     pub told : List ℕ
     pub rest : List ℕ
     pub front : IsToldFront side told rest
@@ -29,7 +29,7 @@ module _ {W : Type 0} where
     pub first : IsFirst untold rest
 
   -- in an unfair semaphore, whose told futures are not queued, nothing is marked
-  abbrev pub MarksIf : Bool → ℕ → ℕ → Option Slot → Side ℕ W → Type 0
+  abbrev pub MarksIf : Bool → ℕ → ℕ → Option Slot → Waiters ℕ W → Type 0
   MarksIf true free promised untold side = Marks free promised untold side
   MarksIf false free promised untold side = promised ≡ 0
 
@@ -37,7 +37,7 @@ module _ {W : Type 0} where
   IsMarked fields = MarksIf fields.is_fair fields.free fields.promised fields.untold fields.waits.side
 
   -- the same of all but this name, which is about to leave the queue
-  pub record MarksWithout (name free promised : ℕ) (untold : Option Slot) (side : Side ℕ W) : Type 0 where
+  pub record MarksWithout (name free promised : ℕ) (untold : Option Slot) (side : Waiters ℕ W) : Type 0 where
     pub told : List ℕ
     pub rest : List ℕ
     pub front : IsToldFront side told rest
@@ -45,7 +45,7 @@ module _ {W : Type 0} where
     pub fits : promised ≤ free
     pub first : IsFirst untold (without name rest)
 
-  abbrev pub MarksWithoutIf : Bool → ℕ → ℕ → ℕ → Option Slot → Side ℕ W → Type 0
+  abbrev pub MarksWithoutIf : Bool → ℕ → ℕ → ℕ → Option Slot → Waiters ℕ W → Type 0
   MarksWithoutIf true name free promised untold side = MarksWithout name free promised untold side
   MarksWithoutIf false name free promised untold side = promised ≡ 0
 
@@ -59,5 +59,5 @@ module _ {W : Type 0} where
     pub at : IsFirst next rest
 
   -- nobody is next, or one who needs more than what is left
-  abbrev pub IsStopped : Side ℕ W → ℕ → Option Slot → Type 0
+  abbrev pub IsStopped : Waiters ℕ W → ℕ → Option Slot → Type 0
   IsStopped side available next = MatchOption next ⊤ (λ slot. available < need_of side slot.0)

@@ -18,7 +18,7 @@ use Rattle.fi_parts.specs.Effects.WaiterEffect.{AndThen}
 use Rattle.fi_parts.specs.Machine.{phase_at, AllowsEffect, LacksAfter, StepsTo, Line, PollLine, poll_effect, waker_effect}
 use Rattle.fi_parts.specs.Order.{holds, Apart, without}
 use Rattle.fi_parts.specs.Places.{is_told, IsUntold, queued_rule}
-use Rattle.fi_parts.specs.Waiting.{Side, Waiting, phase_in, phase_of, is_queued, is_registered}
+use Rattle.fi_parts.specs.Waiting.{Waiters, Waiting, phase_in, phase_of, is_queued, is_registered}
 use Rattle.fi_parts.specs.WakerHistory.{WakerEffect, gives}
 use Rattle.fi_parts.specs.WakerHistory.WakerEffect.{Leaves, NoEffect}
 use Rattle.fi_parts.proofs.Effects.{After, effect_after, untold, untold_if_leaving}
@@ -69,7 +69,7 @@ module _ {W : Type 0} where
   abbrev pub Holds : SemaphoreMachine W → Type 0
   Holds state = IsSound state × OwesNoWake state
 
-  owes_cases : (is_fair : Bool) (asked : Asked) (free : ℕ) (side : Side ℕ W) → (is_fair ≡ true → OwesNoWakeFair free side) →
+  owes_cases : (is_fair : Bool) (asked : Asked) (free : ℕ) (side : Waiters ℕ W) → (is_fair ≡ true → OwesNoWakeFair free side) →
       ((only : ℕ) → is_fair ≡ false → asked ≡ OneNeed only → OwesNoWakeUnfair free only side) → OwesNoWakeIf is_fair asked free side
   owes_cases true asked free side fair unfair = fair refl
   owes_cases false NoNeed free side fair unfair = tt
@@ -258,7 +258,7 @@ module _ {W : Type 0} where
       let sides : new.waiting.side ≡ old.waiting.side = ap (λ (w : Waiting ℕ W). w.side) did.1.1 in
       let sound = sound_permits old permits new.waiting was.0 refl refl (counted_still old.own.free old.own.held n was.0.counted fits) sides
       (waiters_after NoChange old new.waiting was.0 tt did.1.1) in
-      let queue = ap (λ (s : Side ℕ W). s.queue) sides in
+      let queue = ap (λ (s : Waiters ℕ W). s.queue) sides in
       let told : (q : ℕ) → is_told (phase_at new q) ≡ is_told (phase_at old q) = λ q. ap (λ s. is_told (phase_of s q)) sides in
       to_new permits new did.1.0 (holds_by old permits new.waiting was.1 sound refl refl
       (λ fair owed. elim (taken_fairly old.own old.waiting.side.queue n fair takes) [
@@ -282,7 +282,7 @@ module _ {W : Type 0} where
       let told : (q : ℕ) → is_told (phase_at new q) ≡ is_told (phase_at old q) = λ q. ap (λ s. is_told (phase_of s q)) sides in
       to_new permits new did.0 (holds_by old permits new.waiting was.1 sound kind asked
       (λ fair owed. subst (λ f. OwesNoWakeFair f new.waiting.side) (sym free)
-      (fair_still old.waiting.side new.waiting.side old.own.free owed (ap (λ (s : Side ℕ W). s.queue) sides) told
+      (fair_still old.waiting.side new.waiting.side old.own.free owed (ap (λ (s : Waiters ℕ W). s.queue) sides) told
       (λ q at. ap (λ s. need_of s q) sides)))
       (λ only unfair one owed. unfair_still old.waiting.side new.waiting.side old.own.free permits.free only owed (omega (arith, free)) told
       (λ q is. sym (ap (λ s. is_registered (phase_of s q)) sides) ∙ is)))

@@ -12,7 +12,7 @@ use Rattle.fi_parts.specs.Effects.WaiterEffect.{NoChange, Inserts, EndsPlaced, R
 use Rattle.fi_parts.specs.Machine.{phase_at, AllowsBasics, AllowsEffect, WaiterRules, StepsTo, HasSoundWaitersBy}
 use Rattle.fi_parts.specs.Order.{holds}
 use Rattle.fi_parts.specs.Places.{is_told, queued_rule}
-use Rattle.fi_parts.specs.Waiting.{Side, Waiting, phase_in, phase_of, asks_in, asks_of, is_queued, is_registered}
+use Rattle.fi_parts.specs.Waiting.{Waiters, Waiting, phase_in, phase_of, asks_in, asks_of, is_queued, is_registered}
 use Rattle.fi_parts.proofs.Effects.{After, effect_sound, effect_after}
 use Rattle.fi_parts.proofs.Machines.{asks_step, asks_after, phases_after, initial_holds}
 use Rattle.fi_parts.proofs.Notified.{AllBecome}
@@ -97,14 +97,14 @@ module _ {W : Type 0} where
   registered_waits keeps (Some Ended) h = h
 
   -- One name changed: this is its phase now, and the others have the phases and needs that they had.
-  pub record Changes (old new : Side ℕ W) (name : ℕ) (phase : Option (Phase W)) : Type 0 where
+  pub record Changes (old new : Waiters ℕ W) (name : ℕ) (phase : Option (Phase W)) : Type 0 where
     pub becomes : Becomes old new name phase
     pub needs : (q : ℕ) → q ≢ name → need_of new q ≡ need_of old q
 
   abbrev pub at_own : Permits → Waiting ℕ W → SemaphoreMachine W
   at_own permits waiting = record { own = permits; waiting = waiting }
 
-  need_from : (new : Side ℕ W) (q : ℕ) (asks : Option ℕ) → asks_of new q ≡ asks → need_of new q ≡ unwrap_or asks 0
+  need_from : (new : Waiters ℕ W) (q : ℕ) (asks : Option ℕ) → asks_of new q ≡ asks → need_of new q ≡ unwrap_or asks 0
   need_from new q asks same = ap (λ o. unwrap_or o 0) same
 
   -- the needs after an effect that makes no future and removes none
@@ -187,7 +187,7 @@ module _ {W : Type 0} where
     waiters = subst (λ b. HasSoundWaitersBy (is_queued b) is_acquire_phase (at_own old.own new)) (sym fair) waiters;
     counted = counted;
     among = λ q. rw (asked, same) (was.among q);
-    needs = λ q at. rw same (was.needs q (subst (λ (s : Side ℕ W). is_queued true (phase_of s q) ≡ true) same at));
+    needs = λ q at. rw same (was.needs q (subst (λ (s : Waiters ℕ W). is_queued true (phase_of s q) ≡ true) same at));
   }
 
   pub sound_inserted : (old : SemaphoreMachine W) (new : Waiting ℕ W) (name need : ℕ) → IsSound old →

@@ -8,7 +8,7 @@ use Rattle.fi_parts.specs.declared.phase.Phase.TheVariants.{Fresh, Registered, T
 use Rattle.fi_parts.specs.Machine.{phase_at}
 use Rattle.fi_parts.specs.Order.{holds, Apart, without}
 use Rattle.fi_parts.specs.Places.{is_told}
-use Rattle.fi_parts.specs.Waiting.{Side, phase_of, is_queued, is_registered}
+use Rattle.fi_parts.specs.Waiting.{Waiters, phase_of, is_queued, is_registered}
 use Rattle.fi_parts.proofs.Slots.{eqb_same, holds-append, Apart-front}
 use Rattle.fi_parts.proofs.Waiting.{Becomes}
 use Rattle.fi_locks.specs.declared.asked.Asked.TheVariants.{NoNeed, OneNeed}
@@ -52,7 +52,7 @@ module _ {W : Type 0} where
   told_unregistered p is h = both_ways _ (ap is_registered is) h
 
   -- The same are told, nobody more is registered, and no more is free.
-  pub unfair_still : (old new : Side ℕ W) (free free_now only : ℕ) → OwesNoWakeUnfair free only old → free_now ≤ free →
+  pub unfair_still : (old new : Waiters ℕ W) (free free_now only : ℕ) → OwesNoWakeUnfair free only old → free_now ≤ free →
       ((q : ℕ) → is_told (phase_of new q) ≡ is_told (phase_of old q)) →
       ((q : ℕ) → is_registered (phase_of new q) ≡ true → is_registered (phase_of old q) ≡ true) → OwesNoWakeUnfair free_now only new
   unfair_still old new free free_now only was less same registered = record {
@@ -62,7 +62,7 @@ module _ {W : Type 0} where
   }
 
   -- One name changed, and is not registered now unless it was.
-  pub still_registered : (old new : Side ℕ W) (name : ℕ) (phase : Option (Phase W)) → Becomes old new name phase →
+  pub still_registered : (old new : Waiters ℕ W) (name : ℕ) (phase : Option (Phase W)) → Becomes old new name phase →
       (is_registered phase ≡ true → is_registered (phase_of old name) ≡ true) →
       (q : ℕ) → is_registered (phase_of new q) ≡ true → is_registered (phase_of old q) ≡ true
   still_registered old new name phase b here q is = elim (cases_eq q name) [
@@ -71,7 +71,7 @@ module _ {W : Type 0} where
   ]
 
   -- a told one was granted what it needs
-  pub unfair_told_granted : (old new : Side ℕ W) (free only name : ℕ) (phase : Option (Phase W)) → OwesNoWakeUnfair free only old →
+  pub unfair_told_granted : (old new : Waiters ℕ W) (free only name : ℕ) (phase : Option (Phase W)) → OwesNoWakeUnfair free only old →
       Becomes old new name phase → is_told phase ≡ false → is_registered phase ≡ false → only ≤ free →
       OwesNoWakeUnfair (free - only) only new
   unfair_told_granted old new free only name phase was b not_told apart fits = record {
@@ -87,7 +87,7 @@ module _ {W : Type 0} where
   }
 
   -- one whose need is not free registers, told or fresh
-  pub unfair_registered : (old new : Side ℕ W) (free only name : ℕ) (waker : W) → OwesNoWakeUnfair free only old →
+  pub unfair_registered : (old new : Waiters ℕ W) (free only name : ℕ) (waker : W) → OwesNoWakeUnfair free only old →
       Becomes old new name (Some (Registered waker)) → free < only → OwesNoWakeUnfair free only new
   unfair_registered old new free only name waker was b over = record {
     told = without name was.told;

@@ -217,7 +217,7 @@ impl<T: Drop, W: Drop> Fields<T, W> {
         ensures refused { OnErr result (machine_of self.new ≡ machine_of self.old) }
         ensures fault { IfErr result (λ fault. fault ≡ Fault.NoMemory) }
     {
-        match self.locks.make(()) {
+        match self.locks.insert(()) {
             Ok(slot) => Ok(slot),
             Err(_) => Err(Fault::NoMemory),
         }
@@ -277,7 +277,7 @@ impl<T: Drop, W: Drop> Fields<T, W> {
         if has_place {
             self.locks.leave(slot);
         }
-        let before = self.locks.stand(slot, Phase::Ended);
+        let before = self.locks.set_phase(slot, Phase::Ended);
         (
             Poll::Ready(value),
             Leftover::of(before.or(named), Some(waker)),
@@ -325,7 +325,7 @@ impl<T: Drop, W: Drop> Fields<T, W> {
             }
         }
         self.locks.take_out(slot);
-        let before = self.locks.stand(slot, Phase::Registered(waker));
+        let before = self.locks.set_phase(slot, Phase::Registered(waker));
         (Poll::Pending, Leftover::of(before, None))
     }
 
@@ -376,7 +376,7 @@ impl<T: Drop, W: Drop> Fields<T, W> {
         ensures displaced { result ≡ displaced self.old.locks.side self.old.locks.out slot.0 }
     {
         let was_told = self.is_told(slot);
-        let (_, waker) = self.locks.forget(slot);
+        let (_, waker) = self.locks.remove(slot);
         if was_told {
             self.tell_oldest();
         }

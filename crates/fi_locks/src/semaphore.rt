@@ -273,7 +273,7 @@ impl<W: Drop> Fields<W> {
         ensures fault { IfErr result (λ fault. fault ≡ Fault.NoMemory) }
         ensures marked { IsMarked self.new }
     {
-        match self.waits.make(permits) {
+        match self.waits.insert(permits) {
             Ok(slot) => {
                 self.asked = self.asked.after(permits);
                 Ok(slot)
@@ -335,7 +335,7 @@ impl<W: Drop> Fields<W> {
     {
         let named = self.waits.take_out(slot);
         self.waits.leave(slot);
-        self.waits.stand(slot, Phase::Ended).or(named)
+        self.waits.set_phase(slot, Phase::Ended).or(named)
     }
 
     fn poll_fresh(&mut self, slot: Slot, waker: W) -> (Poll<usize>, Leftover<W>)
@@ -356,7 +356,7 @@ impl<W: Drop> Fields<W> {
         }
         self.hand_out(need);
         let named = self.waits.take_out(slot);
-        self.waits.stand(slot, Phase::Ended);
+        self.waits.set_phase(slot, Phase::Ended);
         (Poll::Ready(need), Leftover::of(named, Some(waker)))
     }
 
@@ -372,7 +372,7 @@ impl<W: Drop> Fields<W> {
         let need = self.need(slot);
         if self.is_fair || need > self.free {
             self.waits.take_out(slot);
-            let before = self.waits.stand(slot, Phase::Registered(waker));
+            let before = self.waits.set_phase(slot, Phase::Registered(waker));
             return (Poll::Pending, Leftover::of(before, None));
         }
         self.hand_out(need);
@@ -466,7 +466,7 @@ impl<W: Drop> Fields<W> {
     {
         let tells = self.tells_on_cancel(slot);
         self.unmark(slot);
-        let (_, waker) = self.waits.forget(slot);
+        let (_, waker) = self.waits.remove(slot);
         if tells {
             self.tell();
         }

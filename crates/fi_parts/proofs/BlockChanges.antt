@@ -8,7 +8,7 @@ use Rattle.slab.specs.Slab.{Slab, get, Updates}
 use Rattle.fi_parts.specs.declared.blocks.block.Block.{Block}
 use Rattle.fi_parts.specs.declared.blocks.block.BlockPtr.{BlockPtr}
 use Rattle.fi_parts.specs.declared.blocks.linked.LinkedBlocks.{LinkedBlocks}
-use Rattle.fi_parts.specs.Listed.{with_live}
+use Rattle.fi_parts.specs.ListModel.{with_live}
 use Rattle.fi_parts.specs.Links.{alike, loose, is_linked, names, Linked}
 use Rattle.fi_parts.specs.Placed.{at_ptr, without_at}
 use Rattle.fi_parts.specs.Blocks.{items_from, slot_or, item_by, live_by, slot_by, IsStored, view_of, IsSound}

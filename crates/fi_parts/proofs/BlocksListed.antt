@@ -9,7 +9,7 @@ use Rattle.fi_parts.specs.declared.blocks.block.Block.{Block}
 use Rattle.fi_parts.specs.declared.blocks.block.BlockPtr.{BlockPtr}
 use Rattle.fi_parts.specs.declared.blocks.linked.LinkedBlocks.{LinkedBlocks}
 use Rattle.fi_parts.specs.Order.{holds, Apart}
-use Rattle.fi_parts.specs.Listed.{IsListed}
+use Rattle.fi_parts.specs.ListModel.{IsListed}
 use Rattle.fi_parts.specs.Links.{Distinct}
 use Rattle.fi_parts.specs.Blocks.{item_by, slot_by, IsStored, IsSound, view_of}
 use Rattle.fi_parts.specs.CountedBlocks.{data_in, item_in}

@@ -12,7 +12,7 @@ use Rattle.fi_parts.specs.declared.phase.Notice.TheVariants.{Tell, Renew}
 use Rattle.fi_parts.specs.Noticed.{phase_after}
 use Rattle.fi_parts.specs.Order.{holds}
 use Rattle.fi_parts.specs.Places.{IsPlaceRule, IsUntold, is_told}
-use Rattle.fi_parts.specs.Waiting.{Side, Waiting, phase_of, is_registered, may_be_named, exchange, noticed, pair, pair_of, IsOrderedBy}
+use Rattle.fi_parts.specs.Waiting.{Waiters, Waiting, phase_of, is_registered, may_be_named, exchange, noticed, pair, pair_of, IsOrderedBy}
 use Rattle.fi_parts.specs.Waiting.{AreSoundBy}
 use Rattle.fi_parts.proofs.Waiting.{Becomes, becomes-made, becomes-with_phase, becomes-forgotten, noticed_phase, lives_as, notices}
 use Rattle.fi_parts.proofs.Waiting.{live_if_registered}
@@ -113,7 +113,7 @@ module _ {D W : Type 0} where
   to old new is name phase same b = subst (λ (w : Waiting D W). Becomes old.side w.side name phase) (sym same) b
 
   same_phases : (old new is : Waiting D W) → new ≡ is → is.side ≡ old.side → (q : ℕ) → phase_of new.side q ≡ phase_of old.side q
-  same_phases old new is same sides q = ap (λ (w : Waiting D W). phase_of w.side q) same ∙ ap (λ (s : Side D W). phase_of s q) sides
+  same_phases old new is same sides q = ap (λ (w : Waiting D W). phase_of w.side q) same ∙ ap (λ (s : Waiters D W). phase_of s q) sides
 
 one_held : (name : ℕ) → holds name (name ∷ []) ≡ true
 one_held name = or_left _ _ (eqb_same name)
@@ -403,14 +403,14 @@ still_some phase (Some Complete) lives = refl
 still_some phase (Some Ended) lives = refl
 
 module _ {D W : Type 0} where
-  some_of_these : (old new : Side D W) (names : List ℕ) (phase : Phase W) → AllBecome old new names phase → (q : ℕ) →
+  some_of_these : (old new : Waiters D W) (names : List ℕ) (phase : Phase W) → AllBecome old new names phase → (q : ℕ) →
       is_some (phase_of old q) ≡ true → is_some (phase_of new q) ≡ true
   some_of_these old new names phase now q lives = elim (cases_Bool (holds q names)) [
     | inl at ↦ ap is_some (now.these q at)
     | inr off ↦ ap is_some (now.others q off) ∙ lives
   ]
 
-  some_of_one : (old new : Side D W) (name : ℕ) (phase : Phase W) → Becomes old new name (Some phase) → (q : ℕ) →
+  some_of_one : (old new : Waiters D W) (name : ℕ) (phase : Phase W) → Becomes old new name (Some phase) → (q : ℕ) →
       is_some (phase_of old q) ≡ true → is_some (phase_of new q) ≡ true
   some_of_one old new name phase now q lives = elim (cases_eq q name) [
     | inl same ↦ ap (λ n. is_some (phase_of new n)) same ∙ ap is_some now.here

@@ -5,8 +5,8 @@ use Rattle.std.proofs.lemmas.Bool.{cases_Bool, ltb-false, leb-true, le-leb, both
 use Rattle.std.specs.FinMap as map
 use Rattle.std.specs.FinSet as set
 use Rattle.fi_parts.specs.declared.phase.Future.{Future}
-use Rattle.fi_parts.specs.Heaped.{Heaped, value_under}
-use Rattle.fi_parts.specs.Waiting.{Side, Waiting, phase_in, asks_in, is_registered}
+use Rattle.fi_parts.specs.HeapModel.{HeapModel, value_under}
+use Rattle.fi_parts.specs.Waiting.{Waiters, Waiting, phase_in, asks_in, is_registered}
 use Rattle.fi_parts.specs.declared.deadlines.Timed.{Timed}
 use Rattle.fi_parts.specs.Deadlines.{expiry_of, is_entered, IsLeastDue, NoneDue}
 use Rattle.fi_parts.specs.Seats.{deadlines_of, due_of, AreSeated, IsFirst}
@@ -24,8 +24,8 @@ no_later later due apart = elim (cases_Bool (nat_lt later.expiry due.expiry)) [
   | inr not_earlier ↦ ltb-false later.expiry due.expiry not_earlier
 ]
 
-module _ {W : Type 0} (w : Waiting Timed W) (heap : Heaped Due) (was : AreSeated w.side.live heap) where
-  abbrev pub seen : Side ℕ W
+module _ {W : Type 0} (w : Waiting Timed W) (heap : HeapModel Due) (was : AreSeated w.side.live heap) where
+  abbrev pub seen : Waiters ℕ W
   seen = (deadlines_of w).side
 
   registered_here : (q : ℕ) → is_entered seen q ≡ true → (g : Future Timed W) × (map.get w.side.live q ≡ Some g) ×

@@ -9,7 +9,7 @@ use Rattle.fi_parts.specs.declared.heap_nodes.HeapLinks.{HeapLinks}
 use Rattle.fi_parts.specs.HeapForests.{Forest, nil, node, Tree, no_tree, tree, head, top, one_at, count, count_in, child_to}
 use Rattle.fi_parts.specs.HeapForests.{next_to, linked, backed, pointed, root_to, IsBackLinked, Makes, Strings, Roots, Below}
 use Rattle.fi_parts.specs.HeapForests.{Ordered, OrderedIn}
-use Rattle.fi_parts.specs.HeapPieces.{flag, Pieces, Parts}
+use Rattle.fi_parts.specs.HeapPieces.{flag, Pieces, HeapSplit}
 use Rattle.fi_parts.proofs.HeapForests.{one_at-same, one_at-other, not_there, linked-same, linked-other, backed-other}
 use Rattle.fi_parts.proofs.HeapForests.{Makes-alike, Makes-backed, Strings-made, Ordered-under}
 use Rattle.fi_parts.proofs.HeapPieces.{flag-le, flag-some, flag-same}
@@ -189,7 +189,7 @@ pub record Cut {T : Type 0} (cmp : T → T → Ordering) (g : ℕ → Option Hea
   pub back_linked : IsBackLinked (linked g x None) l.back
   pub next_linked : IfSome l.next (λ k. is_some (without g x l k) ≡ true)
   pub parts : (h : ℕ → Option HeapLinks) → h ≡ backed (without g x l) l.next l.back → is_some (h x) ≡ false
-      → ((k : ℕ) → k ≢ x → is_some (h k) ≡ is_some (g k)) → Parts cmp h v (root_to root l.back l.next) None l.child None
+      → ((k : ℕ) → k ≢ x → is_some (h k) ≡ is_some (g k)) → HeapSplit cmp h v (root_to root l.back l.next) None l.child None
 
 module _ {T : Type 0} (cmp : T → T → Ordering) (g : ℕ → Option HeapLinks) (v : ℕ → Option T) where
   tally-cut : (h : ℕ → Option HeapLinks) (x n : ℕ) (k : ℕ) → is_some (h x) ≡ false → ((k : ℕ) → k ≢ x → is_some (h k) ≡ is_some (g k))
@@ -346,7 +346,7 @@ module _ {T : Type 0} (cmp : T → T → Ordering) (g : ℕ → Option HeapLinks
             (some_links (sym (cut-links found.path x found.kids found.rest q) ∙ is)) (cut-path found.path x found.kids found.rest q))
       ]
 
-  pub cut : (root : Option ℕ) (x : ℕ) (l : HeapLinks) → g x ≡ Some l → Parts cmp g v root None None None → Cut cmp g v root x l
+  pub cut : (root : Option ℕ) (x : ℕ) (l : HeapLinks) → g x ≡ Some l → HeapSplit cmp g v root None None None → Cut cmp g v root x l
   cut root x l is P = from P.main P.held P.rest P.pairs P.main_top P.held_top P.rest_head P.pairs_head P.pieces
     where
       from : (m t : Tree) (ts us : Forest) → top m ≡ root → top t ≡ None → head ts ≡ None → head us ≡ None → Pieces cmp g v m t ts us

@@ -9,7 +9,7 @@ use Rattle.fi_parts.specs.declared.heap_nodes.HeapLinks.{HeapLinks}
 use Rattle.fi_parts.specs.HeapForests.{Forest, nil, node, Tree, no_tree, tree, head, top, one_at, count, count_in, roots}
 use Rattle.fi_parts.specs.HeapForests.{child_of, next_of, next_to, placed, linked, Makes, Strings, Holds, Roots, span, Ordered}
 use Rattle.fi_parts.specs.HeapForests.{OrderedIn}
-use Rattle.fi_parts.specs.HeapPieces.{flag, Pieces, Parts, Meldable, Melds}
+use Rattle.fi_parts.specs.HeapPieces.{flag, Pieces, HeapSplit, Meldable, Melds}
 use Rattle.fi_parts.proofs.HeapForests.{one_at-same, one_at-other, linked-same, linked-other, not_there, Strings-alike}
 use Rattle.fi_parts.proofs.HeapForests.{Roots-alike, Makes-alike, Holds-root, Holds-adopted, adopted-apart, roots-le, span-roots}
 use Rattle.fi_parts.proofs.HeapForests.{placed-is, linked-some, not_in, some_same}
@@ -191,7 +191,7 @@ Into cmp g v h left right winner =
 module _ {T : Type 0} (cmp : T → T → Ordering) (v : ℕ → Option T) where
   -- the same pieces, where the slots at their fronts have other names
   parts : (g : ℕ → Option HeapLinks) (m t : Tree) (ts us : Forest) (a b c d : Option ℕ) → top m ≡ a → top t ≡ b → head ts ≡ c → head us
-      ≡ d → Pieces cmp g v m t ts us → (P : Parts cmp g v a b c d) × (roots P.rest ≡ roots ts)
+      ≡ d → Pieces cmp g v m t ts us → (P : HeapSplit cmp g v a b c d) × (roots P.rest ≡ roots ts)
   parts g m t ts us a b c d p q r s pieces = (
     record {
       main = m;
@@ -212,12 +212,12 @@ module _ {T : Type 0} (cmp : T → T → Ordering) (v : ℕ → Option T) where
         ≡ next_of (g a)
     next-is x kids rest us a e made = sym made.2 ∙ ap (λ q. next_of (g q)) (some_same e)
 
-    pub pop-parts : (a : ℕ) (ma pa : Option ℕ) → (P : Parts cmp g v ma None (Some a) pa)
-        → (Q : Parts cmp g v ma (Some a) (next_of (g a)) pa) × (suc (roots Q.rest) ≡ roots P.rest)
+    pub pop-parts : (a : ℕ) (ma pa : Option ℕ) → (P : HeapSplit cmp g v ma None (Some a) pa)
+        → (Q : HeapSplit cmp g v ma (Some a) (next_of (g a)) pa) × (suc (roots Q.rest) ≡ roots P.rest)
     pop-parts a ma pa P = from P.main P.held P.rest P.pairs P.main_top P.held_top P.rest_head P.pairs_head P.pieces
       where
         from : (m t : Tree) (ts us : Forest) → top m ≡ ma → top t ≡ None → head ts ≡ Some a → head us ≡ pa → Pieces cmp g v m t ts us
-            → (Q : Parts cmp g v ma (Some a) (next_of (g a)) pa) × (suc (roots Q.rest) ≡ roots ts)
+            → (Q : HeapSplit cmp g v ma (Some a) (next_of (g a)) pa) × (suc (roots Q.rest) ≡ roots ts)
         from m (tree y ky) ts us mt ht rt pt p = absurd (cc)
         from m no_tree nil us mt ht rt pt p = absurd (cc)
         from m no_tree (node x kids rest) us mt ht rt pt p =
@@ -225,36 +225,37 @@ module _ {T : Type 0} (cmp : T → T → Ordering) (v : ℕ → Option T) where
             (pop cmp g v m x kids rest us p) in
             (made.0, ap suc made.1)
 
-    pub turn-parts : (ma pa : Option ℕ) → Parts cmp g v ma None None pa → Parts cmp g v ma None pa None
+    pub turn-parts : (ma pa : Option ℕ) → HeapSplit cmp g v ma None None pa → HeapSplit cmp g v ma None pa None
     turn-parts ma pa P = from P.main P.held P.rest P.pairs P.main_top P.held_top P.rest_head P.pairs_head P.pieces
       where
         from : (m t : Tree) (ts us : Forest) → top m ≡ ma → top t ≡ None → head ts ≡ None → head us ≡ pa → Pieces cmp g v m t ts us
-            → Parts cmp g v ma None pa None
+            → HeapSplit cmp g v ma None pa None
         from m (tree y ky) ts us mt ht rt pt p = absurd (cc)
         from m no_tree (node x kids rest) us mt ht rt pt p = absurd (cc)
         from m no_tree nil us mt ht rt pt p = (parts g m no_tree us nil ma None pa None mt refl pt refl (turn cmp g v m us p)).0
 
-    pub push-parts : (a : ℕ) (ma ra pa : Option ℕ) → (P : Parts cmp g v ma (Some a) ra pa)
-        → (Q : Parts cmp (linked g a (next_to (g a) pa)) v ma None ra (Some a)) × (roots Q.rest ≡ roots P.rest)
+    pub push-parts : (a : ℕ) (ma ra pa : Option ℕ) → (P : HeapSplit cmp g v ma (Some a) ra pa)
+        → (Q : HeapSplit cmp (linked g a (next_to (g a) pa)) v ma None ra (Some a)) × (roots Q.rest ≡ roots P.rest)
     push-parts a ma ra pa P = from P.main P.held P.rest P.pairs P.main_top P.held_top P.rest_head P.pairs_head P.pieces
       where
         from : (m t : Tree) (ts us : Forest) → top m ≡ ma → top t ≡ Some a → head ts ≡ ra → head us ≡ pa → Pieces cmp g v m t ts us
-            → (Q : Parts cmp (linked g a (next_to (g a) pa)) v ma None ra (Some a)) × (roots Q.rest ≡ roots ts)
+            → (Q : HeapSplit cmp (linked g a (next_to (g a) pa)) v ma None ra (Some a)) × (roots Q.rest ≡ roots ts)
         from m no_tree ts us mt ht rt pt p = absurd (cc)
         from m (tree x kids) ts us mt ht rt pt p =
-            subst (λ (y : ℕ). (Q : Parts cmp (linked g y (next_to (g y) pa)) v ma None ra (Some y)) × (roots Q.rest ≡ roots ts))
+            subst (λ (y : ℕ). (Q : HeapSplit cmp (linked g y (next_to (g y) pa)) v ma None ra (Some y)) × (roots Q.rest ≡ roots ts))
             (some_same ht)
-            (subst (λ (d : Option ℕ). (Q : Parts cmp (linked g x (next_to (g x) d)) v ma None ra (Some x)) × (roots Q.rest ≡ roots ts)) pt
+            (subst (λ (d : Option ℕ). (Q : HeapSplit cmp (linked g x (next_to (g x) d)) v ma None ra (Some x))
+            × (roots Q.rest ≡ roots ts)) pt
             (parts (linked g x (next_to (g x) (head us))) m no_tree ts (node x kids us) ma None ra (Some x) mt refl rt refl
             (push cmp g v m x kids ts us p)))
 
     -- a slot that isn't linked becomes a tree of its own
-    pub add-parts : (a : ℕ) (ma : Option ℕ) → is_some (g a) ≡ false → Parts cmp g v ma None None None
-        → Parts cmp (linked g a (Some (record { child = None; next = None; back = Root }))) v ma (Some a) None None
+    pub add-parts : (a : ℕ) (ma : Option ℕ) → is_some (g a) ≡ false → HeapSplit cmp g v ma None None None
+        → HeapSplit cmp (linked g a (Some (record { child = None; next = None; back = Root }))) v ma (Some a) None None
     add-parts a ma free P = from P.main P.held P.rest P.pairs P.main_top P.held_top P.rest_head P.pairs_head P.pieces
       where
         from : (m t : Tree) (ts us : Forest) → top m ≡ ma → top t ≡ None → head ts ≡ None → head us ≡ None → Pieces cmp g v m t ts us
-            → Parts cmp (linked g a (Some (record { child = None; next = None; back = Root }))) v ma (Some a) None None
+            → HeapSplit cmp (linked g a (Some (record { child = None; next = None; back = Root }))) v ma (Some a) None None
         from m (tree y ky) ts us mt ht rt pt p = absurd (cc)
         from m no_tree (node y ky ry) us mt ht rt pt p = absurd (cc)
         from m no_tree nil (node y ky ry) mt ht rt pt p = absurd (cc)
@@ -262,18 +263,18 @@ module _ {T : Type 0} (cmp : T → T → Ordering) (v : ℕ → Option T) where
             (parts (linked g a (Some (record { child = None; next = None; back = Root }))) m (tree a nil) nil nil ma (Some a) None None
             mt refl refl refl (added cmp g v m a free p)).0
 
-    pub root-parts : (a : ℕ) → Parts cmp g v None (Some a) None None
-        → Parts cmp (linked g a (placed (g a) None Root)) v (Some a) None None None
+    pub root-parts : (a : ℕ) → HeapSplit cmp g v None (Some a) None None
+        → HeapSplit cmp (linked g a (placed (g a) None Root)) v (Some a) None None None
     root-parts a P = from P.main P.held P.rest P.pairs P.main_top P.held_top P.rest_head P.pairs_head P.pieces
       where
         from : (m t : Tree) (ts us : Forest) → top m ≡ None → top t ≡ Some a → head ts ≡ None → head us ≡ None
-            → Pieces cmp g v m t ts us → Parts cmp (linked g a (placed (g a) None Root)) v (Some a) None None None
+            → Pieces cmp g v m t ts us → HeapSplit cmp (linked g a (placed (g a) None Root)) v (Some a) None None None
         from (tree y ky) t ts us mt ht rt pt p = absurd (cc)
         from no_tree no_tree ts us mt ht rt pt p = absurd (cc)
         from no_tree (tree x kids) (node y ky ry) us mt ht rt pt p = absurd (cc)
         from no_tree (tree x kids) nil (node y ky ry) mt ht rt pt p = absurd (cc)
         from no_tree (tree x kids) nil nil mt ht rt pt p =
-            subst (λ (y : ℕ). Parts cmp (linked g y (placed (g y) None Root)) v (Some y) None None None) (some_same ht)
+            subst (λ (y : ℕ). HeapSplit cmp (linked g y (placed (g y) None Root)) v (Some y) None None None) (some_same ht)
             (parts (linked g x (placed (g x) None Root)) (tree x kids) no_tree nil nil (Some x) None None None refl refl refl refl
             (rooted cmp g v x kids p)).0
 
@@ -282,12 +283,12 @@ module _ {T : Type 0} (cmp : T → T → Ordering) (v : ℕ → Option T) where
       into-same x y a b winner e f into =
           subst (λ (q : ℕ). Into cmp g v h q y winner) (sym e) (subst (λ (q : ℕ). Into cmp g v h a q winner) (sym f) into)
 
-      pub meld-parts : (a b winner : ℕ) (ma pa : Option ℕ) → Into cmp g v h a b winner → (P : Parts cmp g v ma (Some a) (Some b) pa)
-          → (Q : Parts cmp h v ma (Some winner) (next_of (g b)) pa) × (suc (roots Q.rest) ≡ roots P.rest)
+      pub meld-parts : (a b winner : ℕ) (ma pa : Option ℕ) → Into cmp g v h a b winner → (P : HeapSplit cmp g v ma (Some a) (Some b) pa)
+          → (Q : HeapSplit cmp h v ma (Some winner) (next_of (g b)) pa) × (suc (roots Q.rest) ≡ roots P.rest)
       meld-parts a b winner ma pa into P = from P.main P.held P.rest P.pairs P.main_top P.held_top P.rest_head P.pairs_head P.pieces
         where
           from : (m t : Tree) (ts us : Forest) → top m ≡ ma → top t ≡ Some a → head ts ≡ Some b → head us ≡ pa
-              → Pieces cmp g v m t ts us → (Q : Parts cmp h v ma (Some winner) (next_of (g b)) pa) × (suc (roots Q.rest) ≡ roots ts)
+              → Pieces cmp g v m t ts us → (Q : HeapSplit cmp h v ma (Some winner) (next_of (g b)) pa) × (suc (roots Q.rest) ≡ roots ts)
           from m no_tree ts us mt ht rt pt p = absurd (cc)
           from m (tree x kx) nil us mt ht rt pt p = absurd (cc)
           from m (tree x kx) (node y ky rest) us mt ht rt pt p =
@@ -309,12 +310,12 @@ module _ {T : Type 0} (cmp : T → T → Ordering) (v : ℕ → Option T) where
                     (made.0, ap suc made.1)
               ]
 
-      pub meld-root : (a b winner : ℕ) → Into cmp g v h a b winner → Parts cmp g v (Some a) (Some b) None None
-          → Parts cmp h v None (Some winner) None None
+      pub meld-root : (a b winner : ℕ) → Into cmp g v h a b winner → HeapSplit cmp g v (Some a) (Some b) None None
+          → HeapSplit cmp h v None (Some winner) None None
       meld-root a b winner into P = from P.main P.held P.rest P.pairs P.main_top P.held_top P.rest_head P.pairs_head P.pieces
         where
           from : (m t : Tree) (ts us : Forest) → top m ≡ Some a → top t ≡ Some b → head ts ≡ None → head us ≡ None
-              → Pieces cmp g v m t ts us → Parts cmp h v None (Some winner) None None
+              → Pieces cmp g v m t ts us → HeapSplit cmp h v None (Some winner) None None
           from no_tree t ts us mt ht rt pt p = absurd (cc)
           from (tree x kx) no_tree ts us mt ht rt pt p = absurd (cc)
           from (tree x kx) (tree y ky) (node z kz rz) us mt ht rt pt p = absurd (cc)
@@ -334,7 +335,7 @@ module _ {T : Type 0} (cmp : T → T → Ordering) (v : ℕ → Option T) where
 
     -- what a call asks of the pieces
 
-    pub meldable-rest : (a b : ℕ) (ma pa : Option ℕ) → Parts cmp g v ma (Some a) (Some b) pa → Meldable g a b
+    pub meldable-rest : (a b : ℕ) (ma pa : Option ℕ) → HeapSplit cmp g v ma (Some a) (Some b) pa → Meldable g a b
     meldable-rest a b ma pa P = from P.main P.held P.rest P.pairs P.held_top P.rest_head P.pieces
       where
         from : (m t : Tree) (ts us : Forest) → top t ≡ Some a → head ts ≡ Some b → Pieces cmp g v m t ts us → Meldable g a b
@@ -349,7 +350,7 @@ module _ {T : Type 0} (cmp : T → T → Ordering) (v : ℕ → Option T) where
               apart = λ k. let was = p.tally k in let most = flag-le (g k) in omega arith;
             }))
 
-    pub meldable-root : (a b : ℕ) → Parts cmp g v (Some a) (Some b) None None → Meldable g a b
+    pub meldable-root : (a b : ℕ) → HeapSplit cmp g v (Some a) (Some b) None None → Meldable g a b
     meldable-root a b P = from P.main P.held P.rest P.pairs P.main_top P.held_top P.pieces
       where
         from : (m t : Tree) (ts us : Forest) → top m ≡ Some a → top t ≡ Some b → Pieces cmp g v m t ts us → Meldable g a b
@@ -364,14 +365,14 @@ module _ {T : Type 0} (cmp : T → T → Ordering) (v : ℕ → Option T) where
               apart = λ k. let was = p.tally k in let most = flag-le (g k) in omega arith;
             }))
 
-    pub held-linked : (a : ℕ) (ma ra pa : Option ℕ) → Parts cmp g v ma (Some a) ra pa → is_some (g a) ≡ true
+    pub held-linked : (a : ℕ) (ma ra pa : Option ℕ) → HeapSplit cmp g v ma (Some a) ra pa → is_some (g a) ≡ true
     held-linked a ma ra pa P = from P.held P.held_top P.pieces.held_made
       where
         from : (t : Tree) → top t ≡ Some a → Holds g t → is_some (g a) ≡ true
         from no_tree e made = absurd (cc)
         from (tree x kids) e made = subst (λ (q : ℕ). is_some (g q) ≡ true) (some_same e) made.0
 
-    pub rest-linked : (a : ℕ) (ma ha pa : Option ℕ) → Parts cmp g v ma ha (Some a) pa → is_some (g a) ≡ true
+    pub rest-linked : (a : ℕ) (ma ha pa : Option ℕ) → HeapSplit cmp g v ma ha (Some a) pa → is_some (g a) ≡ true
     rest-linked a ma ha pa P = from P.rest P.rest_head P.pieces.rest_made
       where
         from : (f : Forest) → head f ≡ Some a → Strings g f → is_some (g a) ≡ true
@@ -379,7 +380,7 @@ module _ {T : Type 0} (cmp : T → T → Ordering) (v : ℕ → Option T) where
         from (node x kids rest) e made = subst (λ (q : ℕ). is_some (g q) ≡ true) (some_same e) made.0
 
     -- the chain from here on, where each linked slot is below n
-    pub span-rest : (n : ℕ) (ma ha ra pa : Option ℕ) → ((k : ℕ) → is_some (g k) ≡ true → k < n) → (P : Parts cmp g v ma ha ra pa)
+    pub span-rest : (n : ℕ) (ma ha ra pa : Option ℕ) → ((k : ℕ) → is_some (g k) ≡ true → k < n) → (P : HeapSplit cmp g v ma ha ra pa)
         → span g n ra ≡ roots P.rest
     span-rest n ma ha ra pa below P =
         let fits : roots P.rest ≤ n =

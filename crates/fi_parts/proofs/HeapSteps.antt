@@ -6,7 +6,7 @@ use Rattle.fi_parts.specs.declared.heap_nodes.Back.TheVariants.{Root}
 use Rattle.fi_parts.specs.declared.heap_nodes.HeapLinks.{HeapLinks}
 use Rattle.fi_parts.specs.declared.heap_nodes.HeapNodes.{HeapNodes}
 use Rattle.fi_parts.specs.HeapForests.{roots, span, next_of, next_to, placed, backed, pointed, root_to, IsBackLinked}
-use Rattle.fi_parts.specs.HeapPieces.{Parts}
+use Rattle.fi_parts.specs.HeapPieces.{HeapSplit}
 use Rattle.fi_parts.specs.HeapNodes.{values_of, links_of, IsLinked, Relinks, Keeps, KeepsValues, InParts, IsHeap, MeldsInto, TakesOut}
 use Rattle.fi_parts.proofs.HeapPieces.{pop-parts, push-parts, rest-linked, meld-parts, meld-root, root-parts, span-rest, add-parts}
 use Rattle.fi_parts.proofs.HeapCuts.{cut, without}
@@ -38,17 +38,18 @@ module _ {T : Type 0} (cmp : T → T → Ordering) where
       → MeldsInto cmp s t a b winner → Keeps s t → (P : InParts cmp s ma (Some a) (Some b) pa)
       → (Q : InParts cmp t ma (Some winner) next pa) × (suc (roots Q.rest) ≡ roots P.rest)
   meld-next s t a b winner ma pa next is melds keeps P =
-      subst (λ (v : ℕ → Option T). (Q : Parts cmp (links_of t) v ma (Some winner) next pa) × (suc (roots Q.rest) ≡ roots P.rest))
+      subst (λ (v : ℕ → Option T). (Q : HeapSplit cmp (links_of t) v ma (Some winner) next pa) × (suc (roots Q.rest) ≡ roots P.rest))
       (sym keeps.values)
-      (subst (λ (n : Option ℕ). (Q : Parts cmp (links_of t) (values_of s) ma (Some winner) n pa) × (suc (roots Q.rest) ≡ roots P.rest))
+      (subst (λ (n : Option ℕ). (Q : HeapSplit cmp (links_of t) (values_of s) ma (Some winner) n pa) × (suc (roots Q.rest) ≡ roots P.rest))
       (sym is)
       (meld-parts cmp (values_of s) (links_of s) (links_of t) keeps.linked a b winner ma pa melds P))
 
   pub push-next : (s t : HeapNodes T) (a : ℕ) (ma ra pa : Option ℕ) → Relinks s t a (next_to (links_of s a) pa)
       → (P : InParts cmp s ma (Some a) ra pa) → (Q : InParts cmp t ma None ra (Some a)) × (roots Q.rest ≡ roots P.rest)
   push-next s t a ma ra pa relinks P =
-      subst (λ (v : ℕ → Option T). (Q : Parts cmp (links_of t) v ma None ra (Some a)) × (roots Q.rest ≡ roots P.rest)) (sym relinks.values)
-      (subst (λ (g : ℕ → Option HeapLinks). (Q : Parts cmp g (values_of s) ma None ra (Some a)) × (roots Q.rest ≡ roots P.rest))
+      subst (λ (v : ℕ → Option T). (Q : HeapSplit cmp (links_of t) v ma None ra (Some a)) × (roots Q.rest ≡ roots P.rest))
+      (sym relinks.values)
+      (subst (λ (g : ℕ → Option HeapLinks). (Q : HeapSplit cmp g (values_of s) ma None ra (Some a)) × (roots Q.rest ≡ roots P.rest))
       (sym relinks.links)
       (push-parts cmp (values_of s) (links_of s) a ma ra pa P))
 
@@ -121,7 +122,7 @@ module _ {T : Type 0} (cmp : T → T → Ordering) where
       let made = (cut cmp (links_of s) (values_of s) s.root x l is heap).parts (links_of s3) links out.here out.others in
       let root : s3.root ≡ root_to s.root l.back l.next =
       kept_2.root ∙ root_is ∙ ap (λ (r : Option ℕ). root_to r l.back l.next) cleared.root in (
-        at-root s3 _ None l.child None root (subst (λ (v : ℕ → Option T). Parts cmp (links_of s3) v (root_to s.root l.back l.next) None
+        at-root s3 _ None l.child None root (subst (λ (v : ℕ → Option T). HeapSplit cmp (links_of s3) v (root_to s.root l.back l.next) None
             l.child None) (sym out.values) made),
         out,
       )
@@ -144,14 +145,14 @@ module _ {T : Type 0} (cmp : T → T → Ordering) where
   pub meld-root-step : (s t : HeapNodes T) (r a winner : ℕ) → MeldsInto cmp s t r a winner → Keeps s t
       → InParts cmp s (Some r) (Some a) None None → InParts cmp t None (Some winner) None None
   meld-root-step s t r a winner melds keeps P =
-      subst (λ (v : ℕ → Option T). Parts cmp (links_of t) v None (Some winner) None None) (sym keeps.values)
+      subst (λ (v : ℕ → Option T). HeapSplit cmp (links_of t) v None (Some winner) None None) (sym keeps.values)
       (meld-root cmp (values_of s) (links_of s) (links_of t) keeps.linked r a winner melds P)
 
   pub root-step : (t u : HeapNodes T) (a : ℕ) → Relinks t u a (placed (links_of t a) None Root) → InParts cmp t None (Some a) None None
       → InParts cmp u (Some a) None None None
   root-step t u a relinks P =
-      subst (λ (v : ℕ → Option T). Parts cmp (links_of u) v (Some a) None None None) (sym relinks.values)
-      (subst (λ (f : ℕ → Option HeapLinks). Parts cmp f (values_of t) (Some a) None None None) (sym relinks.links)
+      subst (λ (v : ℕ → Option T). HeapSplit cmp (links_of u) v (Some a) None None None) (sym relinks.values)
+      (subst (λ (f : ℕ → Option HeapLinks). HeapSplit cmp f (values_of t) (Some a) None None None) (sym relinks.links)
       (root-parts cmp (values_of t) (links_of t) a P))
 
   -- a node alone is a tree
@@ -159,8 +160,8 @@ module _ {T : Type 0} (cmp : T → T → Ordering) where
       → Relinks s t a (Some (record { child = None; next = None; back = Root })) → InParts cmp t t.root (Some a) None None
   add-step s t a free P relinks =
       at-root t s.root (Some a) None None relinks.root
-      (subst (λ (v : ℕ → Option T). Parts cmp (links_of t) v s.root (Some a) None None) (sym relinks.values)
-      (subst (λ (f : ℕ → Option HeapLinks). Parts cmp f (values_of s) s.root (Some a) None None) (sym relinks.links)
+      (subst (λ (v : ℕ → Option T). HeapSplit cmp (links_of t) v s.root (Some a) None None) (sym relinks.values)
+      (subst (λ (f : ℕ → Option HeapLinks). HeapSplit cmp f (values_of s) s.root (Some a) None None) (sym relinks.links)
       (add-parts cmp (values_of s) (links_of s) a s.root free P)))
 
   -- the store holds one tree, and has the same values

@@ -13,9 +13,9 @@ use Rattle.slab.proofs.SlabLemmas.{Updates-set, ContainsKey-within}
 use Rattle.fi_parts.specs.declared.heap_nodes.HeapLinks.{HeapLinks}
 use Rattle.fi_parts.specs.declared.heap_nodes.HeapNode.{HeapNode}
 use Rattle.fi_parts.specs.declared.heap_nodes.HeapNodes.{HeapNodes}
-use Rattle.fi_parts.specs.Heaped.{Heaped, IsLiveIn, with_values, MembersAreLive, IsLeastOf}
+use Rattle.fi_parts.specs.HeapModel.{HeapModel, IsLiveIn, with_values, MembersAreLive, IsLeastOf}
 use Rattle.fi_parts.specs.HeapForests.{Forest, nil, node, Tree, no_tree, tree, head, top, Roots, at_most}
-use Rattle.fi_parts.specs.HeapPieces.{flag, Pieces, Parts}
+use Rattle.fi_parts.specs.HeapPieces.{flag, Pieces, HeapSplit}
 use Rattle.fi_parts.specs.HeapNodes.{value_in, links_in, values_of, links_of, live_of, members_of, TakesOut, PutsIn, loose_node}
 use Rattle.fi_parts.specs.HeapNodes.{revalued, with_value, InParts, IsHeap}
 use Rattle.fi_parts.specs.Picked.{picked}
@@ -26,7 +26,7 @@ use Rattle.fi_parts.proofs.HeapPieces.{flag-some, some-flag}
 use Rattle.fi_parts.proofs.HeapNodes.{get-live_of, contains-members_of, is_live, live-value, value-live}
 
 module _ {T : Type 0} where
-  abbrev pub heaped : HeapNodes T → Heaped T
+  abbrev pub heaped : HeapNodes T → HeapModel T
   heaped s = record { live = live_of s; members = members_of s }
 
   -- the maps and sets
@@ -155,7 +155,7 @@ module _ {T : Type 0} where
     pub heap-stays : (s t : HeapNodes T) → Stays s t → IsHeap cmp s → IsHeap cmp t
     heap-stays s t same P =
         subst (λ (r : Option ℕ). InParts cmp t r None None None) (sym same.root)
-        (subst (λ (g : ℕ → Option HeapLinks). Parts cmp g (values_of t) s.root None None None) (sym same.links) (record {
+        (subst (λ (g : ℕ → Option HeapLinks). HeapSplit cmp g (values_of t) s.root None None None) (sym same.links) (record {
           main = P.main;
           held = P.held;
           rest = P.rest;

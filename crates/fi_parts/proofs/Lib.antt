@@ -42,3 +42,4 @@ pub mod FirstSeat
 pub mod Telling
 pub mod Results
 pub mod Vacancies
+pub mod WaiterPolls

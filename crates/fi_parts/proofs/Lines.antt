@@ -12,9 +12,9 @@ use Rattle.fi_parts.specs.declared.phase.Phase.{Phase}
 use Rattle.fi_parts.specs.declared.phase.Phase.TheVariants.{Fresh, Registered, Told, Complete, Ended}
 use Rattle.fi_parts.specs.declared.outbox.Ticket.{Ticket}
 use Rattle.fi_parts.specs.declared.line.Entry.{Entry}
-use Rattle.fi_parts.specs.Listed.{Listed, with_live}
+use Rattle.fi_parts.specs.ListModel.{ListModel, with_live}
 use Rattle.fi_parts.specs.Order.{holds, without}
-use Rattle.fi_parts.specs.Waiting.{phase_in, phase_of, asks_in, asks_of, is_registered, waker_in, made, registered, forgotten}
+use Rattle.fi_parts.specs.Waiting.{phase_in, phase_of, asks_in, asks_of, is_registered, waker_in, insert_fresh, registered, without_future}
 use Rattle.fi_parts.specs.Waiting.{rephased, with_phase, with_asks_in, with_asks}
 use Rattle.fi_parts.specs.LineModel.{LineModel, mapped, future_of, ticket_of, line_of, empty_line}
 use Rattle.fi_parts.proofs.FiniteMaps.{get-insert_same, get-insert_other, get-remove_same, get-remove_other}
@@ -142,7 +142,7 @@ module _ {D W : Type 0} where
       ∙ sym
       (ap (with_asks_in (mapped future_of live) n asks) (get-mapped future_of live n ∙ ap (option_map future_of) is))
 
-  module _ (list : Listed (Entry D W)) where
+  module _ (list : ListModel (Entry D W)) where
     abbrev seen : LineModel D W
     seen = line_of list
 
@@ -163,27 +163,27 @@ module _ {D W : Type 0} where
     pub its_asks : (n : ℕ) (e : Entry D W) → finmap.get list.live n ≡ Some e → asks_of seen.side n ≡ Some e.future.asks
     its_asks n e is = asks-seen list.live n ∙ ap asks_at is
 
-    pub seen-inserted : (n : ℕ) (ticket : Ticket) (asks : D) (after : Listed (Entry D W)) →
+    pub seen-inserted : (n : ℕ) (ticket : Ticket) (asks : D) (after : ListModel (Entry D W)) →
         after ≡ with_live list (finmap.insert list.live n (fresh ticket asks)) →
-        line_of after ≡ record { side = made seen.side n asks; tickets = finmap.insert seen.tickets n ticket.0 }
+        line_of after ≡ record { side = insert_fresh seen.side n asks; tickets = finmap.insert seen.tickets n ticket.0 }
     seen-inserted n ticket asks after is = rw is (λ i. record {
       side = record { live = mapped-insert future_of list.live n (fresh ticket asks) i; queue = reverse list.order };
       tickets = mapped-insert ticket_of list.live n (fresh ticket asks) i;
     })
 
-    abbrev PhaseAt : ℕ → Phase W → Listed (Entry D W) → Type 0
+    abbrev PhaseAt : ℕ → Phase W → ListModel (Entry D W) → Type 0
     PhaseAt n phase after =
         (e : Entry D W) × (finmap.get list.live n ≡ Some e) ×
         (after ≡ with_live list (finmap.insert list.live n (at_phase e phase)))
 
-    pub seen-phase : (n : ℕ) (phase : Phase W) (after : Listed (Entry D W)) → PhaseAt n phase after →
+    pub seen-phase : (n : ℕ) (phase : Phase W) (after : ListModel (Entry D W)) → PhaseAt n phase after →
         line_of after ≡ record seen { side = record seen.side { live = with_phase seen.side.live n phase } }
     seen-phase n phase after is = rw is.2 (λ i. record {
       side = record { live = futures-with_phase list.live n is.0 phase is.1 i; queue = reverse list.order };
       tickets = mapped-kept ticket_of list.live n is.0 (at_phase is.0 phase) is.1 refl i;
     })
 
-    pub seen-asks : (n : ℕ) (asks : D) (e : Entry D W) (after : Listed (Entry D W)) → finmap.get list.live n ≡ Some e →
+    pub seen-asks : (n : ℕ) (asks : D) (e : Entry D W) (after : ListModel (Entry D W)) → finmap.get list.live n ≡ Some e →
         after ≡ with_live list (finmap.insert list.live n (at_asks e asks)) →
         line_of after ≡ record seen { side = record seen.side { live = with_asks seen.side.live n asks } }
     seen-asks n asks e after is now = rw now (λ i. record {
@@ -191,7 +191,7 @@ module _ {D W : Type 0} where
       tickets = mapped-kept ticket_of list.live n e (at_asks e asks) is refl i;
     })
 
-    pub seen-registered : (n : ℕ) (waker : W) (mid after : Listed (Entry D W)) → PhaseAt n (Registered waker) mid →
+    pub seen-registered : (n : ℕ) (waker : W) (mid after : ListModel (Entry D W)) → PhaseAt n (Registered waker) mid →
         after.live ≡ mid.live → after.order ≡ n ∷ mid.order → line_of
         after ≡ record seen { side = registered seen.side n waker }
     seen-registered n waker mid after is live order =
@@ -203,33 +203,33 @@ module _ {D W : Type 0} where
         let tickets : mapped ticket_of after.live ≡ seen.tickets =
         ap (mapped ticket_of) live ∙ ap (λ (w : LineModel D W). w.tickets) m in
         let queue : reverse after.order ≡ reverse list.order ++ n ∷ [] =
-        ap reverse (order ∙ ap (λ (l : Listed (Entry D W)). n ∷ l.order) is.2) ∙ reverse_cons n list.order in
+        ap reverse (order ∙ ap (λ (l : ListModel (Entry D W)). n ∷ l.order) is.2) ∙ reverse_cons n list.order in
         λ i. record { side = record { live = lives i; queue = queue i }; tickets = tickets i }
 
-    pub live-after : (n : ℕ) (phase : Phase W) (after : Listed (Entry D W)) → PhaseAt n phase after →
+    pub live-after : (n : ℕ) (phase : Phase W) (after : ListModel (Entry D W)) → PhaseAt n phase after →
         IsSome (finmap.get after.live n)
     live-after n phase after is =
-        ap (λ (l : Listed (Entry D W)). is_some (finmap.get l.live n)) is.2
+        ap (λ (l : ListModel (Entry D W)). is_some (finmap.get l.live n)) is.2
         ∙ ap is_some (get-insert_same list.live n (at_phase is.0 phase))
 
-    pub apart-after : (n : ℕ) (phase : Phase W) (after : Listed (Entry D W)) → PhaseAt n phase after →
+    pub apart-after : (n : ℕ) (phase : Phase W) (after : ListModel (Entry D W)) → PhaseAt n phase after →
         holds n seen.side.queue ≡ false → holds n after.order ≡ false
     apart-after n phase after is apart =
-        ap (λ (l : Listed (Entry D W)). holds n l.order) is.2 ∙ sym (holds-reverse n list.order) ∙ apart
+        ap (λ (l : ListModel (Entry D W)). holds n l.order) is.2 ∙ sym (holds-reverse n list.order) ∙ apart
 
-    pub seen-removed : (n : ℕ) (mid after : Listed (Entry D W)) → mid.live ≡ list.live →
+    pub seen-removed : (n : ℕ) (mid after : ListModel (Entry D W)) → mid.live ≡ list.live →
         mid.order ≡ without n list.order →
         after ≡ with_live mid (finmap.remove mid.live n) →
-        line_of after ≡ record { side = forgotten seen.side n; tickets = finmap.remove seen.tickets n }
+        line_of after ≡ record { side = without_future seen.side n; tickets = finmap.remove seen.tickets n }
     seen-removed n mid after live order freed =
         let gone : after.live ≡ finmap.remove list.live n =
-        ap (λ (l : Listed (Entry D W)). l.live) freed ∙ ap (λ l. finmap.remove l n) live in
+        ap (λ (l : ListModel (Entry D W)). l.live) freed ∙ ap (λ l. finmap.remove l n) live in
         let lives : mapped future_of after.live ≡ finmap.remove seen.side.live n =
         ap (mapped future_of) gone ∙ mapped-remove future_of list.live n in
         let tickets : mapped ticket_of after.live ≡ finmap.remove seen.tickets n =
         ap (mapped ticket_of) gone ∙ mapped-remove ticket_of list.live n in
         let queue : reverse after.order ≡ without n (reverse list.order) =
-        ap reverse (ap (λ (l : Listed (Entry D W)). l.order) freed ∙ order) ∙ reverse-without n list.order in
+        ap reverse (ap (λ (l : ListModel (Entry D W)). l.order) freed ∙ order) ∙ reverse-without n list.order in
         λ i. record { side = record { live = lives i; queue = queue i }; tickets = tickets i }
 
     -- the queue's first is the list's last
@@ -237,7 +237,7 @@ module _ {D W : Type 0} where
     oldest-first n front is = ap reverse is ∙ reverse-append front (n ∷ [])
 
     -- only the queue has changed
-    pub seen-queue : (after : Listed (Entry D W)) (queue : List ℕ) → after.live ≡ list.live →
+    pub seen-queue : (after : ListModel (Entry D W)) (queue : List ℕ) → after.live ≡ list.live →
         reverse after.order ≡ queue →
         line_of after ≡ record seen { side = record seen.side { queue = queue } }
     seen-queue after queue live order =

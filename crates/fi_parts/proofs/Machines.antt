@@ -11,7 +11,8 @@ use Rattle.fi_parts.specs.declared.phase.Phase.TheVariants.{Fresh, Registered, T
 use Rattle.fi_parts.specs.declared.phase.Notice.{Notice}
 use Rattle.fi_parts.specs.Noticed.{phase_after}
 use Rattle.fi_parts.specs.Order.{holds}
-use Rattle.fi_parts.specs.Waiting.{Side, Waiting, phase_of, phase_in, asks_of, asks_in, is_registered, no_futures, made, forgotten}
+use Rattle.fi_parts.specs.Waiting.{Waiters, Waiting, phase_of, phase_in, asks_of}
+use Rattle.fi_parts.specs.Waiting.{asks_in, is_registered, no_futures, insert_fresh, without_future}
 use Rattle.fi_parts.specs.Waiting.{IsLive, exchange, IsOrderedBy, AreSoundBy}
 use Rattle.fi_parts.proofs.Waiting.{Becomes, noticed_phase, placed, unregistered, asks-with_phase, asks-with_phases}
 use Rattle.fi_parts.proofs.Sound.{sound_by-empty}
@@ -31,10 +32,10 @@ use Rattle.fi_parts.proofs.Effects.{listed_are, front_are, polled_lives, still_l
 
 module _ {D W : Type 0} where
   -- one name changed: another is registered as before, and asks the same
-  asks_made : (side : Side D W) (name : ℕ) (asks : D) (q : ℕ) → q ≢ name → asks_of (made side name asks) q ≡ asks_of side q
+  asks_made : (side : Waiters D W) (name : ℕ) (asks : D) (q : ℕ) → q ≢ name → asks_of (insert_fresh side name asks) q ≡ asks_of side q
   asks_made side name asks q ne = ap asks_in (get-insert_other side.live name _ q ne)
 
-  asks_forgotten : (side : Side D W) (name : ℕ) (q : ℕ) → q ≢ name → asks_of (forgotten side name) q ≡ asks_of side q
+  asks_forgotten : (side : Waiters D W) (name : ℕ) (q : ℕ) → q ≢ name → asks_of (without_future side name) q ≡ asks_of side q
   asks_forgotten side name q ne = ap asks_in (get-remove_other side.live name q ne)
 
   oldest_asks : (phase : Phase W) (names : List ℕ) (w : Waiting D W) (q : ℕ) →
@@ -42,7 +43,7 @@ module _ {D W : Type 0} where
   oldest_asks phase [] w q = refl
   oldest_asks phase (n ∷ others) w q = asks-with_phase w.side.live n phase q
 
-  asks_asking : (name : ℕ) (asks : D) (side : Side D W) (q : ℕ) → IsLive side name →
+  asks_asking : (name : ℕ) (asks : D) (side : Waiters D W) (q : ℕ) → IsLive side name →
       asks_of (exchange side name asks) q ≡ (if name == q then Some asks else asks_of side q)
   asks_asking name asks side q lives = elim (cases_eq name q) [
     | inl same ↦ ap (asks_of (exchange side name asks)) (sym same) ∙ asks-with_asks side.live name asks lives
@@ -55,7 +56,7 @@ module _ {D W : Type 0} where
   asks_to new is q same = ap (λ (w : Waiting D W). asks_of w.side q) same
 
   -- an unregistered phase is not that of one who is registered
-  not_so : (new : Side D W) (q : ℕ) (phase : Option (Phase W)) → phase_of new q ≡ phase → is_registered phase ≡ false →
+  not_so : (new : Waiters D W) (q : ℕ) (phase : Option (Phase W)) → phase_of new q ≡ phase → is_registered phase ≡ false →
       is_registered (phase_of new q) ≡ true → ⊥
   not_so new q phase here apart is = both_ways (is_registered phase) apart (sym (ap is_registered here) ∙ is)
 
@@ -73,7 +74,7 @@ module _ {D W : Type 0} where
       asks_of new.side q ≡ asks_step effect q (asks_of old.side q)
   asks_after NoChange old new did q = asks_to new old q did
   asks_after (Inserts name asks) old new did q = elim (cases_eq name q) [
-    | inl same ↦ asks_to new _ q did.1 ∙ ap (asks_of (made old.side name asks)) (sym same)
+    | inl same ↦ asks_to new _ q did.1 ∙ ap (asks_of (insert_fresh old.side name asks)) (sym same)
         ∙ ap asks_in (get-insert_same old.side.live name _) ∙ sym
         (if_true (name == q) (Some asks) (asks_of old.side q) (eq-eqb name q same))
     | inr ne ↦ asks_to new _ q did.1 ∙ asks_made old.side name asks q (λ e. ne (sym e))
@@ -87,7 +88,7 @@ module _ {D W : Type 0} where
   asks_after (Renews name) old new did q = asks_to new _ q did.1 ∙ asks-with_phase old.side.live name Fresh q
   asks_after (Asks name asks) old new did q = asks_to new _ q did.1 ∙ asks_asking name asks old.side q did.0
   asks_after (Removes name) old new did q = elim (cases_eq name q) [
-    | inl same ↦ asks_to new _ q did.1 ∙ ap (asks_of (forgotten old.side name)) (sym same)
+    | inl same ↦ asks_to new _ q did.1 ∙ ap (asks_of (without_future old.side name)) (sym same)
         ∙ ap asks_in (get-remove_same old.side.live name) ∙ sym (if_true (name == q) None (asks_of old.side q) (eq-eqb name q same))
     | inr ne ↦ asks_to new _ q did.1 ∙ asks_forgotten old.side name q (λ e. ne (sym e))
         ∙ sym (if_false (name == q) None (asks_of old.side q) (ne_eqb name q ne))
@@ -340,7 +341,7 @@ module _ {S D W : Type 0} (rules : WaiterRules S D W) where
 
 -- What the history says of a name and what the name's phase says stay the same, where one name changed.
 module _ {X D W : Type 0} (said : Option (Phase W) → X) where
-  pub history_by : (old new : Side D W) (name : ℕ) (phase : Option (Phase W)) (was is : ℕ → X) → Becomes old new name phase →
+  pub history_by : (old new : Waiters D W) (name : ℕ) (phase : Option (Phase W)) (was is : ℕ → X) → Becomes old new name phase →
       ((q : ℕ) → was q ≡ said (phase_of old q)) → is name ≡ said phase → (q : ℕ) →
       (if name == q then is q else was q) ≡ said (phase_of new q)
   history_by old new name phase was is b says here q = elim (cases_eq name q) [

@@ -13,7 +13,7 @@ use Rattle.fi_parts.specs.Effects.{oldest_notified, notified, AreRegistered}
 use Rattle.fi_parts.specs.Order.{holds, Apart}
 use Rattle.fi_parts.specs.Pairs.{has, PairsApart}
 use Rattle.fi_parts.specs.Places.{IsPlaceRule}
-use Rattle.fi_parts.specs.Waiting.{Side, Waiting, phase_in, phase_of, is_registered, may_be_named, with_phase, pair_of, pair, IsLive}
+use Rattle.fi_parts.specs.Waiting.{Waiters, Waiting, phase_in, phase_of, is_registered, may_be_named, with_phase, pair_of, pair, IsLive}
 use Rattle.fi_parts.specs.Waiting.{IsOrderedBy, named, with_phases}
 use Rattle.fi_parts.proofs.Slots.{eqb_same, holds-append, Apart-front, Apart-back, Apart-disjoint}
 use Rattle.fi_parts.proofs.Waiting.{placed, live_if_placed, live_if_registered, no_pair, phase-with_phases, phase-held}
@@ -70,7 +70,7 @@ module _ {D W : Type 0} where
       (PairsApart-named live names a.1)
 
 -- Those of these names have this phase now, and the others have the phases that they had.
-pub record AllBecome {D W : Type 0} (old new : Side D W) (names : List ℕ) (phase : Phase W) : Type 0 where
+pub record AllBecome {D W : Type 0} (old new : Waiters D W) (names : List ℕ) (phase : Phase W) : Type 0 where
   pub these : (q : ℕ) → holds q names ≡ true → phase_of new q ≡ Some phase
   pub others : (q : ℕ) → holds q names ≡ false → phase_of new q ≡ phase_of old q
 

@@ -9,8 +9,8 @@ use Rattle.std.specs.FinMap as finmap
 use Rattle.fi_parts.specs.declared.phase.Phase.{Phase}
 use Rattle.fi_parts.specs.declared.phase.Phase.TheVariants.{Complete}
 use Rattle.fi_parts.specs.declared.phase.Future.{Future}
-use Rattle.fi_parts.specs.Waiting.{Side, Waiting, phase_in, asks_in, is_registered, may_be_named, with_asks_in, with_asks, exchange}
-use Rattle.fi_parts.specs.Waiting.{noticed, pair, pair_of, emptied, named_all, IsOrdered, AreSound, AreSoundBy}
+use Rattle.fi_parts.specs.Waiting.{Waiters, Waiting, phase_in, asks_in, is_registered, may_be_named, with_asks_in, with_asks, exchange}
+use Rattle.fi_parts.specs.Waiting.{noticed, pair, pair_of, clear_queue, named_all, IsOrdered, AreSound, AreSoundBy}
 use Rattle.fi_parts.proofs.FiniteMaps.{get-insert_same, get-insert_other}
 use Rattle.fi_parts.proofs.Waiting.{becomes-with_phase, live_if_registered, first_registered, ordered-next, all_noticed-step}
 use Rattle.fi_parts.proofs.Waiting.{all_noticed-none}
@@ -55,7 +55,7 @@ module _ {D W : Type 0} where
       each None is h = absurd (both_ways false refl h)
       each (Some f) is h = ap asks_in (get-with_asks live n d f is)
 
-  pub sound_by-exchange : (place allowed : Option (Phase W) → Bool) (side : Side D W) (out : List (ℕ × W)) (n : ℕ) (d : D) →
+  pub sound_by-exchange : (place allowed : Option (Phase W) → Bool) (side : Waiters D W) (out : List (ℕ × W)) (n : ℕ) (d : D) →
       AreSoundBy place allowed side out → AreSoundBy place allowed (exchange side n d) out
   sound_by-exchange place allowed side out n d was = record {
     ordered = record {
@@ -67,7 +67,7 @@ module _ {D W : Type 0} where
     only = λ q. ap allowed (phase-with_asks side.live n d q) ∙ was.only q;
   }
 
-  pub sound-exchange : (allowed : Option (Phase W) → Bool) (side : Side D W) (out : List (ℕ × W)) (n : ℕ) (d : D) →
+  pub sound-exchange : (allowed : Option (Phase W) → Bool) (side : Waiters D W) (out : List (ℕ × W)) (n : ℕ) (d : D) →
       AreSound allowed side out → AreSound allowed (exchange side n d) out
   sound-exchange allowed side out n d was = sound_by-exchange is_registered allowed side out n d was
 
@@ -75,7 +75,7 @@ module _ {D W : Type 0} where
       asks_in (finmap.get (with_asks live n d) q) ≡ asks_in (finmap.get live q)
   asks-with_asks_other live n d q ne = ap asks_in (get-with_asks_other live n d q ne)
 
-  sound-pop_first : (allowed : Option (Phase W) → Bool) (phase : Phase W) (side : Side D W) (out : List (ℕ × W))
+  sound-pop_first : (allowed : Option (Phase W) → Bool) (phase : Phase W) (side : Waiters D W) (out : List (ℕ × W))
       (queue : List ℕ) →
       allowed (Some phase) ≡ true → may_be_named (Some phase) ≡ true →
       AreSound allowed side out → side.queue ≡ queue → AreSound allowed (pop_first phase side queue)
@@ -94,12 +94,12 @@ module _ {D W : Type 0} where
       }
 
   -- the oldest was named, and has this phase
-  pub sound-pop_oldest : (allowed : Option (Phase W) → Bool) (phase : Phase W) (side : Side D W) (out : List (ℕ × W)) →
+  pub sound-pop_oldest : (allowed : Option (Phase W) → Bool) (phase : Phase W) (side : Waiters D W) (out : List (ℕ × W)) →
       allowed (Some phase) ≡ true → may_be_named (Some phase) ≡ true →
       AreSound allowed side out → AreSound allowed (pop_oldest phase side) (out ++ pair_of_oldest side)
   sound-pop_oldest allowed phase side out is may was = sound-pop_first allowed phase side out side.queue is may was refl
 
-  sound-complete_first : (allowed : Option (Phase W) → Bool) (left : D) (side : Side D W) (out : List (ℕ × W))
+  sound-complete_first : (allowed : Option (Phase W) → Bool) (left : D) (side : Waiters D W) (out : List (ℕ × W))
       (queue : List ℕ) →
       allowed (Some Complete) ≡ true →
       AreSound allowed side out → side.queue ≡ queue → AreSound allowed (complete_first left side queue)
@@ -115,13 +115,13 @@ module _ {D W : Type 0} where
       (ap (pair_of n) (phase-with_asks side.live n left n)) sound
 
   -- the oldest was named, and is complete
-  pub sound-complete_oldest : (allowed : Option (Phase W) → Bool) (left : D) (side : Side D W) (out : List (ℕ × W)) →
+  pub sound-complete_oldest : (allowed : Option (Phase W) → Bool) (left : D) (side : Waiters D W) (out : List (ℕ × W)) →
       allowed (Some Complete) ≡ true →
       AreSound allowed side out → AreSound allowed (complete_oldest left side) (out ++ pair_of_oldest side)
   sound-complete_oldest allowed left side out is was = sound-complete_first allowed left side out side.queue is was refl
 
   -- the same queue, with nobody named
-  unnamed : (side : Side D W) (out : List (ℕ × W)) → IsOrdered side out → IsOrdered side []
+  unnamed : (side : Waiters D W) (out : List (ℕ × W)) → IsOrdered side out → IsOrdered side []
   unnamed side out was = record {
     queued = was.queued;
     once = was.once;
@@ -130,31 +130,31 @@ module _ {D W : Type 0} where
   }
 
   -- to name the oldest and then the rest is to name all: the side, and its pairs
-  pub emptied-step : (phase : Phase W) (side : Side D W) (out : List (ℕ × W)) (n : ℕ) (others : List ℕ) →
+  pub emptied-step : (phase : Phase W) (side : Waiters D W) (out : List (ℕ × W)) (n : ℕ) (others : List ℕ) →
       IsOrdered side out →
-      side.queue ≡ n ∷ others → emptied phase (noticed phase side n others) ≡ emptied phase side
+      side.queue ≡ n ∷ others → clear_queue phase (noticed phase side n others) ≡ clear_queue phase side
   emptied-step phase side out n others was queue =
       ap (λ (v : Waiting D W). v.side)
       (all_noticed-step phase (record { side = side; out = [] }) n others (unnamed side out was) queue)
 
-  named_all-step : (phase : Phase W) (side : Side D W) (out : List (ℕ × W)) (n : ℕ) (others : List ℕ) →
+  named_all-step : (phase : Phase W) (side : Waiters D W) (out : List (ℕ × W)) (n : ℕ) (others : List ℕ) →
       IsOrdered side out →
       side.queue ≡ n ∷ others → pair side n ++ named_all (noticed phase side n others) ≡ named_all side
   named_all-step phase side out n others was queue =
       ap (λ (v : Waiting D W). v.out)
       (all_noticed-step phase (record { side = side; out = [] }) n others (unnamed side out was) queue)
 
-  pub emptied-none : (phase : Phase W) (side : Side D W) → side.queue ≡ [] → emptied phase side ≡ side
+  pub emptied-none : (phase : Phase W) (side : Waiters D W) → side.queue ≡ [] → clear_queue phase side ≡ side
   emptied-none phase side none =
       ap (λ (v : Waiting D W). v.side) (all_noticed-none phase (record { side = side; out = [] }) none)
 
-  named_all-none : (phase : Phase W) (side : Side D W) → side.queue ≡ [] → named_all side ≡ []
+  named_all-none : (phase : Phase W) (side : Waiters D W) → side.queue ≡ [] → named_all side ≡ []
   named_all-none phase side none =
       ap (λ (v : Waiting D W). v.out) (all_noticed-none phase (record { side = side; out = [] }) none)
 
 -- The same for an outbox of pairs that are marked with their side.
 module _ {D W X : Type 0} (mark : ℕ × W → X) where
-  pub marked-step : (phase : Phase W) (side : Side D W) (pairs : List (ℕ × W)) (out : List X) (n : ℕ)
+  pub marked-step : (phase : Phase W) (side : Waiters D W) (pairs : List (ℕ × W)) (out : List X) (n : ℕ)
       (others : List ℕ) →
       IsOrdered side pairs → side.queue ≡ n ∷ others →
       (out ++ map mark (pair side n)) ++ map mark (named_all (noticed phase side n others)) ≡ out ++ map mark
@@ -164,6 +164,6 @@ module _ {D W X : Type 0} (mark : ℕ × W → X) where
       ∙ ap (λ ps. out ++ ps) (sym (map-append mark (pair side n) (named_all (noticed phase side n others)))
       ∙ ap (map mark) (named_all-step phase side pairs n others was queue))
 
-  pub marked-none : (phase : Phase W) (side : Side D W) (out : List X) → side.queue ≡ [] →
+  pub marked-none : (phase : Phase W) (side : Waiters D W) (out : List X) → side.queue ≡ [] →
       out ++ map mark (named_all side) ≡ out
   marked-none phase side out none = ap (λ ps. out ++ map mark ps) (named_all-none phase side none) ∙ append-nil out

@@ -9,8 +9,9 @@ use Rattle.std.specs.FinMap as finmap
 use Rattle.std.specs.FinSet as set
 use Rattle.fi_parts.specs.declared.phase.Phase.{Phase}
 use Rattle.fi_parts.specs.declared.phase.Future.{Future}
-use Rattle.fi_parts.specs.Heaped.{Heaped, value_under, with_values}
-use Rattle.fi_parts.specs.Waiting.{Waiting, phase_in, asks_in, is_registered, rephased, with_phase, made, forgotten, pair, pair_of}
+use Rattle.fi_parts.specs.HeapModel.{HeapModel, value_under, with_values}
+use Rattle.fi_parts.specs.Waiting.{Waiting, phase_in, asks_in, is_registered, rephased}
+use Rattle.fi_parts.specs.Waiting.{with_phase, insert_fresh, without_future, pair, pair_of}
 use Rattle.fi_parts.specs.declared.phase.Phase.TheVariants.{Fresh, Registered, Told}
 use Rattle.fi_parts.specs.Pairs.{without_pair}
 use Rattle.fi_parts.proofs.Picked.{contains-insert_same, contains-insert_other, contains-remove_same, contains-remove_other}
@@ -102,7 +103,7 @@ module _ {W : Type 0} where
       each None = refl
       each (Some f) = refl
 
-  module _ (live : finmap.FinMap nat_cmp (Future Timed W)) (heap : Heaped Due) (was : AreSeated live heap) where
+  module _ (live : finmap.FinMap nat_cmp (Future Timed W)) (heap : HeapModel Due) (was : AreSeated live heap) where
     -- two names have two seats
     pub own_seat : (n q : ℕ) (f g : Future Timed W) → finmap.get live n ≡ Some f → finmap.get live q ≡ Some g → g.asks.seat.0 ≡
         f.asks.seat.0 → q ≡ n
@@ -110,7 +111,7 @@ module _ {W : Type 0} where
 
     module _ (n : ℕ) (f : Future Timed W) (here : finmap.get live n ≡ Some f) where
       -- One future stands otherwise, and only its seat may be taken or left.
-      pub seated-by : (new : finmap.FinMap nat_cmp (Future Timed W)) (heap' : Heaped Due) (g : Future Timed W) → finmap.get new n ≡
+      pub seated-by : (new : finmap.FinMap nat_cmp (Future Timed W)) (heap' : HeapModel Due) (g : Future Timed W) → finmap.get new n ≡
           Some g → g.asks ≡ f.asks → ((q : ℕ) → q ≢ n → finmap.get new q ≡ finmap.get live q) →
           heap'.live ≡ heap.live → set.contains heap'.members f.asks.seat.0 ≡ is_registered (Some g.phase) →
           ((k : ℕ) → k ≢ f.asks.seat.0 → set.contains heap'.members k ≡ set.contains heap.members k) → AreSeated new heap'
@@ -146,7 +147,7 @@ module _ {W : Type 0} where
       }
 
       -- One future is gone, and its seat.
-      pub seated-without : (heap' : Heaped Due) → heap'.live ≡ finmap.remove heap.live f.asks.seat.0 →
+      pub seated-without : (heap' : HeapModel Due) → heap'.live ≡ finmap.remove heap.live f.asks.seat.0 →
           ((k : ℕ) → k ≢ f.asks.seat.0 → set.contains heap'.members k ≡ set.contains heap.members k) →
           AreSeated (finmap.remove live n) heap'
       seated-without heap' values elsewhere = record {
@@ -175,7 +176,7 @@ module _ {W : Type 0} where
           still q h is = sym (get-remove_other live n q (left q h is)) ∙ is
 
     -- One future is new, with a seat that was not there.
-    pub seated-made : (n : ℕ) (g : Future Timed W) (heap' : Heaped Due) → finmap.get live n ≡ None → value_under heap g.asks.seat.0 ≡
+    pub seated-made : (n : ℕ) (g : Future Timed W) (heap' : HeapModel Due) → finmap.get live n ≡ None → value_under heap g.asks.seat.0 ≡
         None → value_under heap' g.asks.seat.0 ≡ Some (due_of g n) →
         ((k : ℕ) → k ≢ g.asks.seat.0 → value_under heap' k ≡ value_under heap k) → heap'.members ≡ heap.members →
         set.contains heap.members g.asks.seat.0 ≡ is_registered (Some g.phase) → AreSeated (finmap.insert live n g) heap'
@@ -233,7 +234,7 @@ module _ {W : Type 0} where
       each (Some f) at e = (f, at)
 
   -- a future stands otherwise, and is registered exactly if it was
-  pub kept-stand : (live : finmap.FinMap nat_cmp (Future Timed W)) (heap : Heaped Due) (n : ℕ) (phase : Phase W) → AreSeated live heap →
+  pub kept-stand : (live : finmap.FinMap nat_cmp (Future Timed W)) (heap : HeapModel Due) (n : ℕ) (phase : Phase W) → AreSeated live heap →
       IsSome (finmap.get live n) → is_registered (Some phase) ≡ is_registered (phase_in (finmap.get live n)) →
       AreSeated (with_phase live n phase) heap
   kept-stand live heap n phase was lives same =
@@ -243,7 +244,7 @@ module _ {W : Type 0} where
       refl (was.taken n f.0 f.1 ∙ sym (same ∙ ap (λ o. is_registered (phase_in o)) f.1)) (λ k ne. refl)
 
   -- a future is registered, and takes its seat
-  pub kept-registered : (live : finmap.FinMap nat_cmp (Future Timed W)) (heap heap' : Heaped Due) (n : ℕ) (waker : W) (asks : Timed) →
+  pub kept-registered : (live : finmap.FinMap nat_cmp (Future Timed W)) (heap heap' : HeapModel Due) (n : ℕ) (waker : W) (asks : Timed) →
       AreSeated live heap → asks_in (finmap.get live n) ≡ Some asks → heap'.live ≡ heap.live → heap'.members ≡
       set.insert heap.members asks.seat.0 →
       AreSeated (with_phase live n (Registered waker)) heap'
@@ -256,7 +257,7 @@ module _ {W : Type 0} where
       (λ k ne. ap (λ m. set.contains m k) members' ∙ contains-insert_other heap.members f.0.asks.seat.0 k ne)
 
   -- who is not registered has not taken its seat
-  pub seat_free : (live : finmap.FinMap nat_cmp (Future Timed W)) (heap : Heaped Due) (n : ℕ) (asks : Timed) → AreSeated live heap →
+  pub seat_free : (live : finmap.FinMap nat_cmp (Future Timed W)) (heap : HeapModel Due) (n : ℕ) (asks : Timed) → AreSeated live heap →
       asks_in (finmap.get live n) ≡ Some asks → is_registered (phase_in (finmap.get live n)) ≡ false →
       set.contains heap.members asks.seat.0 ≡ false
   seat_free live heap n asks was is apart =
@@ -265,13 +266,13 @@ module _ {W : Type 0} where
       ap (λ o. is_registered (phase_in o)) (sym f.1) ∙ apart
 
   -- each seat that a future asks for is there
-  pub seat_live : (live : finmap.FinMap nat_cmp (Future Timed W)) (heap : Heaped Due) (n : ℕ) (asks : Timed) → AreSeated live heap →
+  pub seat_live : (live : finmap.FinMap nat_cmp (Future Timed W)) (heap : HeapModel Due) (n : ℕ) (asks : Timed) → AreSeated live heap →
       asks_in (finmap.get live n) ≡ Some asks → IsSome (value_under heap asks.seat.0)
   seat_live live heap n asks was is =
       let f = asks_here live n asks is in
       ap (λ (a : Timed). is_some (value_under heap a.seat.0)) (sym f.2) ∙ ap is_some (was.seated n f.0 f.1)
 
-  pub kept-told : (live : finmap.FinMap nat_cmp (Future Timed W)) (heap heap' : Heaped Due) (n seat : ℕ) (phase : Phase W)
+  pub kept-told : (live : finmap.FinMap nat_cmp (Future Timed W)) (heap heap' : HeapModel Due) (n seat : ℕ) (phase : Phase W)
       (f : Future Timed W) → AreSeated live heap → finmap.get live n ≡ Some f → f.asks.seat.0 ≡ seat → is_registered (Some phase) ≡
       false →
       heap'.live ≡ heap.live → heap'.members ≡ set.remove heap.members seat → AreSeated (with_phase live n phase) heap'
@@ -282,7 +283,7 @@ module _ {W : Type 0} where
       values (ap (λ m. set.contains m f.asks.seat.0) members' ∙ contains-remove_same heap.members f.asks.seat.0 ∙ sym apart)
       (λ k ne. ap (λ m. set.contains m k) members' ∙ contains-remove_other heap.members f.asks.seat.0 k ne)
 
-  pub kept-forgotten : (live : finmap.FinMap nat_cmp (Future Timed W)) (heap heap' : Heaped Due) (n : ℕ) (asks : Timed) →
+  pub kept-forgotten : (live : finmap.FinMap nat_cmp (Future Timed W)) (heap heap' : HeapModel Due) (n : ℕ) (asks : Timed) →
       AreSeated live heap → asks_in (finmap.get live n) ≡ Some asks → heap'.live ≡ finmap.remove heap.live asks.seat.0 →
       ((k : ℕ) → k ≢ asks.seat.0 → set.contains heap'.members k ≡ set.contains heap.members k) → AreSeated (finmap.remove live n) heap'
   kept-forgotten live heap heap' n asks was is values elsewhere =
@@ -299,23 +300,23 @@ module _ {W : Type 0} where
   none_here (Some f) h = absurd (none-some f.phase (sym h))
 
   -- a future is made: its seat was claimed, and then got its name
-  pub kept-made : (live : finmap.FinMap nat_cmp (Future Timed W)) (heap mid heap' : Heaped Due) (n expiry seat : ℕ) (claimed : Due) →
+  pub kept-made : (live : finmap.FinMap nat_cmp (Future Timed W)) (heap mid heap' : HeapModel Due) (n expiry seat : ℕ) (claimed : Due) →
       AreSeated live heap → phase_in (finmap.get live n) ≡ None → value_under heap seat ≡ None →
       mid ≡ with_values heap (finmap.insert heap.live seat claimed) → set.contains mid.members seat ≡ false → heap' ≡
       with_values mid (finmap.insert mid.live seat (due_of (fresh expiry seat) n)) →
       AreSeated (finmap.insert live n (fresh expiry seat)) heap'
   kept-made live heap mid heap' n expiry seat claimed was free unclaimed is apart named =
-      let members : heap'.members ≡ heap.members = ap (λ (h : Heaped Due). h.members) named ∙ ap (λ (h : Heaped Due). h.members) is in
-      let values : heap'.live ≡ finmap.insert mid.live seat (due_of (fresh expiry seat) n) = ap (λ (h : Heaped Due). h.live) named in
-      let before : mid.live ≡ finmap.insert heap.live seat claimed = ap (λ (h : Heaped Due). h.live) is in
+      let members : heap'.members ≡ heap.members = ap (λ (h : HeapModel Due). h.members) named ∙ ap (λ (h : HeapModel Due). h.members) is in
+      let values : heap'.live ≡ finmap.insert mid.live seat (due_of (fresh expiry seat) n) = ap (λ (h : HeapModel Due). h.live) named in
+      let before : mid.live ≡ finmap.insert heap.live seat claimed = ap (λ (h : HeapModel Due). h.live) is in
       seated-made live heap was n (fresh expiry seat) heap' (none_here (finmap.get live n) free) unclaimed
       (ap (λ l. finmap.get l seat) values ∙ get-insert_same mid.live seat _)
       (λ k ne. ap (λ l. finmap.get l k) values ∙ get-insert_other mid.live seat _ k ne ∙ ap (λ l. finmap.get l k) before ∙
       get-insert_other heap.live seat claimed k ne)
-      members (ap (λ (h : Heaped Due). set.contains h.members seat) (sym is) ∙ apart)
+      members (ap (λ (h : HeapModel Due). set.contains h.members seat) (sym is) ∙ apart)
 
   -- a seat that was claimed and ended again
-  pub kept-refused : (live after : finmap.FinMap nat_cmp (Future Timed W)) (heap mid heap' : Heaped Due) (seat : ℕ) (claimed : Due) →
+  pub kept-refused : (live after : finmap.FinMap nat_cmp (Future Timed W)) (heap mid heap' : HeapModel Due) (seat : ℕ) (claimed : Due) →
       AreSeated live heap → after ≡ live → value_under heap seat ≡ None →
       mid ≡ with_values heap (finmap.insert heap.live seat claimed) → heap' ≡ with_values mid (finmap.remove mid.live seat) →
       AreSeated after heap'
@@ -325,7 +326,8 @@ module _ {W : Type 0} where
         | inl e ↦ rw e (get-remove_same (finmap.insert heap.live seat claimed) seat ∙ sym unclaimed)
         | inr ne ↦ get-remove_other (finmap.insert heap.live seat claimed) seat q ne ∙ get-insert_other heap.live seat claimed q ne
       ]) in
-      let whole : heap' ≡ heap = back ∙ ap (λ (h : Heaped Due). let k : Heaped Due = with_values h (finmap.remove h.live seat) in k) is ∙
+      let whole : heap' ≡ heap = back ∙ ap (λ (h : HeapModel Due).
+      let k : HeapModel Due = with_values h (finmap.remove h.live seat) in k) is ∙
       ap (with_values heap) values in
       rw (same, whole) was
 
@@ -363,16 +365,16 @@ module _ {W : Type 0} where
           w.out ++ pair_of n (sym (phase-unseated w.side.live n) i);
     })
 
-    pub seen-made : (w' : Waiting Timed W) (asks : Timed) → w' ≡ record w { side = made w.side n asks } → deadlines_of w' ≡
-        record (deadlines_of w) { side = made (deadlines_of w).side n asks.expiry }
+    pub seen-made : (w' : Waiting Timed W) (asks : Timed) → w' ≡ record w { side = insert_fresh w.side n asks } → deadlines_of w' ≡
+        record (deadlines_of w) { side = insert_fresh (deadlines_of w).side n asks.expiry }
     seen-made w' asks is = rw is (λ i. record {
       side =
           record { live = unseated-insert w.side.live n (record { asks = asks; phase = Fresh }) i; queue = [] };
       out = w.out;
     })
 
-    pub seen-forgotten : (w' : Waiting Timed W) → w' ≡ record { side = forgotten w.side n; out = without_pair n w.out } →
-        deadlines_of w' ≡ record { side = forgotten (deadlines_of w).side n; out = without_pair n w.out }
+    pub seen-forgotten : (w' : Waiting Timed W) → w' ≡ record { side = without_future w.side n; out = without_pair n w.out } →
+        deadlines_of w' ≡ record { side = without_future (deadlines_of w).side n; out = without_pair n w.out }
     seen-forgotten w' is = rw is (λ i. record {
       side = record { live = unseated-remove w.side.live n i; queue = [] };
       out =

@@ -7,8 +7,9 @@ use Rattle.fi_parts.specs.declared.phase.Phase.{Phase}
 use Rattle.fi_parts.specs.declared.phase.Phase.TheVariants.{Fresh, Registered, Told, Complete, Ended}
 use Rattle.fi_parts.specs.Order.{holds}
 use Rattle.fi_parts.specs.Pairs.{without_pair}
-use Rattle.fi_parts.specs.Waiting.{Side, phase_in, phase_of, is_registered, may_be_named, no_futures, made, with_phase, registered, stays}
-use Rattle.fi_parts.specs.Waiting.{ended, forgotten, emptied, named_all, AreSound, AreSoundBy, Waiting, without_place, IsLive}
+use Rattle.fi_parts.specs.Waiting.{Waiters, phase_in, phase_of, is_registered, may_be_named}
+use Rattle.fi_parts.specs.Waiting.{no_futures, insert_fresh, with_phase, registered, stays}
+use Rattle.fi_parts.specs.Waiting.{ended, without_future, clear_queue, named_all, AreSound, AreSoundBy, Waiting, without_place, IsLive}
 use Rattle.fi_parts.proofs.Queues.{has-without_same}
 use Rattle.fi_parts.specs.Effects.{notified}
 use Rattle.fi_parts.proofs.Notified.{MayNotify, phases-notified, ordered-notified}
@@ -20,7 +21,7 @@ use Rattle.fi_parts.proofs.Waiting.{ordered-all_noticed}
 
 module _ {D W : Type 0} (place : Option (Phase W) → Bool) (rule : IsPlaceRule place)
     (allowed : Option (Phase W) → Bool) where
-  only-becomes : (old new : Side D W) (name : ℕ) (phase : Option (Phase W)) →
+  only-becomes : (old new : Waiters D W) (name : ℕ) (phase : Option (Phase W)) →
       ((q : ℕ) → allowed (phase_of old q) ≡ true) → Becomes old new name phase → allowed phase ≡ true → (q : ℕ) →
       allowed (phase_of new q) ≡ true
   only-becomes old new name phase only b is q = elim (cases_eq q name) [
@@ -34,38 +35,38 @@ module _ {D W : Type 0} (place : Option (Phase W) → Bool) (rule : IsPlaceRule 
     only = λ q. ap (λ o. allowed (phase_in o)) (map.get-empty nat_cmp q) ∙ is;
   }
 
-  pub sound_by-made : (side : Side D W) (out : List (ℕ × W)) (name : ℕ) (asks : D) → allowed (Some Fresh) ≡ true →
-      AreSoundBy place allowed side out → phase_of side name ≡ None → AreSoundBy place allowed (made side name asks) out
+  pub sound_by-made : (side : Waiters D W) (out : List (ℕ × W)) (name : ℕ) (asks : D) → allowed (Some Fresh) ≡ true →
+      AreSoundBy place allowed side out → phase_of side name ≡ None → AreSoundBy place allowed (insert_fresh side name asks) out
   sound_by-made side out name asks is was free = record {
     ordered = ordered-made place rule side out name asks was.ordered free;
-    only = only-becomes side (made side name asks) name (Some Fresh) was.only (becomes-made side name asks) is;
+    only = only-becomes side (insert_fresh side name asks) name (Some Fresh) was.only (becomes-made side name asks) is;
   }
 
-  pub sound_by-without_pair : (side : Side D W) (out : List (ℕ × W)) (name : ℕ) → AreSoundBy place allowed side out →
+  pub sound_by-without_pair : (side : Waiters D W) (out : List (ℕ × W)) (name : ℕ) → AreSoundBy place allowed side out →
       AreSoundBy place allowed side (without_pair name out)
   sound_by-without_pair side out name was = record {
     ordered = ordered-without_pair place rule side out name was.ordered;
     only = was.only;
   }
 
-  pub sound_by-drop : (side : Side D W) (out : List (ℕ × W)) → AreSoundBy place allowed side out →
+  pub sound_by-drop : (side : Waiters D W) (out : List (ℕ × W)) → AreSoundBy place allowed side out →
       AreSoundBy place allowed side (drop 1 out)
   sound_by-drop side out was = record { ordered = ordered-drop place rule side out was.ordered; only = was.only }
 
-  pub sound_by-forgotten : (side : Side D W) (out : List (ℕ × W)) (name : ℕ) → allowed None ≡ true →
-      AreSoundBy place allowed side out → AreSoundBy place allowed (forgotten side name) (without_pair name out)
+  pub sound_by-forgotten : (side : Waiters D W) (out : List (ℕ × W)) (name : ℕ) → allowed None ≡ true →
+      AreSoundBy place allowed side out → AreSoundBy place allowed (without_future side name) (without_pair name out)
   sound_by-forgotten side out name is was = record {
     ordered = ordered-forgotten place rule side out name was.ordered;
-    only = only-becomes side (forgotten side name) name None was.only (becomes-forgotten side name) is;
+    only = only-becomes side (without_future side name) name None was.only (becomes-forgotten side name) is;
   }
 
   -- a poll that set the phase of one that has no place, to one that has none
-  pub sound_by-set_phase : (phase : Phase W) (side : Side D W) (out : List (ℕ × W)) (name : ℕ) (before : Phase W) →
+  pub sound_by-set_phase : (phase : Phase W) (side : Waiters D W) (out : List (ℕ × W)) (name : ℕ) (before : Phase W) →
       place (Some phase) ≡ false → may_be_named (Some phase) ≡ true → allowed (Some phase) ≡ true →
       AreSoundBy place allowed side out → phase_of side name ≡ Some before → place (Some before) ≡ false →
       AreSoundBy place allowed (record side { live = with_phase side.live name phase }) (without_pair name out)
   sound_by-set_phase phase side out name before off may is was stood apart =
-      let new : Side D W = record side { live = with_phase side.live name phase } in
+      let new : Waiters D W = record side { live = with_phase side.live name phase } in
       let lives = lives_as side name before stood in
       record {
         ordered = ordered-set_phase place rule phase side _ name off may
@@ -75,7 +76,7 @@ module _ {D W : Type 0} (place : Option (Phase W) → Bool) (rule : IsPlaceRule 
       }
 
   -- a poll that ended one that has no place
-  pub sound_by-ended : (side : Side D W) (out : List (ℕ × W)) (name : ℕ) (before : Phase W) →
+  pub sound_by-ended : (side : Waiters D W) (out : List (ℕ × W)) (name : ℕ) (before : Phase W) →
       allowed (Some Ended) ≡ true →
       AreSoundBy place allowed side out → phase_of side name ≡ Some before → place (Some before) ≡ false →
       AreSoundBy place allowed (ended side name) (without_pair name out)
@@ -83,7 +84,7 @@ module _ {D W : Type 0} (place : Option (Phase W) → Bool) (rule : IsPlaceRule 
       sound_by-set_phase Ended side out name before rule.ended refl is was stood apart
 
   -- a poll that registered one
-  pub sound_by-registered : (side : Side D W) (out : List (ℕ × W)) (name : ℕ) (waker : W) (before : Phase W) →
+  pub sound_by-registered : (side : Waiters D W) (out : List (ℕ × W)) (name : ℕ) (waker : W) (before : Phase W) →
       place (Some (Registered waker)) ≡ true → allowed
       (Some (Registered waker)) ≡ true → AreSoundBy place allowed side out → phase_of side name ≡ Some before →
       place (Some before) ≡ false →
@@ -97,7 +98,7 @@ module _ {D W : Type 0} (place : Option (Phase W) → Bool) (rule : IsPlaceRule 
   }
 
   -- a poll that registered one without a place
-  pub sound_by-registered_apart : (side : Side D W) (out : List (ℕ × W)) (name : ℕ) (waker : W) (before : Phase W) →
+  pub sound_by-registered_apart : (side : Waiters D W) (out : List (ℕ × W)) (name : ℕ) (waker : W) (before : Phase W) →
       place (Some (Registered waker)) ≡ false → allowed (Some (Registered waker)) ≡ true → AreSoundBy place allowed side out →
       phase_of side name ≡ Some before → place (Some before) ≡ false →
       AreSoundBy place allowed (stays side name waker) (without_pair name out)
@@ -110,7 +111,7 @@ module _ {D W : Type 0} (place : Option (Phase W) → Bool) (rule : IsPlaceRule 
   }
 
   -- a poll that left one registered
-  pub sound_by-stays : (side : Side D W) (out : List (ℕ × W)) (name : ℕ) (waker before : W) →
+  pub sound_by-stays : (side : Waiters D W) (out : List (ℕ × W)) (name : ℕ) (waker before : W) →
       allowed (Some (Registered waker)) ≡ true → AreSoundBy place allowed side out →
       phase_of side name ≡ Some (Registered before) →
       AreSoundBy place allowed (stays side name waker) (without_pair name out)
@@ -122,7 +123,7 @@ module _ {D W : Type 0} (place : Option (Phase W) → Bool) (rule : IsPlaceRule 
   }
 
   -- a poll that ended one and took it out of the queue, where it had a place
-  pub sound_by-without_place : (side : Side D W) (out : List (ℕ × W)) (name : ℕ) → allowed (Some Ended) ≡ true →
+  pub sound_by-without_place : (side : Waiters D W) (out : List (ℕ × W)) (name : ℕ) → allowed (Some Ended) ≡ true →
       AreSoundBy place allowed side out → IsLive side name →
       AreSoundBy place allowed (without_place Ended side name) (without_pair name out)
   sound_by-without_place side out name is was lives = record {
@@ -152,25 +153,25 @@ module _ {D W : Type 0} (allowed : Option (Phase W) → Bool) where
   pub sound-empty : allowed None ≡ true → AreSound allowed (no_futures {D = D}) []
   sound-empty is = sound_by-empty is_registered registered_rule allowed is
 
-  pub sound-made : (side : Side D W) (out : List (ℕ × W)) (name : ℕ) (asks : D) → allowed (Some Fresh) ≡ true →
-      AreSound allowed side out → phase_of side name ≡ None → AreSound allowed (made side name asks) out
+  pub sound-made : (side : Waiters D W) (out : List (ℕ × W)) (name : ℕ) (asks : D) → allowed (Some Fresh) ≡ true →
+      AreSound allowed side out → phase_of side name ≡ None → AreSound allowed (insert_fresh side name asks) out
   sound-made side out name asks is was free =
       sound_by-made is_registered registered_rule allowed side out name asks is was free
 
-  pub sound-without_pair : (side : Side D W) (out : List (ℕ × W)) (name : ℕ) → AreSound allowed side out →
+  pub sound-without_pair : (side : Waiters D W) (out : List (ℕ × W)) (name : ℕ) → AreSound allowed side out →
       AreSound allowed side (without_pair name out)
   sound-without_pair side out name was = sound_by-without_pair is_registered registered_rule allowed side out name was
 
-  pub sound-drop : (side : Side D W) (out : List (ℕ × W)) → AreSound allowed side out →
+  pub sound-drop : (side : Waiters D W) (out : List (ℕ × W)) → AreSound allowed side out →
       AreSound allowed side (drop 1 out)
   sound-drop side out was = sound_by-drop is_registered registered_rule allowed side out was
 
-  pub sound-forgotten : (side : Side D W) (out : List (ℕ × W)) (name : ℕ) → allowed None ≡ true →
-      AreSound allowed side out → AreSound allowed (forgotten side name) (without_pair name out)
+  pub sound-forgotten : (side : Waiters D W) (out : List (ℕ × W)) (name : ℕ) → allowed None ≡ true →
+      AreSound allowed side out → AreSound allowed (without_future side name) (without_pair name out)
   sound-forgotten side out name is was = sound_by-forgotten is_registered registered_rule allowed side out name is was
 
   -- a poll that set the phase of one that was not registered, to one that is not
-  pub sound-set_phase : (phase : Phase W) (side : Side D W) (out : List (ℕ × W)) (name : ℕ) (before : Phase W) →
+  pub sound-set_phase : (phase : Phase W) (side : Waiters D W) (out : List (ℕ × W)) (name : ℕ) (before : Phase W) →
       is_registered (Some phase) ≡ false → may_be_named (Some phase) ≡ true → allowed (Some phase) ≡ true →
       AreSound allowed side out → phase_of side name ≡ Some before → is_registered (Some before) ≡ false →
       AreSound allowed (record side { live = with_phase side.live name phase }) (without_pair name out)
@@ -178,14 +179,14 @@ module _ {D W : Type 0} (allowed : Option (Phase W) → Bool) where
       sound_by-set_phase is_registered registered_rule allowed phase side out name before off may is was stood apart
 
   -- a poll that ended one that was not registered
-  pub sound-ended : (side : Side D W) (out : List (ℕ × W)) (name : ℕ) (before : Phase W) → allowed (Some Ended) ≡ true →
+  pub sound-ended : (side : Waiters D W) (out : List (ℕ × W)) (name : ℕ) (before : Phase W) → allowed (Some Ended) ≡ true →
       AreSound allowed side out → phase_of side name ≡ Some before → is_registered (Some before) ≡ false →
       AreSound allowed (ended side name) (without_pair name out)
   sound-ended side out name before is was stood apart =
       sound_by-ended is_registered registered_rule allowed side out name before is was stood apart
 
   -- a poll that registered one
-  pub sound-registered : (side : Side D W) (out : List (ℕ × W)) (name : ℕ) (waker : W) (before : Phase W) →
+  pub sound-registered : (side : Waiters D W) (out : List (ℕ × W)) (name : ℕ) (waker : W) (before : Phase W) →
       allowed (Some (Registered waker)) ≡ true → AreSound allowed side out → phase_of side name ≡ Some before →
       is_registered (Some before) ≡ false →
       AreSound allowed (registered side name waker) (without_pair name out)
@@ -193,7 +194,7 @@ module _ {D W : Type 0} (allowed : Option (Phase W) → Bool) where
       sound_by-registered is_registered registered_rule allowed side out name waker before refl is was stood apart
 
   -- a poll that left one registered
-  pub sound-stays : (side : Side D W) (out : List (ℕ × W)) (name : ℕ) (waker before : W) →
+  pub sound-stays : (side : Waiters D W) (out : List (ℕ × W)) (name : ℕ) (waker before : W) →
       allowed (Some (Registered waker)) ≡ true → AreSound allowed side out →
       phase_of side name ≡ Some (Registered before) →
       AreSound allowed (stays side name waker) (without_pair name out)
@@ -201,9 +202,9 @@ module _ {D W : Type 0} (allowed : Option (Phase W) → Bool) where
       sound_by-stays is_registered registered_rule allowed side out name waker before is was stood
 
   -- the whole queue was named
-  pub sound-emptied : (phase : Phase W) (side : Side D W) (out : List (ℕ × W)) → allowed (Some phase) ≡ true →
+  pub sound-emptied : (phase : Phase W) (side : Waiters D W) (out : List (ℕ × W)) → allowed (Some phase) ≡ true →
       may_be_named (Some phase) ≡ true → AreSound allowed side out →
-      AreSound allowed (emptied phase side) (out ++ named_all side)
+      AreSound allowed (clear_queue phase side) (out ++ named_all side)
   sound-emptied phase side out is may was = record {
     ordered = ordered-all_noticed phase side.queue (record { side = side; out = out }) may refl was.ordered;
     only = λ q. ap allowed (phase-emptied phase side out q was.ordered) ∙ each (phase_of side q) (was.only q);
@@ -218,14 +219,14 @@ module _ {D W : Type 0} (allowed : Option (Phase W) → Bool) where
       each (Some Ended) h = h
 
   -- who is registered now was registered before, where nobody joined the queue
-  pub was_registered : (old new : Side D W) (out after : List (ℕ × W)) → AreSound allowed old out →
+  pub was_registered : (old new : Waiters D W) (out after : List (ℕ × W)) → AreSound allowed old out →
       AreSound allowed new after → ((q : ℕ) → holds q new.queue ≡ true → holds q old.queue ≡ true) →
       (q : ℕ) → is_registered (phase_of new q) ≡ true → is_registered (phase_of old q) ≡ true
   was_registered old new out after was is queues q now =
       sym (was.ordered.queued q) ∙ queues q (is.ordered.queued q ∙ now)
 
   -- in an empty queue nobody is registered
-  pub none_registered : (side : Side D W) (out : List (ℕ × W)) → AreSound allowed side out → side.queue ≡ [] → (q : ℕ) →
+  pub none_registered : (side : Waiters D W) (out : List (ℕ × W)) → AreSound allowed side out → side.queue ≡ [] → (q : ℕ) →
       is_registered (phase_of side q) ≡ true → ⊥
   none_registered side out was empty q now =
       both_ways (holds q side.queue) (ap (holds q) empty) (was.ordered.queued q ∙ now)

@@ -9,32 +9,32 @@ use Rattle.fi_parts.specs.declared.phase.Phase.TheVariants.{Registered, Told}
 use Rattle.fi_parts.specs.Effects.{notified}
 use Rattle.fi_parts.specs.Order.{holds}
 use Rattle.fi_parts.specs.Pairs.{has}
-use Rattle.fi_parts.specs.Waiting.{Side, Waiting, phase_of, is_registered, with_phase, with_phases, named, pair_of, pair}
+use Rattle.fi_parts.specs.Waiting.{Waiters, Waiting, phase_of, is_registered, with_phase, with_phases, named, pair_of, pair}
 use Rattle.fi_parts.proofs.Queues.{has_pushed}
 use Rattle.fi_parts.proofs.Waiting.{named-other, phase-with_phase, phase-with_phase_other, asks-with_phase, live_if_registered}
 use Rattle.fi_parts.specs.Deadlines.{NeverFall, expiry_of, is_entered, is_due, NoneHasPair, TellsExpired, told_due, IsLeastDue, NoneDue}
 
 module _ {W : Type 0} where
-  pub entered_if_due : (now : ℕ) (side : Side ℕ W) (name : ℕ) → is_due now side name ≡ true → is_entered side name ≡ true
+  pub entered_if_due : (now : ℕ) (side : Waiters ℕ W) (name : ℕ) → is_due now side name ≡ true → is_entered side name ≡ true
   entered_if_due now side name is = (and_parts (is_entered side name) (nat_le (expiry_of side name) now) is).0
 
   -- the same futures, one of them told
-  abbrev told_in : Side ℕ W → ℕ → Side ℕ W
+  abbrev told_in : Waiters ℕ W → ℕ → Waiters ℕ W
   told_in side name = record side { live = with_phase side.live name Told }
 
-  same_expiries : (side : Side ℕ W) (name : ℕ) → expiry_of (told_in side name) ≡ expiry_of side
+  same_expiries : (side : Waiters ℕ W) (name : ℕ) → expiry_of (told_in side name) ≡ expiry_of side
   same_expiries side name = λ i q. unwrap_or (asks-with_phase side.live name Told q i) 0
 
-  pub told_now : (side : Side ℕ W) (name : ℕ) → is_entered side name ≡ true → is_entered (told_in side name) name ≡ false
+  pub told_now : (side : Waiters ℕ W) (name : ℕ) → is_entered side name ≡ true → is_entered (told_in side name) name ≡ false
   told_now side name is = ap is_registered (phase-with_phase side.live name Told (live_if_registered side name is))
 
-  pub told_other : (side : Side ℕ W) (name q : ℕ) → q ≢ name → is_entered (told_in side name) q ≡ is_entered side q
+  pub told_other : (side : Waiters ℕ W) (name q : ℕ) → q ≢ name → is_entered (told_in side name) q ≡ is_entered side q
   told_other side name q ne = ap is_registered (phase-with_phase_other side.live name Told q ne)
 
-  due_other : (now : ℕ) (side : Side ℕ W) (name q : ℕ) → q ≢ name → is_due now (told_in side name) q ≡ is_due now side q
+  due_other : (now : ℕ) (side : Waiters ℕ W) (name q : ℕ) → q ≢ name → is_due now (told_in side name) q ≡ is_due now side q
   due_other now side name q ne = λ i. told_other side name q ne i && nat_le (same_expiries side name i q) now
 
-  not_due : (now : ℕ) (side : Side ℕ W) (name : ℕ) → is_entered side name ≡ true → is_due now (told_in side name) name ≡ false
+  not_due : (now : ℕ) (side : Waiters ℕ W) (name : ℕ) → is_entered side name ≡ true → is_due now (told_in side name) name ≡ false
   not_due now side name is = ap (λ b. b && nat_le (expiry_of (told_in side name) name) now) (told_now side name is)
 
   pub told-step : (old : Waiting ℕ W) (name : ℕ) (due : List ℕ) → holds name due ≡ false →

@@ -16,9 +16,10 @@ use Rattle.fi_parts.specs.Noticed.{phase_after}
 use Rattle.fi_parts.specs.Places.{IsPlaceRule, registered_rule}
 use Rattle.fi_parts.specs.Order.{holds, Apart}
 use Rattle.fi_parts.specs.Pairs.{has, without_pair, PairsApart}
-use Rattle.fi_parts.specs.Waiting.{Side, Waiting, phase_in, phase_of, asks_in, is_registered, may_be_named, rephased, with_phase}
-use Rattle.fi_parts.specs.Waiting.{no_futures, made, registered, stays, forgotten, noticed, pair_of, pair, IsOrdered, IsLive, named}
-use Rattle.fi_parts.specs.Waiting.{with_phases, emptied, all_noticed, IsOrderedBy, without_place}
+use Rattle.fi_parts.specs.Waiting.{Waiters, Waiting, phase_in, phase_of, asks_in, is_registered, may_be_named, rephased, with_phase}
+use Rattle.fi_parts.specs.Waiting.{no_futures, insert_fresh, registered, stays, without_future}
+use Rattle.fi_parts.specs.Waiting.{noticed, pair_of, pair, IsOrdered, IsLive, named}
+use Rattle.fi_parts.specs.Waiting.{with_phases, clear_queue, notify_all, IsOrderedBy, without_place}
 use Rattle.fi_parts.proofs.FiniteMaps.{get-insert_same, get-insert_other, get-remove_same, get-remove_other}
 use Rattle.fi_parts.proofs.Queues.{holds-push, Apart-push, holds-without_same, holds-without_other, Apart-without_one, has_pushed}
 use Rattle.fi_parts.proofs.Queues.{has-without_same, has-drop, PairsApart-drop}
@@ -82,7 +83,7 @@ module _ {D W : Type 0} where
   phase-with_phase_other live name phase q ne = ap phase_in (get-with_phase_other live name phase q ne)
 
   -- who is registered lives
-  pub live_if_registered : (side : Side D W) (name : ℕ) → is_registered (phase_of side name) ≡ true → IsLive side name
+  pub live_if_registered : (side : Waiters D W) (name : ℕ) → is_registered (phase_of side name) ≡ true → IsLive side name
   live_if_registered side name is = each (map.get side.live name) is
     where
       each : (o : Option (Future D W)) → is_registered (phase_in o) ≡ true → IsSome o
@@ -97,7 +98,7 @@ placed place rule p is = let w = registered_is p is in ap place w.1 ∙ rule.reg
 -- What keeps a store in order, for any choice of the phases that have a place.
 module _ {D W : Type 0} (place : Option (Phase W) → Bool) (rule : IsPlaceRule place) where
   -- who has a place lives
-  pub live_if_placed : (side : Side D W) (name : ℕ) → place (phase_of side name) ≡ true → IsLive side name
+  pub live_if_placed : (side : Waiters D W) (name : ℕ) → place (phase_of side name) ≡ true → IsLive side name
   live_if_placed side name is = each (map.get side.live name) is
     where
       each : (o : Option (Future D W)) → place (phase_in o) ≡ true → IsSome o
@@ -105,7 +106,7 @@ module _ {D W : Type 0} (place : Option (Phase W) → Bool) (rule : IsPlaceRule 
       each (Some f) r = refl
 
   -- One name changed, and the others stand as before.
-  pub ordered_by : (old new : Side D W) (out after : List (ℕ × W)) (name : ℕ) → IsOrderedBy place old out →
+  pub ordered_by : (old new : Waiters D W) (out after : List (ℕ × W)) (name : ℕ) → IsOrderedBy place old out →
       ((q : ℕ) → q ≢ name → phase_of new q ≡ phase_of old q) →
       ((q : ℕ) → q ≢ name → holds q new.queue ≡ holds q old.queue) →
       ((q : ℕ) → q ≢ name → has q after ≡ true → has q out ≡ true) →
@@ -124,7 +125,7 @@ module _ {D W : Type 0} (place : Option (Phase W) → Bool) (rule : IsPlaceRule 
     named_once = apart;
   }
 
-  not_queued : (side : Side D W) (out : List (ℕ × W)) (name : ℕ) (phase : Option (Phase W)) →
+  not_queued : (side : Waiters D W) (out : List (ℕ × W)) (name : ℕ) (phase : Option (Phase W)) →
       IsOrderedBy place side out → phase_of side name ≡ phase → place phase ≡ false → holds name side.queue ≡ false
   not_queued side out name phase was is not_registered = was.queued name ∙ ap place is ∙ not_registered
 
@@ -136,31 +137,31 @@ module _ {D W : Type 0} (place : Option (Phase W) → Bool) (rule : IsPlaceRule 
     named_once = tt;
   }
 
-  pub ordered-made : (side : Side D W) (out : List (ℕ × W)) (name : ℕ) (asks : D) → IsOrderedBy place side out →
-      phase_of side name ≡ None → IsOrderedBy place (made side name asks) out
+  pub ordered-made : (side : Waiters D W) (out : List (ℕ × W)) (name : ℕ) (asks : D) → IsOrderedBy place side out →
+      phase_of side name ≡ None → IsOrderedBy place (insert_fresh side name asks) out
   ordered-made side out name asks was free =
       let f : Future D W = record { asks = asks; phase = Fresh } in
-      let now : phase_of (made side name asks) name ≡ Some Fresh = ap phase_in (get-insert_same side.live name f) in
-      ordered_by side (made side name asks) out out name was
+      let now : phase_of (insert_fresh side name asks) name ≡ Some Fresh = ap phase_in (get-insert_same side.live name f) in
+      ordered_by side (insert_fresh side name asks) out out name was
       (λ q ne. ap phase_in (get-insert_other side.live name f q ne)) (λ q ne. refl) (λ q ne at. at)
       (not_queued side out name None was free rule.none ∙ sym (ap place now ∙ rule.fresh)) was.once
       (λ at. ap may_be_named now) was.named_once
 
   -- one that has no place gets a phase that has none
-  pub ordered-set_phase : (phase : Phase W) (side : Side D W) (out : List (ℕ × W)) (name : ℕ) →
+  pub ordered-set_phase : (phase : Phase W) (side : Waiters D W) (out : List (ℕ × W)) (name : ℕ) →
       place (Some phase) ≡ false →
       may_be_named (Some phase) ≡ true → IsOrderedBy place side out → IsLive side name → place
       (phase_of side name) ≡ false →
       IsOrderedBy place (record side { live = with_phase side.live name phase }) out
   ordered-set_phase phase side out name off may was lives apart =
-      let new : Side D W = record side { live = with_phase side.live name phase } in
+      let new : Waiters D W = record side { live = with_phase side.live name phase } in
       let now : phase_of new name ≡ Some phase = phase-with_phase side.live name phase lives in
       ordered_by side new out out name was (λ q ne. phase-with_phase_other side.live name phase q ne) (λ q ne. refl)
       (λ q ne at. at)
       (not_queued side out name (phase_of side name) was refl apart ∙ sym (ap place now ∙ off)) was.once
       (λ at. ap may_be_named now ∙ may) was.named_once
 
-  pub ordered-registered : (side : Side D W) (out : List (ℕ × W)) (name : ℕ) (waker : W) →
+  pub ordered-registered : (side : Waiters D W) (out : List (ℕ × W)) (name : ℕ) (waker : W) →
       place (Some (Registered waker)) ≡ true → IsOrderedBy place side out →
       IsLive side name → place (phase_of side name) ≡ false → has name out ≡ false →
       IsOrderedBy place (registered side name waker) out
@@ -176,7 +177,7 @@ module _ {D W : Type 0} (place : Option (Phase W) → Bool) (rule : IsPlaceRule 
       (λ at. absurd (both_ways _ no_pair at)) was.named_once
 
   -- one registers, and gets no place
-  pub ordered-registered_apart : (side : Side D W) (out : List (ℕ × W)) (name : ℕ) (waker : W) →
+  pub ordered-registered_apart : (side : Waiters D W) (out : List (ℕ × W)) (name : ℕ) (waker : W) →
       place (Some (Registered waker)) ≡ false → IsOrderedBy place side out →
       IsLive side name → place (phase_of side name) ≡ false → has name out ≡ false →
       IsOrderedBy place (stays side name waker) out
@@ -189,12 +190,12 @@ module _ {D W : Type 0} (place : Option (Phase W) → Bool) (rule : IsPlaceRule 
       (λ at. absurd (both_ways _ no_pair at)) was.named_once
 
   -- who is registered has no pair
-  pub no_pair : (side : Side D W) (out : List (ℕ × W)) (name : ℕ) → IsOrderedBy place side out →
+  pub no_pair : (side : Waiters D W) (out : List (ℕ × W)) (name : ℕ) → IsOrderedBy place side out →
       is_registered (phase_of side name) ≡ true → has name out ≡ false
   no_pair side out name was is =
       false_from_ne_true _ (λ at. both_ways _ (unregistered (phase_of side name) (was.named name at)) is)
 
-  pub ordered-stays : (side : Side D W) (out : List (ℕ × W)) (name : ℕ) (waker : W) → IsOrderedBy place side out →
+  pub ordered-stays : (side : Waiters D W) (out : List (ℕ × W)) (name : ℕ) (waker : W) → IsOrderedBy place side out →
       is_registered (phase_of side name) ≡ true → IsOrderedBy place (stays side name waker) out
   ordered-stays side out name waker was is =
       let now : phase_of (stays side name waker) name ≡ Some (Registered waker) =
@@ -204,7 +205,7 @@ module _ {D W : Type 0} (place : Option (Phase W) → Bool) (rule : IsPlaceRule 
       (was.queued name ∙ placed place rule (phase_of side name) is ∙ sym (ap place now ∙ rule.registered waker))
       was.once (λ at. absurd (both_ways _ (no_pair side out name was is) at)) was.named_once
 
-  pub ordered-without_pair : (side : Side D W) (out : List (ℕ × W)) (name : ℕ) → IsOrderedBy place side out →
+  pub ordered-without_pair : (side : Waiters D W) (out : List (ℕ × W)) (name : ℕ) → IsOrderedBy place side out →
       IsOrderedBy place side (without_pair name out)
   ordered-without_pair side out name was = record {
     queued = was.queued;
@@ -213,17 +214,17 @@ module _ {D W : Type 0} (place : Option (Phase W) → Bool) (rule : IsPlaceRule 
     named_once = PairsApart-without name out was.named_once;
   }
 
-  pub ordered-forgotten : (side : Side D W) (out : List (ℕ × W)) (name : ℕ) → IsOrderedBy place side out →
-      IsOrderedBy place (forgotten side name) (without_pair name out)
+  pub ordered-forgotten : (side : Waiters D W) (out : List (ℕ × W)) (name : ℕ) → IsOrderedBy place side out →
+      IsOrderedBy place (without_future side name) (without_pair name out)
   ordered-forgotten side out name was =
-      let now : phase_of (forgotten side name) name ≡ None = ap phase_in (get-remove_same side.live name) in
-      ordered_by side (forgotten side name) out (without_pair name out) name was
+      let now : phase_of (without_future side name) name ≡ None = ap phase_in (get-remove_same side.live name) in
+      ordered_by side (without_future side name) out (without_pair name out) name was
       (λ q ne. ap phase_in (get-remove_other side.live name q ne)) (λ q ne. holds-without_other q name side.queue ne)
       (λ q ne at. has-without name q out at)
       (holds-without_same name side.queue ∙ sym (ap place now ∙ rule.none)) (Apart-without_one name side.queue was.once)
       (λ at. absurd (both_ways _ (has-without_same name out) at)) (PairsApart-without name out was.named_once)
 
-  pub ordered-drop : (side : Side D W) (out : List (ℕ × W)) → IsOrderedBy place side out →
+  pub ordered-drop : (side : Waiters D W) (out : List (ℕ × W)) → IsOrderedBy place side out →
       IsOrderedBy place side (drop 1 out)
   ordered-drop side out was = record {
     queued = was.queued;
@@ -233,7 +234,7 @@ module _ {D W : Type 0} (place : Option (Phase W) → Bool) (rule : IsPlaceRule 
   }
 
   -- one left the queue, and has this phase
-  pub ordered-without_place : (phase : Phase W) (side : Side D W) (out : List (ℕ × W)) (name : ℕ) →
+  pub ordered-without_place : (phase : Phase W) (side : Waiters D W) (out : List (ℕ × W)) (name : ℕ) →
       place (Some phase) ≡ false → may_be_named (Some phase) ≡ true → IsOrderedBy place side out → IsLive side name →
       IsOrderedBy place (without_place phase side name) out
   ordered-without_place phase side out name off may was lives =
@@ -247,16 +248,16 @@ module _ {D W : Type 0} (place : Option (Phase W) → Bool) (rule : IsPlaceRule 
 
 module _ {D W : Type 0} where
   -- the first of the queue is registered
-  pub first_registered : (side : Side D W) (out : List (ℕ × W)) (name : ℕ) (others : List ℕ) → IsOrdered side out →
+  pub first_registered : (side : Waiters D W) (out : List (ℕ × W)) (name : ℕ) (others : List ℕ) → IsOrdered side out →
       side.queue ≡ name ∷ others → is_registered (phase_of side name) ≡ true
   first_registered side out name others was is =
       sym (was.queued name) ∙ ap (holds name) is ∙ or_left _ _ (eqb_same name)
 
-  pub pair-registered : (side : Side D W) (name : ℕ) (waker : W) → phase_of side name ≡ Some (Registered waker) →
+  pub pair-registered : (side : Waiters D W) (name : ℕ) (waker : W) → phase_of side name ≡ Some (Registered waker) →
       pair side name ≡ (name, waker) ∷ []
   pair-registered side name waker is = ap (pair_of name) is
 
-  pub ordered-noticed : (phase : Phase W) (side : Side D W) (out : List (ℕ × W)) (name : ℕ) (waker : W)
+  pub ordered-noticed : (phase : Phase W) (side : Waiters D W) (out : List (ℕ × W)) (name : ℕ) (waker : W)
       (others : List ℕ) →
       may_be_named (Some phase) ≡ true → IsOrdered side out → side.queue ≡ name ∷ others →
       phase_of side name ≡ Some (Registered waker) →
@@ -288,7 +289,7 @@ module _ {D W : Type 0} where
   -- to name the oldest and then the rest is to name all
   pub all_noticed-step : (phase : Phase W) (w : Waiting D W) (n : ℕ) (others : List ℕ) → IsOrdered w.side w.out →
       w.side.queue ≡ n ∷ others →
-      all_noticed phase (record { side = noticed phase w.side n others; out = w.out ++ pair w.side n }) ≡ all_noticed
+      notify_all phase (record { side = noticed phase w.side n others; out = w.out ++ pair w.side n }) ≡ notify_all
       phase w
   unfolding named with_phases
   all_noticed-step phase w n others was queue =
@@ -305,7 +306,7 @@ module _ {D W : Type 0} where
       ∙ ap (λ ps. w.out ++ ps) (sym pairs) in
       λ i. record { side = record { live = sym live i; queue = [] }; out = out i }
 
-  pub all_noticed-none : (phase : Phase W) (w : Waiting D W) → w.side.queue ≡ [] → all_noticed phase w ≡ w
+  pub all_noticed-none : (phase : Phase W) (w : Waiting D W) → w.side.queue ≡ [] → notify_all phase w ≡ w
   unfolding named with_phases
   all_noticed-none phase w none =
       let live : with_phases w.side.live w.side.queue phase ≡ w.side.live =
@@ -315,7 +316,7 @@ module _ {D W : Type 0} where
       λ i. record { side = record { live = live i; queue = sym none i }; out = out i }
 
   -- who stands somehow is live
-  pub lives_as : (side : Side D W) (name : ℕ) (phase : Phase W) → phase_of side name ≡ Some phase → IsLive side name
+  pub lives_as : (side : Waiters D W) (name : ℕ) (phase : Phase W) → phase_of side name ≡ Some phase → IsLive side name
   lives_as side name phase is = each (map.get side.live name) is
     where
       each : (o : Option (Future D W)) → phase_in o ≡ Some phase → IsSome o
@@ -348,7 +349,7 @@ module _ {D W : Type 0} where
       left
 
   pub ordered-all_noticed : (phase : Phase W) (names : List ℕ) (w : Waiting D W) → may_be_named (Some phase) ≡ true →
-      w.side.queue ≡ names → IsOrdered w.side w.out → IsOrdered (all_noticed phase w).side (all_noticed phase w).out
+      w.side.queue ≡ names → IsOrdered w.side w.out → IsOrdered (notify_all phase w).side (notify_all phase w).out
   ordered-all_noticed phase [] w may queue was =
       subst (λ (v : Waiting D W). IsOrdered v.side v.out) (sym (all_noticed-none phase w queue)) was
   ordered-all_noticed phase (n ∷ others) w may queue was =
@@ -358,7 +359,7 @@ module _ {D W : Type 0} where
       (record { side = noticed phase w.side n others; out = w.out ++ pair w.side n }) may refl next)
 
 -- One name stands so now, and the others as before.
-pub record Becomes {D W : Type 0} (old new : Side D W) (name : ℕ) (phase : Option (Phase W)) : Type 0 where
+pub record Becomes {D W : Type 0} (old new : Waiters D W) (name : ℕ) (phase : Option (Phase W)) : Type 0 where
   pub here : phase_of new name ≡ phase
   pub others : (q : ℕ) → q ≢ name → phase_of new q ≡ phase_of old q
 
@@ -377,20 +378,20 @@ module _ {W : Type 0} where
   noticed_phase_other phase (Some Ended) h = refl
 
 module _ {D W : Type 0} where
-  pub becomes-made : (side : Side D W) (name : ℕ) (asks : D) → Becomes side (made side name asks) name (Some Fresh)
+  pub becomes-made : (side : Waiters D W) (name : ℕ) (asks : D) → Becomes side (insert_fresh side name asks) name (Some Fresh)
   becomes-made side name asks = record {
     here = ap phase_in (get-insert_same side.live name _);
     others = λ q ne. ap phase_in (get-insert_other side.live name _ q ne);
   }
 
-  pub becomes-with_phase : (side : Side D W) (name : ℕ) (phase : Phase W) (queue : List ℕ) → IsLive side name →
+  pub becomes-with_phase : (side : Waiters D W) (name : ℕ) (phase : Phase W) (queue : List ℕ) → IsLive side name →
       Becomes side (record { live = with_phase side.live name phase; queue = queue }) name (Some phase)
   becomes-with_phase side name phase queue lives = record {
     here = phase-with_phase side.live name phase lives;
     others = λ q ne. phase-with_phase_other side.live name phase q ne;
   }
 
-  pub becomes-forgotten : (side : Side D W) (name : ℕ) → Becomes side (forgotten side name) name None
+  pub becomes-forgotten : (side : Waiters D W) (name : ℕ) → Becomes side (without_future side name) name None
   becomes-forgotten side name = record {
     here = ap phase_in (get-remove_same side.live name);
     others = λ q ne. ap phase_in (get-remove_other side.live name q ne);
@@ -430,8 +431,8 @@ module _ {D W : Type 0} where
         | inr ne ↦ ap is_some (get-with_phase_other l n phase m ne) ∙ h
       ]
 
-  pub phase-emptied : (phase : Phase W) (side : Side D W) (out : List (ℕ × W)) (q : ℕ) → IsOrdered side out →
-      phase_of (emptied phase side) q ≡ noticed_phase phase (phase_of side q)
+  pub phase-emptied : (phase : Phase W) (side : Waiters D W) (out : List (ℕ × W)) (q : ℕ) → IsOrdered side out →
+      phase_of (clear_queue phase side) q ≡ noticed_phase phase (phase_of side q)
   phase-emptied phase side out q was = elim (cases_Bool (holds q side.queue)) [
     | inl at ↦
         let waker = registered_is (phase_of side q) (sym (was.queued q) ∙ at) in

@@ -5,7 +5,7 @@ use Rattle.std.specs.FinMap as map
 use Rattle.slab.specs.Slab.{Slab, get}
 use Rattle.fi_parts.specs.declared.blocks.block.BlockPtr.{BlockPtr}
 use Rattle.fi_parts.specs.declared.blocks.linked.LinkedBlocks.{LinkedBlocks}
-use Rattle.fi_parts.specs.Listed.{Listed}
+use Rattle.fi_parts.specs.ListModel.{ListModel}
 use Rattle.fi_parts.specs.CountedBlocks.{item_in, slot_in}
 use Rattle.fi_parts.specs.LinkedBlocks.{data_of, chain_of, IsChained}
 
@@ -36,7 +36,7 @@ module _ {T : Type 0} where
       pub held : (k : ℕ) (p : BlockPtr T) → get store k ≡ Some p → slot_in (data_at p) ≡ Some k
       pub stored : (p : BlockPtr T) (k : ℕ) → slot_in (data_at p) ≡ Some k → get store k ≡ Some p
 
-  abbrev pub view_of : Slab (BlockPtr T) → LinkedBlocks T → Listed T
+  abbrev pub view_of : Slab (BlockPtr T) → LinkedBlocks T → ListModel T
   view_of store s = record {
     live = live_by (data_of s) store.slots;
     order = each (slot_by (data_of s)) (chain_of s);

@@ -6,8 +6,9 @@ use Rattle.fi_parts.specs.declared.phase.Notice.{Notice}
 use Rattle.fi_parts.specs.Noticed.{phase_after}
 use Rattle.fi_parts.specs.Order.{holds, Apart}
 use Rattle.fi_parts.specs.Pairs.{without_pair, oldest}
-use Rattle.fi_parts.specs.Waiting.{Side, Waiting, phase_of, is_registered, may_be_named, IsLive, no_futures, made, registered, stays, ended}
-use Rattle.fi_parts.specs.Waiting.{forgotten, exchange, with_phase, noticed, pair, named, with_phases, all_noticed, without_place}
+use Rattle.fi_parts.specs.Waiting.{Waiters, Waiting, phase_of, is_registered, may_be_named}
+use Rattle.fi_parts.specs.Waiting.{IsLive, no_futures, insert_fresh, registered, stays, ended}
+use Rattle.fi_parts.specs.Waiting.{without_future, exchange, with_phase, noticed, pair, named, with_phases, notify_all, without_place}
 use Rattle.fi_parts.specs.Waiting.{front_told}
 
 -- Names are slots, D is what a future asks for, W a waker.
@@ -60,7 +61,7 @@ module _ {D W : Type 0} where
       record { side = noticed phase waiting.side name others; out = waiting.out ++ pair waiting.side name }
 
   -- it is fresh
-  abbrev pub renewed : Side D W → ℕ → Side D W
+  abbrev pub renewed : Waiters D W → ℕ → Waiters D W
   renewed side name = record side { live = with_phase side.live name Fresh }
 
   -- Each of these has this phase now; whoever of them was registered is named, in order. This is the queue then.
@@ -71,14 +72,14 @@ module _ {D W : Type 0} where
   }
 
   -- each of these is registered, and none stands twice
-  pub record AreRegistered (side : Side D W) (names : List ℕ) : Type 0 where
+  pub record AreRegistered (side : Waiters D W) (names : List ℕ) : Type 0 where
     pub registered : (name : ℕ) → holds name names ≡ true → is_registered (phase_of side name) ≡ true
     pub once : Apart names
 
   -- This effect led from old to new. A poll or a cancel takes out the future's pair first.
   abbrev pub TakesEffect : WaiterEffect D W → Waiting D W → Waiting D W → Type 0
   TakesEffect NoChange old new = new ≡ old
-  TakesEffect (Inserts name asks) old new = (phase_of old.side name ≡ None) × (new ≡ record old { side = made old.side name asks })
+  TakesEffect (Inserts name asks) old new = (phase_of old.side name ≡ None) × (new ≡ record old { side = insert_fresh old.side name asks })
   TakesEffect (Registers name waker) old new =
       (may_be_named (phase_of old.side name) ≡ true) × (new ≡ record {
         side =
@@ -97,9 +98,9 @@ module _ {D W : Type 0} where
       (may_be_named (phase_of old.side name) ≡ true) × (new ≡ record { side = renewed old.side name; out = without_pair name old.out })
   TakesEffect (Asks name asks) old new = IsLive old.side name × (new ≡ record old { side = exchange old.side name asks })
   TakesEffect (Removes name) old new =
-      IsLive old.side name × (new ≡ record { side = forgotten old.side name; out = without_pair name old.out })
+      IsLive old.side name × (new ≡ record { side = without_future old.side name; out = without_pair name old.out })
   TakesEffect (NotifiesOldest notice) old new = new ≡ oldest_notified (phase_after notice) old.side.queue old
-  TakesEffect (NotifiesAll notice) old new = new ≡ all_noticed (phase_after notice) old
+  TakesEffect (NotifiesAll notice) old new = new ≡ notify_all (phase_after notice) old
   TakesEffect (NotifiesListed notice names) old new =
       AreRegistered old.side names × (new ≡ notified (phase_after notice) names old.side.queue old)
   TakesEffect (NotifiesFront keeps front) old new =

@@ -12,7 +12,7 @@ use Rattle.fi_parts.specs.declared.heap_nodes.HeapNodes.{HeapNodes}
 use Rattle.fi_parts.specs.contracts.heap_nodes.HeapNodes as nodes
 use Rattle.fi_parts.specs.Picked.{picked, picked_from, chosen_from}
 use Rattle.fi_parts.specs.HeapForests.{linked}
-use Rattle.fi_parts.specs.HeapPieces.{Parts, Melds}
+use Rattle.fi_parts.specs.HeapPieces.{HeapSplit, Melds}
 
 module _ {T : Type 0} where
   abbrev pub value_in : HeapNode T → Option T
@@ -92,7 +92,7 @@ module _ {T : Type 0} where
 
   -- the store is in these pieces
   abbrev pub InParts : (T → T → Ordering) → HeapNodes T → Option ℕ → Option ℕ → Option ℕ → Option ℕ → Type 0
-  InParts cmp s main held rest pairs = Parts cmp (links_of s) (values_of s) main held rest pairs
+  InParts cmp s main held rest pairs = HeapSplit cmp (links_of s) (values_of s) main held rest pairs
 
   -- all linked slots are one tree
   abbrev pub IsHeap : (T → T → Ordering) → HeapNodes T → Type 0

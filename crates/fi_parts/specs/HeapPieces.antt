@@ -23,7 +23,7 @@ pub record Pieces {T : Type 0} (cmp : T → T → Ordering) (g : ℕ → Option 
   pub tally : (k : ℕ) → (count_in k main + count_in k held) + (count k rest + count k pairs) ≡ flag (g k)
 
 -- the links make some such pieces, which begin at these slots
-pub record Parts {T : Type 0} (cmp : T → T → Ordering) (g : ℕ → Option HeapLinks) (values : ℕ → Option T)
+pub record HeapSplit {T : Type 0} (cmp : T → T → Ordering) (g : ℕ → Option HeapLinks) (values : ℕ → Option T)
     (main_at held_at rest_at pairs_at : Option ℕ) : Type 0 where
   pub main : Tree
   pub held : Tree

@@ -8,7 +8,7 @@ pub mod BlockOwner
 pub mod BlockLending
 pub mod CountedBlocks
 pub mod LinkedBlocks
-pub mod Listed
+pub mod ListModel
 pub mod Blocks
 pub mod BlocksLending
 pub mod Lending
@@ -26,7 +26,7 @@ pub mod Oldest
 pub mod Buffer
 pub mod Rings
 pub mod Clocks
-pub mod Heaped
+pub mod HeapModel
 pub mod HeapForests
 pub mod HeapLending
 pub mod HeapLink
@@ -40,3 +40,4 @@ pub mod WakerHistory
 pub mod Deadlines
 pub mod Seats
 pub mod Polled
+pub mod WaiterPolls

@@ -5,13 +5,13 @@ use Rattle.std.specs.Ordering.{nat_cmp}
 use Rattle.std.specs.FinMap as finmap
 use Rattle.fi_parts.specs.declared.phase.Future.{Future}
 use Rattle.fi_parts.specs.declared.line.Entry.{Entry}
-use Rattle.fi_parts.specs.Codes.{side_code}
-use Rattle.fi_parts.specs.Listed.{Listed}
-use Rattle.fi_parts.specs.Waiting.{Side, no_futures}
+use Rattle.fi_parts.specs.Codes.{waiters_code}
+use Rattle.fi_parts.specs.ListModel.{ListModel}
+use Rattle.fi_parts.specs.Waiting.{Waiters, no_futures}
 
 -- The futures and their queue, and the ticket of each.
 pub record LineModel (D W : Type 0) : Type 0 where
-  pub side : Side D W
+  pub side : Waiters D W
   pub tickets : finmap.FinMap nat_cmp ℕ
 
 module _ {A B : Type 0} where
@@ -22,7 +22,7 @@ module _ {A B : Type 0} where
 module _ {D W : Type 0} where
   abbrev pub line_code : Coded D → Coded W → Coded (LineModel D W)
   line_code d w =
-      code_by (Side D W × finmap.FinMap nat_cmp ℕ) (coded× (side_code d w) (finmap.code coded_ℕ coded_ℕ))
+      code_by (Waiters D W × finmap.FinMap nat_cmp ℕ) (coded× (waiters_code d w) (finmap.code coded_ℕ coded_ℕ))
       (λ l. (l.side, l.tickets)) (λ p. record { side = p.0; tickets = p.1 }) (λ _. refl)
 
   abbrev pub future_of : Entry D W → Future D W
@@ -31,7 +31,7 @@ module _ {D W : Type 0} where
   abbrev pub ticket_of : Entry D W → ℕ
   ticket_of entry = entry.ticket.0
 
-  abbrev pub line_of : Listed (Entry D W) → LineModel D W
+  abbrev pub line_of : ListModel (Entry D W) → LineModel D W
   line_of list = record {
     side = record { live = mapped future_of list.live; queue = reverse list.order };
     tickets = mapped ticket_of list.live;

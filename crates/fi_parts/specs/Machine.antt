@@ -9,7 +9,7 @@ use Rattle.fi_parts.specs.declared.phase.Phase.{Phase}
 use Rattle.fi_parts.specs.Noticed.{phase_after}
 use Rattle.fi_parts.specs.Order.{holds}
 use Rattle.fi_parts.specs.Places.{IsPlaceRule, IsUntold, registered_rule}
-use Rattle.fi_parts.specs.Waiting.{Side, Waiting, phase_of, asks_of, is_registered, displaced, AreSoundBy}
+use Rattle.fi_parts.specs.Waiting.{Waiters, Waiting, phase_of, asks_of, is_registered, displaced, AreSoundBy}
 use Rattle.fi_parts.specs.WakerHistory.{WakerEffect, gives}
 use Rattle.fi_parts.specs.WakerHistory.WakerEffect.{Pends, Leaves, NoEffect}
 use Rattle.fi_parts.specs.Effects.{WaiterEffect, TakesEffect, nobody}
@@ -112,7 +112,7 @@ StillLacks {S} {D} lacks before after = (asks : Option D) → lacks before asks 
 module _ {S D W : Type 0} (lacks : S → Option D → Type 0) where
   -- Whoever is registered after this effect lacks what it asks for: after a notice to listed ones, those not listed; after two
   -- effects, if all do.
-  abbrev pub LacksAfter : S → S → Side D W → WaiterEffect D W → Type 0
+  abbrev pub LacksAfter : S → S → Waiters D W → WaiterEffect D W → Type 0
   LacksAfter before after side (Registers name waker) = lacks after (asks_of side name) × StillLacks lacks before after
   LacksAfter before after side (RegistersApart name waker) = lacks after (asks_of side name) × StillLacks lacks before after
   LacksAfter before after side (Asks name asks) =

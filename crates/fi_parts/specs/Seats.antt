@@ -4,7 +4,7 @@ use Rattle.std.specs.Ordering.{nat_cmp}
 use Rattle.std.specs.FinMap as finmap
 use Rattle.std.specs.FinSet as set
 use Rattle.fi_parts.specs.declared.phase.Future.{Future}
-use Rattle.fi_parts.specs.Heaped.{Heaped, value_under}
+use Rattle.fi_parts.specs.HeapModel.{HeapModel, value_under}
 use Rattle.fi_parts.specs.Waiting.{Waiting, is_registered}
 use Rattle.fi_parts.specs.declared.deadlines.Timed.{Timed}
 use Rattle.fi_parts.specs.declared.deadlines.Due.{Due}
@@ -27,7 +27,7 @@ module _ {W : Type 0} where
   due_of future name = record { expiry = future.asks.expiry; name = name }
 
   -- Each future has a seat of its own with its expiry and name, each seat a future, and exactly the registered ones take theirs.
-  pub record AreSeated (live : finmap.FinMap nat_cmp (Future Timed W)) (heap : Heaped Due) : Type 0 where
+  pub record AreSeated (live : finmap.FinMap nat_cmp (Future Timed W)) (heap : HeapModel Due) : Type 0 where
     pub seated : (name : ℕ) (future : Future Timed W) → finmap.get live name ≡ Some future →
         value_under heap future.asks.seat.0 ≡ Some (due_of future name)
     pub owned : (seat : ℕ) (due : Due) → value_under heap seat ≡ Some due →
@@ -36,7 +36,7 @@ module _ {W : Type 0} where
         set.contains heap.members future.asks.seat.0 ≡ is_registered (Some future.phase)
 
 -- This seat is taken, and has this least expiry of all that are taken.
-pub record IsFirst (heap : Heaped Due) (seat : ℕ) (due : Due) : Type 0 where
+pub record IsFirst (heap : HeapModel Due) (seat : ℕ) (due : Due) : Type 0 where
   pub member : set.contains heap.members seat ≡ true
   pub value : value_under heap seat ≡ Some due
   pub least : (other : ℕ) (later : Due) → set.contains heap.members other ≡ true → value_under heap other ≡ Some later →

@@ -10,13 +10,13 @@ use Rattle.fi_parts.specs.declared.phase.Phase.TheVariants.{Fresh, Registered, T
 use Rattle.fi_parts.specs.declared.phase.Future.{Future}
 
 -- The live futures of one store by name, and the names of those that wait, oldest first.
-pub record Side (D W : Type 0) : Type 0 where
+pub record Waiters (D W : Type 0) : Type 0 where
   pub live : map.FinMap nat_cmp (Future D W)
   pub queue : List ℕ
 
 -- Futures, and the names to be woken with their wakers, oldest first.
 pub record Waiting (D W : Type 0) : Type 0 where
-  pub side : Side D W
+  pub side : Waiters D W
   pub out : List (ℕ × W)
 
 module _ {W : Type 0} where
@@ -59,7 +59,7 @@ module _ {D W : Type 0} where
   phase_in (Some future) = Some future.phase
 
   -- how this name stands; None: it is not live
-  abbrev pub phase_of : Side D W → ℕ → Option (Phase W)
+  abbrev pub phase_of : Waiters D W → ℕ → Option (Phase W)
   phase_of side name = phase_in (map.get side.live name)
 
   abbrev pub asks_in : Option (Future D W) → Option D
@@ -67,10 +67,10 @@ module _ {D W : Type 0} where
   asks_in (Some future) = Some future.asks
 
   -- what this name asks for
-  abbrev pub asks_of : Side D W → ℕ → Option D
+  abbrev pub asks_of : Waiters D W → ℕ → Option D
   asks_of side name = asks_in (map.get side.live name)
 
-  abbrev pub IsLive : Side D W → ℕ → Type 0
+  abbrev pub IsLive : Waiters D W → ℕ → Type 0
   IsLive side name = IsSome (map.get side.live name)
 
   abbrev pub rephased : map.FinMap nat_cmp (Future D W) → ℕ → Phase W → Option (Future D W) →
@@ -92,37 +92,37 @@ module _ {D W : Type 0} where
   with_asks live name asks = with_asks_in live name asks (map.get live name)
 
   -- this one asks for that
-  abbrev pub exchange : Side D W → ℕ → D → Side D W
+  abbrev pub exchange : Waiters D W → ℕ → D → Waiters D W
   exchange side name asks = record side { live = with_asks side.live name asks }
 
   -- nothing lives here
-  abbrev pub no_futures : Side D W
+  abbrev pub no_futures : Waiters D W
   no_futures = record { live = map.empty; queue = [] }
 
   -- a new future under this name, which asks for that
-  abbrev pub made : Side D W → ℕ → D → Side D W
-  made side name asks = record side { live = map.insert side.live name (record { asks = asks; phase = Fresh }) }
+  abbrev pub insert_fresh : Waiters D W → ℕ → D → Waiters D W
+  insert_fresh side name asks = record side { live = map.insert side.live name (record { asks = asks; phase = Fresh }) }
 
   -- it has this waker, and goes to the end of the queue
-  abbrev pub registered : Side D W → ℕ → W → Side D W
+  abbrev pub registered : Waiters D W → ℕ → W → Waiters D W
   registered side name waker = record {
     live = with_phase side.live name (Registered waker);
     queue = side.queue ++ name ∷ [];
   }
 
   -- it has this waker, and keeps its place
-  abbrev pub stays : Side D W → ℕ → W → Side D W
+  abbrev pub stays : Waiters D W → ℕ → W → Waiters D W
   stays side name waker = record side { live = with_phase side.live name (Registered waker) }
 
-  abbrev pub ended : Side D W → ℕ → Side D W
+  abbrev pub ended : Waiters D W → ℕ → Waiters D W
   ended side name = record side { live = with_phase side.live name Ended }
 
   -- it lives no longer
-  abbrev pub forgotten : Side D W → ℕ → Side D W
-  forgotten side name = record { live = map.remove side.live name; queue = without name side.queue }
+  abbrev pub without_future : Waiters D W → ℕ → Waiters D W
+  without_future side name = record { live = map.remove side.live name; queue = without name side.queue }
 
   -- it stands so, and the others stay in the queue
-  abbrev pub noticed : Phase W → Side D W → ℕ → List ℕ → Side D W
+  abbrev pub noticed : Phase W → Waiters D W → ℕ → List ℕ → Waiters D W
   noticed phase side name others = record { live = with_phase side.live name phase; queue = others }
 
   -- the live futures, each of these with that phase
@@ -131,19 +131,11 @@ module _ {D W : Type 0} where
   with_phases live (name ∷ names) phase = with_phases (with_phase live name phase) names phase
 
   -- each of the queue stands so, and nothing is left of it
-  abbrev pub emptied : Phase W → Side D W → Side D W
-  emptied phase side = record { live = with_phases side.live side.queue phase; queue = [] }
-
-  -- the whole queue is told, and nothing is left of it
-  abbrev pub told_all : Side D W → Side D W
-  told_all side = emptied Told side
-
-  -- the whole queue is made fresh, and nothing is left of it
-  abbrev pub renewed_all : Side D W → Side D W
-  renewed_all side = emptied Fresh side
+  abbrev pub clear_queue : Phase W → Waiters D W → Waiters D W
+  clear_queue phase side = record { live = with_phases side.live side.queue phase; queue = [] }
 
   -- the pair of this name and its waker
-  abbrev pub pair : Side D W → ℕ → List (ℕ × W)
+  abbrev pub pair : Waiters D W → ℕ → List (ℕ × W)
   pair side name = pair_of name (phase_of side name)
 
   -- the pairs of these names, in order
@@ -152,40 +144,40 @@ module _ {D W : Type 0} where
   named live (name ∷ names) = pair_of name (phase_in (map.get live name)) ++ named live names
 
   -- the pairs of the whole queue, in order
-  abbrev pub named_all : Side D W → List (ℕ × W)
+  abbrev pub named_all : Waiters D W → List (ℕ × W)
   named_all side = named side.live side.queue
 
   -- the whole queue is named, in order, and each then stands so
-  abbrev pub all_noticed : Phase W → Waiting D W → Waiting D W
-  all_noticed phase waiting = record { side = emptied phase waiting.side; out = waiting.out ++ named_all waiting.side }
+  abbrev pub notify_all : Phase W → Waiting D W → Waiting D W
+  notify_all phase waiting = record { side = clear_queue phase waiting.side; out = waiting.out ++ named_all waiting.side }
 
   -- The waker that this name has: the registered one, or that of its pair. A poll or a cancel displaces it.
-  abbrev pub displaced : Side D W → List (ℕ × W) → ℕ → Option W
+  abbrev pub displaced : Waiters D W → List (ℕ × W) → ℕ → Option W
   displaced side out name = displaced_from (phase_of side name) (waker_of name out)
 
   -- The queue holds exactly the futures whose phase has a place in it, none twice. Each pair is that of a live future
   -- that is not registered, and no future has two.
-  pub record IsOrderedBy (place : Option (Phase W) → Bool) (side : Side D W) (out : List (ℕ × W)) : Type 0 where
+  pub record IsOrderedBy (place : Option (Phase W) → Bool) (side : Waiters D W) (out : List (ℕ × W)) : Type 0 where
     pub queued : (name : ℕ) → holds name side.queue ≡ place (phase_of side name)
     pub once : Apart side.queue
     pub named : (name : ℕ) → has name out ≡ true → may_be_named (phase_of side name) ≡ true
     pub named_once : PairsApart out
 
   -- The same where the registered futures alone have a place in the queue.
-  abbrev pub IsOrdered : Side D W → List (ℕ × W) → Type 0
+  abbrev pub IsOrdered : Waiters D W → List (ℕ × W) → Type 0
   IsOrdered side out = IsOrderedBy is_registered side out
 
   -- Only these phases occur, and the queue and out are in order.
-  pub record AreSoundBy (place allowed : Option (Phase W) → Bool) (side : Side D W) (out : List (ℕ × W)) : Type 0 where
+  pub record AreSoundBy (place allowed : Option (Phase W) → Bool) (side : Waiters D W) (out : List (ℕ × W)) : Type 0 where
     pub ordered : IsOrderedBy place side out
     pub only : (name : ℕ) → allowed (phase_of side name) ≡ true
 
   -- The same where the registered futures alone have a place in the queue.
-  abbrev pub AreSound : (Option (Phase W) → Bool) → Side D W → List (ℕ × W) → Type 0
+  abbrev pub AreSound : (Option (Phase W) → Bool) → Waiters D W → List (ℕ × W) → Type 0
   AreSound allowed side out = AreSoundBy is_registered allowed side out
 
   -- it has this phase, and no place in the queue
-  abbrev pub without_place : Phase W → Side D W → ℕ → Side D W
+  abbrev pub without_place : Phase W → Waiters D W → ℕ → Waiters D W
   without_place phase side name = record { live = with_phase side.live name phase; queue = without name side.queue }
 
   -- A future of the queue is told, and named if it was registered. It keeps its place, or else leaves the queue.

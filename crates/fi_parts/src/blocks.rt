@@ -4,7 +4,7 @@ ghost use Rattle.std.specs.Option.{option_copied_mut};
 ghost use Rattle.std.specs.Borrow.{sem};
 ghost use Rattle.std.specs.FinMap as map;
 ghost use Rattle.fi_parts.specs.Order.{holds, without, youngest, oldest};
-ghost use Rattle.fi_parts.specs.Listed.{item, IsLive, with_live, IsListed};
+ghost use Rattle.fi_parts.specs.ListModel.{item, IsLive, with_live, IsListed};
 
 mod block;
 mod counted;
@@ -30,11 +30,11 @@ pub struct Blocks<T> {
 }
 
 impl<T> Model for Blocks<T> {
-    ghost use Rattle.fi_parts.specs.Listed.{Listed, listed_code};
+    ghost use Rattle.fi_parts.specs.ListModel.{ListModel, list_code};
 
-    ghost Value = { Listed T };
+    ghost Value = { ListModel T };
 
-    ghost coded = { listed_code T.code };
+    ghost coded = { list_code T.code };
 
     ghost use Rattle.fi_parts.specs.Blocks.{view_of, IsSound};
 
@@ -181,14 +181,16 @@ impl<T> Blocks<T> {
 
     /// Takes a slot out of the list; false where it is not linked.
     pub fn unlink(&mut self, slot: usize) -> bool
-        requires { IsLive self.old slot }
         ensures found { result ≡ holds slot self.old.order }
         ensures live { self.new.live ≡ self.old.live }
         ensures order { self.new.order ≡ without slot self.old.order }
         ensures visits { self.new.visits ≤ self.old.visits + 3 }
         ensures never_fewer { self.old.visits ≤ self.new.visits }
     {
-        let at = self.slab[slot];
+        let at = match self.slab.get(slot) {
+            Some(at) => *at,
+            None => return false,
+        };
         self.linked.unlink(at)
     }
 }

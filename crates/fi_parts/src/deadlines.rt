@@ -2,9 +2,10 @@
 ghost use Rattle.std.specs.Prelude.{◌≡◌, ◌≢◌, ℕ, [], Some, None, true, false, IfOk, IfErr, OnErr, length, drop, option_copied, MatchOption, MatchBool, nat_le, ◌<◌};
 ghost use Rattle.std.specs.FinMap as map;
 ghost use Rattle.std.specs.FinSet as set;
-ghost use Rattle.fi_parts.specs.Heaped.{IsLiveIn, with_values};
+ghost use Rattle.fi_parts.specs.HeapModel.{IsLiveIn, with_values};
 ghost use Rattle.fi_parts.specs.Pairs.{waker_of, without_pair, oldest};
-ghost use Rattle.fi_parts.specs.Waiting.{phase_of, asks_of, is_registered, waker_in, with_phase, no_futures, made, stays, forgotten, displaced, IsLive};
+ghost use Rattle.fi_parts.specs.Waiting.{phase_of, asks_of, is_registered, waker_in, with_phase, no_futures};
+ghost use Rattle.fi_parts.specs.Waiting.{insert_fresh, stays, without_future, displaced, IsLive};
 ghost use Rattle.fi_parts.specs.Deadlines.{told_due, IsLeastDue, NoneDue, TellsExpired, NoneHasPair, IsNextExpiry, is_fresh, expiry_of};
 ghost use Rattle.fi_parts.specs.Seats.{deadlines_of, AreSeated, IsFirst};
 
@@ -165,7 +166,7 @@ impl<W: Drop> Deadlines<W> {
     /// Refused with `NoMemory` where memory for it, its seat or its ticket was; then nothing has changed.
     pub fn insert(&mut self, expiry: u64) -> Result<Slot, Fault>
         ensures was_free { IfOk result (λ slot. phase_of self.old.side slot.0 ≡ None) }
-        ensures made { IfOk result (λ slot. self.new ≡ record self.old { side = made self.old.side slot.0 expiry }) }
+        ensures made { IfOk result (λ slot. self.new ≡ record self.old { side = insert_fresh self.old.side slot.0 expiry }) }
         ensures refused { OnErr result (self.new ≡ self.old) }
         ensures fault { IfErr result (λ fault. fault ≡ Fault.NoMemory) }
     {
@@ -173,7 +174,7 @@ impl<W: Drop> Deadlines<W> {
             Ok(seat) => seat,
             Err(_) => return Err(Fault::NoMemory),
         };
-        match self.waits.make(Timed { expiry, seat }) {
+        match self.waits.insert(Timed { expiry, seat }) {
             Ok(slot) => {
                 let name = slot.0;
                 name_seat(&mut self.heap, seat, Due { expiry, name });
@@ -203,7 +204,7 @@ impl<W: Drop> Deadlines<W> {
     {
         let seat = self.waits.asks(slot).unwrap().seat;
         self.heap.insert(seat);
-        self.waits.stand(slot, Phase::Registered(waker));
+        self.waits.set_phase(slot, Phase::Registered(waker));
     }
 
     /// Sets the phase of a live future, which is registered afterwards exactly if it was. Returns the waker that it was
@@ -214,16 +215,16 @@ impl<W: Drop> Deadlines<W> {
         ensures waker { MatchOption (phase_of self.old.side slot.0) ⊥ (λ before. result ≡ waker_in before) }
         ensures rest { self.new ≡ record self.old { side = record self.old.side { live = with_phase self.old.side.live slot.0 phase } } }
     {
-        self.waits.stand(slot, phase)
+        self.waits.set_phase(slot, phase)
     }
 
     /// Removes a live future from everything, and returns the waker that it had.
     pub fn remove(&mut self, slot: Slot) -> Option<W>
         requires { IsLive self.old.side slot.0 }
         ensures waker { result ≡ displaced self.old.side self.old.out slot.0 }
-        ensures forgotten { self.new ≡ record { side = forgotten self.old.side slot.0; out = without_pair slot.0 self.old.out } }
+        ensures removed { self.new ≡ record { side = without_future self.old.side slot.0; out = without_pair slot.0 self.old.out } }
     {
-        let (asks, waker) = self.waits.forget(slot);
+        let (asks, waker) = self.waits.remove(slot);
         give_up(&mut self.heap, asks.seat);
         waker
     }

@@ -4,7 +4,7 @@ ghost use Rattle.std.specs.Option.{option_copied_mut};
 ghost use Rattle.std.specs.Borrow.{sem};
 ghost use Rattle.std.specs.FinMap as map;
 ghost use Rattle.std.specs.FinSet as set;
-ghost use Rattle.fi_parts.specs.Heaped.{Heaped, value_under, IsLiveIn, with_values, MembersAreLive, IsLeastOf};
+ghost use Rattle.fi_parts.specs.HeapModel.{HeapModel, value_under, IsLiveIn, with_values, MembersAreLive, IsLeastOf};
 
 use crate::errors::{NoRoom, Slot};
 use crate::heap_nodes::HeapNodes;
@@ -23,11 +23,11 @@ pub struct PairingHeap<T: Ord> {
 }
 
 impl<T: Ord> Model for PairingHeap<T> {
-    ghost use Rattle.fi_parts.specs.Heaped.{Heaped, heaped_code};
+    ghost use Rattle.fi_parts.specs.HeapModel.{HeapModel, heap_code};
 
-    ghost Value = { Heaped T };
+    ghost Value = { HeapModel T };
 
-    ghost coded = { heaped_code T.code };
+    ghost coded = { heap_code T.code };
 
     ghost use Rattle.fi_parts.specs.HeapNodes.{live_of, members_of, IsHeap};
 

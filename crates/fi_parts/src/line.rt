@@ -3,17 +3,19 @@ ghost use Rattle.std.specs.Prelude.{◌≡◌, ℕ, ◌∷◌, ◌++◌, List, [
 ghost use Rattle.std.specs.FinMap as map;
 ghost use Rattle.std.specs.FinSet as set;
 ghost use Rattle.fi_parts.specs.Order.{holds, without};
-ghost use Rattle.fi_parts.specs.Listed.{item, with_live};
+ghost use Rattle.fi_parts.specs.ListModel.{item, with_live};
 ghost use Rattle.fi_parts.specs.Pairs.{with_tickets};
 ghost use Rattle.fi_parts.specs.NamedPairs.{waker_in_pair};
-ghost use Rattle.fi_parts.specs.Waiting.{with_phase, exchange, phase_of, IsLive, made, registered, forgotten, asks_of, waker_in, waker_or};
+ghost use Rattle.fi_parts.specs.Waiting.{with_phase, exchange, phase_of, IsLive, insert_fresh, registered};
+ghost use Rattle.fi_parts.specs.Waiting.{without_future, asks_of, is_registered, waker_in, waker_or};
 ghost use Rattle.fi_parts.specs.LineModel.{empty_line};
+ghost use Rattle.fi_parts.specs.WaiterPolls.{phase_after_poll, poll_step, waiters_after_poll};
 ghost use Rattle.fi_parts.specs.declared.line.Entry.{Entry};
 
 use crate::errors::{NoRoom, Slot};
 use crate::list::LinkedList;
 use crate::outbox::{Outbox, Ticket};
-use crate::phase::{Future, Phase};
+use crate::phase::{Future, Phase, PollStep};
 use std::alloc::Global;
 use std::marker::Model;
 use std::mem;
@@ -84,6 +86,22 @@ fn swap_phase<D: Drop, W: Drop>(
     mem::replace(&mut entry.future.phase, phase)
 }
 
+// Polls a live future, which is looked up once.
+fn poll_phase<D: Drop, W: Drop>(
+    list: &mut LinkedList<Entry<D, W>>,
+    slot: Slot,
+    waker: W,
+    ends: bool,
+) -> PollStep<W>
+    requires { IsSome (item list.old slot.0) }
+    ensures { (entry : Entry D W) × (item list.old slot.0 ≡ Some entry) × (result ≡ poll_step ends entry.future.phase waker)
+        × (list.new ≡ with_live list.old (map.insert list.old.live slot.0
+        (record entry { future = record entry.future { phase = phase_after_poll ends entry.future.phase waker } }))) }
+{
+    let entry = list.get_mut(slot).unwrap();
+    entry.future.phase.poll(waker, ends)
+}
+
 // Sets what a live future asks for, and takes what it asked for.
 fn swap_asks<D: Drop, W: Drop>(list: &mut LinkedList<Entry<D, W>>, slot: Slot, asks: D) -> D
     requires { IsSome (item list.old slot.0) }
@@ -143,7 +161,7 @@ impl<D: Drop, W: Drop> Line<D, W> {
         ensures was_free { IfOk result (λ slot. phase_of self.old.side slot.0 ≡ None) }
         ensures no_ticket { IfOk result (λ slot. map.get self.old.tickets slot.0 ≡ None) }
         ensures inserted { IfOk result (λ slot. (ticket : ℕ) × (set.contains outbox.old.tickets ticket ≡ false)
-            × (self.new ≡ record { side = made self.old.side slot.0 asks; tickets = map.insert self.old.tickets slot.0 ticket })
+            × (self.new ≡ record { side = insert_fresh self.old.side slot.0 asks; tickets = map.insert self.old.tickets slot.0 ticket })
             × (outbox.new ≡ with_tickets outbox.old (set.insert outbox.old.tickets ticket))) }
         ensures refused { OnErr result ((self.new ≡ self.old) × (outbox.new ≡ outbox.old)) }
         ensures handed_back { IfErr result (λ failed. failed.0 ≡ asks) }
@@ -186,6 +204,21 @@ impl<D: Drop, W: Drop> Line<D, W> {
         into_waker(swap_phase(&mut self.list, slot, phase))
     }
 
+    /// Polls a live future. A registered one keeps its place with this newer waker; a fresh one is registered and goes to the queue's
+    /// end, unless it ends with this poll; any other ends.
+    pub fn poll(&mut self, slot: Slot, waker: W, ends: bool) -> PollStep<W>
+        requires live { IsLive self.old.side slot.0 }
+        requires apart { is_registered (phase_of self.old.side slot.0) ≡ false → holds slot.0 self.old.side.queue ≡ false }
+        ensures { (before : Phase W) × (phase_of self.old.side slot.0 ≡ Some before) × (result ≡ poll_step ends before waker)
+            × (self.new ≡ record self.old { side = waiters_after_poll ends before self.old.side slot.0 waker }) }
+    {
+        let step = poll_phase(&mut self.list, slot, waker, ends);
+        if let PollStep::Joins = &step {
+            self.list.add_front(slot);
+        }
+        step
+    }
+
     /// Sets what a live future asks for, and returns what it asked for.
     pub fn exchange(&mut self, slot: Slot, asks: D) -> D
         requires { IsLive self.old.side slot.0 }
@@ -201,7 +234,7 @@ impl<D: Drop, W: Drop> Line<D, W> {
         ensures ticket { map.get self.old.tickets slot.0 ≡ Some result.ticket.0 }
         ensures asked { asks_of self.old.side slot.0 ≡ Some result.future.asks }
         ensures phase { phase_of self.old.side slot.0 ≡ Some result.future.phase }
-        ensures removed { self.new ≡ record { side = forgotten self.old.side slot.0; tickets = map.remove self.old.tickets slot.0 } }
+        ensures removed { self.new ≡ record { side = without_future self.old.side slot.0; tickets = map.remove self.old.tickets slot.0 } }
     {
         self.list.remove(slot);
         self.list.free(slot)

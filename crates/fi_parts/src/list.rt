@@ -4,7 +4,7 @@ ghost use Rattle.std.specs.Option.{option_copied_mut};
 ghost use Rattle.std.specs.Borrow.{sem};
 ghost use Rattle.std.specs.FinMap as map;
 ghost use Rattle.fi_parts.specs.Order.{holds, without, youngest, oldest};
-ghost use Rattle.fi_parts.specs.Listed.{Listed, item, IsLive, with_live, IsListed, item_of};
+ghost use Rattle.fi_parts.specs.ListModel.{ListModel, item, IsLive, with_live, IsListed, item_of};
 
 use crate::blocks::Blocks;
 use crate::drain::{Drain, ReverseDrain};
@@ -23,11 +23,11 @@ pub struct LinkedList<T> {
 }
 
 impl<T> Model for LinkedList<T> {
-    ghost use Rattle.fi_parts.specs.Listed.{Listed, listed_code};
+    ghost use Rattle.fi_parts.specs.ListModel.{ListModel, list_code};
 
-    ghost Value = { Listed T };
+    ghost Value = { ListModel T };
 
-    ghost coded = { listed_code T.code };
+    ghost coded = { list_code T.code };
 
     ghost view = { λ l. l.blocks };
 }
@@ -135,10 +135,6 @@ impl<T> LinkedList<T> {
         ensures visits { self.new.visits ≤ self.old.visits + 3 }
         ensures never_fewer { self.old.visits ≤ self.new.visits }
     {
-        self.blocks.is_listed();
-        if self.blocks.get(slot.0).is_none() {
-            return false;
-        }
         self.blocks.unlink(slot.0)
     }
 

@@ -232,10 +232,10 @@ fn room_is_found_beside_others(rt: HostRuntime) -> Result<(), Fail> {
     }
     assert_eq!(rt; outbox.len(), 4);
     let mut waits: Waits<u32, u64> = Waits::new(rt.alloc());
-    let oldest = waits.make(1)?;
+    let oldest = waits.insert(1)?;
     assert!(rt; waits.phase(oldest).is_some());
     waits.register(oldest, 7);
-    assert!(rt; waits.make(2).is_ok());
+    assert!(rt; waits.insert(2).is_ok());
     let mut deadlines: Deadlines<u64> = Deadlines::new(rt.alloc());
     let first = deadlines.insert(5)?;
     assert!(rt; deadlines.is_fresh(first));

@@ -3,12 +3,17 @@ ghost use Rattle.std.specs.Prelude.{◌≡◌, ℕ, ◌++◌, ◌∷◌, List, [
 ghost use Rattle.fi_parts.specs.Order.{holds, without};
 ghost use Rattle.fi_parts.specs.Pairs.{has, waker_of, without_pair, oldest};
 ghost use Rattle.fi_parts.specs.Noticed.{phase_after};
-ghost use Rattle.fi_parts.specs.Waiting.{with_phase, exchange, phase_of, IsLive, IsOrdered, IsOrderedBy, is_queued, told_one, is_registered, no_futures, made, registered, forgotten, pair, asks_of, waker_in, all_noticed, displaced};
+ghost use Rattle.fi_parts.specs.Polled.{unused_after};
+ghost use Rattle.fi_parts.specs.WaiterPolls.{PollsWaiter};
+ghost use Rattle.fi_parts.specs.Waiting.{with_phase, exchange, phase_of, IsLive, IsOrdered, IsOrderedBy, is_queued};
+ghost use Rattle.fi_parts.specs.Waiting.{told_one, is_registered, no_futures, insert_fresh, registered, without_future};
+ghost use Rattle.fi_parts.specs.Waiting.{pair, asks_of, waker_in, notify_all, displaced};
 
 use crate::errors::{NoRoom, Slot};
 use crate::line::{Line, last_waker, waker_from};
 use crate::outbox::Outbox;
-use crate::phase::{Future, Notice, Phase};
+use crate::phase::{Future, Leftover, Notice, Phase, PollStep};
+use futures::task::Poll;
 use std::alloc::Global;
 use std::marker::Model;
 
@@ -61,9 +66,9 @@ impl<D: Drop, W: Drop> Waits<D, W> {
     /// Makes a fresh future under a name that was not live.
     ///
     /// Refused where memory for it or its ticket was; then what it asks for comes back, and nothing has changed.
-    pub fn make(&mut self, asks: D) -> Result<Slot, NoRoom<D>>
+    pub fn insert(&mut self, asks: D) -> Result<Slot, NoRoom<D>>
         ensures was_free { IfOk result (λ slot. phase_of self.old.side slot.0 ≡ None) }
-        ensures made { IfOk result (λ slot. self.new ≡ record self.old { side = made self.old.side slot.0 asks }) }
+        ensures made { IfOk result (λ slot. self.new ≡ record self.old { side = insert_fresh self.old.side slot.0 asks }) }
         ensures refused { OnErr result (self.new ≡ self.old) }
         ensures handed_back { IfErr result (λ failed. failed.0 ≡ asks) }
     {
@@ -80,8 +85,31 @@ impl<D: Drop, W: Drop> Waits<D, W> {
         ensures waker { result ≡ waker_of slot.0 self.old.out }
         ensures rest { self.new ≡ record self.old { out = without_pair slot.0 self.old.out } }
     {
+        // Where nobody is named, no ticket need be looked up.
+        if self.outbox.len() == 0 {
+            return None;
+        }
         let ticket = self.line.ticket(slot);
         waker_from(self.outbox.take_out(ticket))
+    }
+
+    /// Polls a live future with this waker: a registered one stays pending and keeps its place; a fresh one is registered and goes to
+    /// the queue's end, unless it `ends` with this poll; any other ends. The wakers of no more use come back.
+    pub fn poll(&mut self, slot: Slot, waker: W, ends: bool) -> (Poll<()>, Leftover<W>)
+        requires ordered { IsOrdered self.old.side self.old.out }
+        requires live { IsLive self.old.side slot.0 }
+        ensures polled { PollsWaiter (phase_of self.old.side slot.0) ends self.old slot.0 waker result.0 self.new }
+        ensures displaced { result.1.displaced ≡ displaced self.old.side self.old.out slot.0 }
+        ensures unused { result.1.unused ≡ unused_after result.0 waker }
+    {
+        match self.line.poll(slot, waker, ends) {
+            PollStep::Stays(before) => (Poll::Pending, Leftover::of(Some(before), None)),
+            PollStep::Joins => (Poll::Pending, Leftover::of(self.take_out(slot), None)),
+            PollStep::Ends(waker) => (
+                Poll::Ready(()),
+                Leftover::of(self.take_out(slot), Some(waker)),
+            ),
+        }
     }
 
     /// Registers a future that is not in the queue: it goes to the queue's end.
@@ -94,7 +122,7 @@ impl<D: Drop, W: Drop> Waits<D, W> {
     }
 
     /// Lets a live future stand so, and keep its place. Gives the waker that it was registered with.
-    pub fn stand(&mut self, slot: Slot, phase: Phase<W>) -> Option<W>
+    pub fn set_phase(&mut self, slot: Slot, phase: Phase<W>) -> Option<W>
         requires { IsLive self.old.side slot.0 }
         ensures waker { MatchOption (phase_of self.old.side slot.0) ⊥ (λ before. result ≡ waker_in before) }
         ensures rest { self.new ≡ record self.old { side = record self.old.side { live = with_phase self.old.side.live slot.0 phase } } }
@@ -112,11 +140,11 @@ impl<D: Drop, W: Drop> Waits<D, W> {
     }
 
     /// Takes a live future out of everything, and gives back what it asked for and the waker that it had.
-    pub fn forget(&mut self, slot: Slot) -> (D, Option<W>)
+    pub fn remove(&mut self, slot: Slot) -> (D, Option<W>)
         requires { IsLive self.old.side slot.0 }
         ensures asked { asks_of self.old.side slot.0 ≡ Some result.0 }
         ensures waker { result.1 ≡ displaced self.old.side self.old.out slot.0 }
-        ensures forgotten { self.new ≡ record { side = forgotten self.old.side slot.0; out = without_pair slot.0 self.old.out } }
+        ensures removed { self.new ≡ record { side = without_future self.old.side slot.0; out = without_pair slot.0 self.old.out } }
     {
         let named = self.take_out(slot);
         let entry = self.line.remove(slot);
@@ -206,7 +234,7 @@ impl<D: Drop, W: Drop> Waits<D, W> {
     /// Names the whole queue, the oldest first, with this notice for each.
     pub fn notice_all(&mut self, notice: Notice)
         requires { IsOrdered self.old.side self.old.out }
-        ensures { self.new ≡ all_noticed (phase_after notice) self.old }
+        ensures { self.new ≡ notify_all (phase_after notice) self.old }
     {
         while let Some(slot) = self.leave_oldest() {
             self.notice(slot, notice.phase());

@@ -13,7 +13,7 @@ use Rattle.fi_parts.specs.declared.phase.Phase.{Phase}
 use Rattle.fi_parts.specs.declared.phase.Phase.TheVariants.{Fresh, Registered, Told, Complete, Ended}
 use Rattle.fi_parts.specs.Buffer.{Bounded, empty, pushed}
 use Rattle.fi_parts.specs.Oldest.{complete_first, complete_oldest, asks_of_oldest}
-use Rattle.fi_parts.specs.Waiting.{Side, is_registered, registered, stays, ended, emptied, made, exchange, forgotten}
+use Rattle.fi_parts.specs.Waiting.{Waiters, is_registered, registered, stays, ended, clear_queue, insert_fresh, exchange, without_future}
 use Rattle.fi_parts.proofs.PairsWithin.{none_some, some_same, if_true, if_false}
 use Rattle.fi_parts.proofs.WakerHistories.{kept_at_first}
 use Rattle.fi_channels.specs.declared.channel_errors.SendFault.{SendFault}
@@ -24,7 +24,7 @@ use Rattle.fi_channels.specs.declared.channel_fields.ReceiveKind.TheVariants as 
 use Rattle.fi_channels.specs.Channel.{ChannelMachine, Buffered, rules, has_room, next_value, next_of, send_phase, receive_phase}
 use Rattle.fi_channels.specs.Channel.{value_of, Stores, FreshSends, SendsAs, TakesNext, ReceivesAs}
 use Rattle.fi_channels.specs.Channel.{StreamsAs, CancelsReceiveAs, TriesNext, ClosesAt, IsSound, OwesNoWake}
-use Rattle.fi_channels.specs.ChannelFields.{Waiters}
+use Rattle.fi_channels.specs.ChannelFields.{ChannelWaiters}
 use Rattle.fi_channels.specs.TwoSidedEffects.{waiting_sends, waiting_receives}
 use Rattle.fi_channels.proofs.ChannelLaws as laws
 use Rattle.fi_channels.proofs.ChannelLaws.{Holds, Goes}
@@ -120,7 +120,7 @@ module _ {T W : Type 0} where
     Left before offers taken is_open = Leaves before offers taken × (new.own.is_open ≡ is_open)
 
     left_by : (before : List (Accepted T)) (offers : ℕ → Option T) (taken : List T) (own : Buffered T)
-        (sends : Side (Option T) W) →
+        (sends : Waiters (Option T) W) →
         new.own ≡ own → new.waiting.sends ≡ sends → own.buffer.capacity ≡ old.own.buffer.capacity →
         Follows before offers taken own.buffer.items sends → Left before offers taken own.is_open
     left_by before offers taken own sends owns sides capacity held = (
@@ -145,7 +145,7 @@ module _ {T W : Type 0} where
           (ap (λ (m : ChannelMachine T W). m.waiting.sends) same)
 
       -- a value was stored, and these are the sends
-      stored : (own : Buffered T) (value : T) (sends : Side (Option T) W) (after : List (Accepted T)) →
+      stored : (own : Buffered T) (value : T) (sends : Waiters (Option T) W) (after : List (Accepted T)) →
           Stores old.own value own →
           new.own ≡ own → new.waiting.sends ≡ sends → Follows after offers taken (items ++ value ∷ []) sends →
           Left after offers taken old.own.is_open
@@ -159,7 +159,7 @@ module _ {T W : Type 0} where
       sent name (polled.Ready (Ok done)) = released_by name (accepts_once name None (offers name) before)
       sent name answer = before
 
-      abbrev finished : ℕ → Side (Option T) W
+      abbrev finished : ℕ → Waiters (Option T) W
       finished name = exchange (ended old.waiting.sends name) name None
 
       fresh_sends : (name : ℕ) (waker : W) (is_open room : Bool) (asks : Option T)
@@ -172,7 +172,7 @@ module _ {T W : Type 0} where
           let ends = step.1.0 in
           subst (λ a. Left (sent name a) offers taken old.own.is_open) (sym did.0)
           (left_by before offers taken old.own (finished name) step.0
-          (ends.3.1 ∙ ap (λ (s : Side (Option T) W). exchange s name None) ends.2.1) refl
+          (ends.3.1 ∙ ap (λ (s : Waiters (Option T) W). exchange s name None) ends.2.1) refl
           (steps.finished_follows old was before offers taken items held name fresh))
       fresh_sends name waker true true (Some value) answer fresh has owns did =
           let step = did.3 in
@@ -183,7 +183,7 @@ module _ {T W : Type 0} where
           (ap is_registered fresh) in
           subst (λ a. Left (sent name a) offers taken old.own.is_open) (sym did.0)
           (stored did.1 value sends (released_by name (accepts_once name None (offers name) before)) did.2 step.0
-          (step.1.2.1 ∙ ends.3.1 ∙ ap (λ (s : Side (Option T) W). exchange s name None) ends.2.1)
+          (step.1.2.1 ∙ ends.3.1 ∙ ap (λ (s : Waiters (Option T) W). exchange s name None) ends.2.1)
           (subst (λ (xs : List (Accepted T)). Follows xs offers taken (items ++ value ∷ []) sends)
           (sym (ap (released_by name) (if_false (waits_with name before) before (before ++ one_from None (offers name)) nowhere
           ∙ ap (λ o. before ++ one_from None o) (held.offered name value owns)) ∙ released_stored name before value nowhere))
@@ -248,8 +248,8 @@ module _ {T W : Type 0} where
           let queue = old.waiting.sends.queue in
           subst Got (sym did.0) (takes next is step.0
           (laws.completes queue mid.sends new.waiting.sends mid.out new.waiting.out
-          (ap (λ (s : Side (Option T) W). s.queue) step.1.1.1) step.1.2.0
-          ∙ ap (λ (s : Side (Option T) W). complete_first None s queue) step.1.1.1))
+          (ap (λ (s : Waiters (Option T) W). s.queue) step.1.1.1) step.1.2.0
+          ∙ ap (λ (s : Waiters (Option T) W). complete_first None s queue) step.1.1.1))
       takes_next name waker None true answer is did = subst Got (sym did.0) (quiet did.1.0 did.1.1.1)
       takes_next name waker None false answer is did = subst Got (sym did.0) (quiet did.1.0 did.1.1.1)
 
@@ -304,7 +304,7 @@ module _ {T W : Type 0} where
           let step = did.1 in
           let left = left_by (take (length taken + old.own.buffer.capacity) before) offers taken
           (record old.own { is_open = false })
-          (emptied Fresh old.waiting.sends) step.0 (step.1.2.0.0 ∙ ap (emptied Fresh) step.1.1.1) refl
+          (clear_queue Fresh old.waiting.sends) step.0 (step.1.2.0.0 ∙ ap (clear_queue Fresh) step.1.1.1) refl
           (steps.closed_follows old was before offers taken items held refl) in
           subst ClosedWith (sym did.0) (left.0, (is, left.1))
       closes_at false status is did = subst ClosedWith (sym did.0) (unchanged did.1)
@@ -319,7 +319,7 @@ module _ {T W : Type 0} where
       follows call (Refused fault) did = unchanged did.1
       follows (Send value) (Made slot) did =
           left_by before (λ name. offered_step {T = T} {W = W} name (Send value) (Made slot) (offers name)) taken old.own
-          (made old.waiting.sends slot.0 (Some value)) did.0 did.1.0.1 refl
+          (insert_fresh old.waiting.sends slot.0 (Some value)) did.0 did.1.0.1 refl
           (steps.made_follows old was before offers taken items held value slot.0
           (λ name. offered_step {T = T} {W = W} name (Send value) (Made slot) (offers name)) did.1.0.0
           (if_true (slot.0 == slot.0) (Some value) (offers slot.0) (eq-eqb slot.0 slot.0 refl))
@@ -342,10 +342,10 @@ module _ {T W : Type 0} where
       follows (PollNext slot waker) End did = streams_as slot.0 waker (receive_phase old slot.0) (polled.Ready None) did.1
       follows (CancelSend slot) (Item value) did =
           left_by (withdrawn_by slot.0 before) offers taken old.own
-          (forgotten old.waiting.sends slot.0) did.1.0 did.1.1.0.1 refl
+          (without_future old.waiting.sends slot.0) did.1.0 did.1.1.0.1 refl
           (steps.withdrawn_follows old was before offers taken items held slot.0 value (sym did.0))
       follows (CancelSend slot) Nothing did =
-          left_by (released_by slot.0 before) offers taken old.own (forgotten old.waiting.sends slot.0) did.1.0 did.1.1.0.1 refl
+          left_by (released_by slot.0 before) offers taken old.own (without_future old.waiting.sends slot.0) did.1.0 did.1.1.0.1 refl
           (steps.left_follows old was before offers taken items held slot.0 (sym did.0))
       follows (CancelReceive slot) Done did = cancels_as slot.0 (receive_phase old slot.0) did
       follows (TrySend value) Done did =
@@ -357,7 +357,7 @@ module _ {T W : Type 0} where
       follows TryReceive (Item value) did = tries_next (next_of old) old.own.is_open value refl did
       follows Close Newly did = closes_at old.own.is_open NewlyClosed refl did
       follows Close Already did = closes_at old.own.is_open AlreadyClosed refl did
-      follows NextWake (Woken waker) did = quiet did.0 (ap (λ (m : Waiters T W). m.sends) did.1.1)
+      follows NextWake (Woken waker) did = quiet did.0 (ap (λ (m : ChannelWaiters T W). m.sends) did.1.1)
       follows call answer did = absurd did
 
   -- a poll of a stream that had ended

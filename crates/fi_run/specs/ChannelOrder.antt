@@ -10,7 +10,7 @@ use Rattle.std.proofs.lemmas.List.Folds.{list_any-append}
 use Rattle.std.specs.Option.{option_flatten}
 use Rattle.fi_parts.specs.declared.phase.Phase.TheVariants.{Complete}
 use Rattle.fi_parts.specs.Order.{holds, without}
-use Rattle.fi_parts.specs.Waiting.{Side, phase_of, asks_of}
+use Rattle.fi_parts.specs.Waiting.{Waiters, phase_of, asks_of}
 use Rattle.fi_parts.proofs.Slots.{eqb_same}
 use Rattle.fi_run.specs.ChannelValues.{Accepted, is_sender, values_in, from_nobody, one_from, waits_with, withdrawn_by}
 use Rattle.fi_run.specs.ChannelValues.{released, released_by, waiting_in, Follows}
@@ -105,16 +105,16 @@ module _ {T : Type 0} where
 
 module _ {T W : Type 0} where
   -- the value that a send owns
-  abbrev pub value_at : Side (Option T) W → ℕ → Option T
+  abbrev pub value_at : Waiters (Option T) W → ℕ → Option T
   value_at sends name = option_flatten (asks_of sends name)
 
-  pub waiting_same : (old new : Side (Option T) W) (names : List ℕ) → ((q : ℕ) → value_at new q ≡ value_at old q) →
+  pub waiting_same : (old new : Waiters (Option T) W) (names : List ℕ) → ((q : ℕ) → value_at new q ≡ value_at old q) →
       waiting_in new names ≡ waiting_in old names
   waiting_same old new [] same = refl
   waiting_same old new (n ∷ names) same = λ i. one_from (Some n) (same n i) ++ waiting_same old new names same i
 
   -- who is not among these may own another value
-  pub waiting_but : (old new : Side (Option T) W) (name : ℕ) (names : List ℕ) → holds name names ≡ false →
+  pub waiting_but : (old new : Waiters (Option T) W) (name : ℕ) (names : List ℕ) → holds name names ≡ false →
       ((q : ℕ) → q ≢ name → value_at new q ≡ value_at old q) → waiting_in new names ≡ waiting_in old names
   waiting_but old new name [] off same = refl
   waiting_but old new name (n ∷ names) off same =
@@ -122,7 +122,7 @@ module _ {T W : Type 0} where
       let ne : n ≢ name = λ e. both_ways (eqb name n) parts.0 (eq-eqb name n (sym e)) in
       λ i. one_from (Some n) (same n ne i) ++ waiting_but old new name names parts.1 same i
 
-  pub waits_not : (sends : Side (Option T) W) (name : ℕ) (names : List ℕ) → holds name names ≡ false →
+  pub waits_not : (sends : Waiters (Option T) W) (name : ℕ) (names : List ℕ) → holds name names ≡ false →
       waits_with name (waiting_in sends names) ≡ false
   waits_not sends name [] off = refl
   waits_not sends name (n ∷ names) off =
@@ -130,7 +130,7 @@ module _ {T W : Type 0} where
       waits-append name (one_from (Some n) (value_at sends n)) (waiting_in sends names)
       ∙ or_from _ _ (one_waits name n (value_at sends n) parts.0) (waits_not sends name names parts.1)
 
-  pub waits_in : (sends : Side (Option T) W) (name : ℕ) (names : List ℕ) (value : T) → value_at sends name ≡ Some value →
+  pub waits_in : (sends : Waiters (Option T) W) (name : ℕ) (names : List ℕ) (value : T) → value_at sends name ≡ Some value →
       holds name names ≡ true → waits_with name (waiting_in sends names) ≡ true
   waits_in sends name [] value owns at = absurd (both_ways false refl at)
   waits_in sends name (n ∷ names) value owns at =
@@ -143,7 +143,7 @@ module _ {T W : Type 0} where
             (waits_in sends name names value owns there)
       ]
 
-  pub waiting_end : (sends : Side (Option T) W) (name : ℕ) (names : List ℕ) →
+  pub waiting_end : (sends : Waiters (Option T) W) (name : ℕ) (names : List ℕ) →
       waiting_in sends (names ++ name ∷ []) ≡ waiting_in sends names ++ one_from (Some name) (value_at sends name)
   waiting_end sends name [] = append-nil (one_from (Some name) (value_at sends name))
   waiting_end sends name (n ∷ names) =
@@ -151,7 +151,7 @@ module _ {T W : Type 0} where
       ∙ sym (append_assoc (one_from (Some n) (value_at sends n)) (waiting_in sends names)
       (one_from (Some name) (value_at sends name)))
 
-  pub waiting_without : (sends : Side (Option T) W) (name : ℕ) (names : List ℕ) →
+  pub waiting_without : (sends : Waiters (Option T) W) (name : ℕ) (names : List ℕ) →
       withdrawn_by name (waiting_in sends names) ≡ waiting_in sends (without name names)
   waiting_without sends name [] = refl
   waiting_without sends name (n ∷ names) =
@@ -171,7 +171,7 @@ module _ {T W : Type 0} where
           (value_at sends n)
 
   -- At first.
-  pub follows_first : (items : List T) (sends : Side (Option T) W) →
+  pub follows_first : (items : List T) (sends : Waiters (Option T) W) →
       Follows (from_nobody items ++ waiting_in sends sends.queue) (value_at sends) [] items sends
   follows_first items sends = record {
     settled = from_nobody items;
@@ -183,7 +183,7 @@ module _ {T W : Type 0} where
   }
 
   -- What follows is in order.
-  pub follows_order : (before : List (Accepted T)) (offers : ℕ → Option T) (taken items : List T) (sends : Side (Option T) W) →
+  pub follows_order : (before : List (Accepted T)) (offers : ℕ → Option T) (taken items : List T) (sends : Waiters (Option T) W) →
       Follows before offers taken items sends →
       values_in before ≡ taken ++ values_in (from_nobody items ++ waiting_in sends sends.queue)
   follows_order before offers taken items sends was =
@@ -195,14 +195,14 @@ module _ {T W : Type 0} where
 
   -- Nothing changed of the values.
   pub follows_same : (before : List (Accepted T)) (offers : ℕ → Option T) (taken items left : List T)
-      (old new : Side (Option T) W) → left ≡ items → new ≡ old → Follows before offers taken items old →
+      (old new : Waiters (Option T) W) → left ≡ items → new ≡ old → Follows before offers taken items old →
       Follows before offers taken left new
   follows_same before offers taken items left old new kept sides was =
       subst (λ (xs : List T). Follows before offers taken xs new) (sym kept)
-      (subst (λ (s : Side (Option T) W). Follows before offers taken items s) (sym sides) was)
+      (subst (λ (s : Waiters (Option T) W). Follows before offers taken items s) (sym sides) was)
 
   -- One more value was accepted and buffered, and nobody waits.
-  pub follows_stored : (before : List (Accepted T)) (offers : ℕ → Option T) (taken items : List T) (sends : Side (Option T) W)
+  pub follows_stored : (before : List (Accepted T)) (offers : ℕ → Option T) (taken items : List T) (sends : Waiters (Option T) W)
       (value : T) → sends.queue ≡ [] → Follows before offers taken items sends →
       Follows (before ++ one_from None (Some value)) offers taken (items ++ value ∷ []) sends
   follows_stored before offers taken items sends value alone was =
@@ -221,7 +221,7 @@ module _ {T W : Type 0} where
         offered = was.offered;
       }
 
-  module _ (old new : Side (Option T) W) (name : ℕ) where
+  module _ (old new : Waiters (Option T) W) (name : ℕ) where
     -- Only this name changed.
     pub record ChangesOne : Type 0 where
       pub phases : (q : ℕ) → q ≢ name → phase_of new q ≡ phase_of old q

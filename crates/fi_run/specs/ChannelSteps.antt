@@ -10,8 +10,8 @@ use Rattle.fi_parts.specs.declared.phase.Phase.TheVariants.{Fresh, Registered, T
 use Rattle.fi_parts.specs.Buffer.{Bounded, pushed, popped}
 use Rattle.fi_parts.specs.Oldest.{complete_first, complete_oldest, asks_of_first}
 use Rattle.fi_parts.specs.Order.{holds, Apart}
-use Rattle.fi_parts.specs.Waiting.{Side, phase_of, asks_in, is_registered, made, registered, stays, ended, forgotten}
-use Rattle.fi_parts.specs.Waiting.{exchange, emptied}
+use Rattle.fi_parts.specs.Waiting.{Waiters, phase_of, asks_in, is_registered, insert_fresh, registered, stays, ended, without_future}
+use Rattle.fi_parts.specs.Waiting.{exchange, clear_queue}
 use Rattle.fi_parts.specs.Waiting.{with_phase}
 use Rattle.fi_parts.proofs.FiniteMaps.{get-insert_same, get-insert_other, get-remove_same, get-remove_other}
 use Rattle.fi_parts.proofs.Effects.{registered_as}
@@ -97,7 +97,7 @@ module _ {T : Type 0} where
       (some_same (value, pushed (popped buffer left) other buffer.reserved) next took) refl
 
 module _ {T W : Type 0} (old : ChannelMachine T W) (was : Holds old) where
-  abbrev sending : Side (Option T) W
+  abbrev sending : Waiters (Option T) W
   sending = old.waiting.sends
 
   -- who is not registered isn't queued
@@ -112,13 +112,13 @@ module _ {T W : Type 0} (old : ChannelMachine T W) (was : Holds old) where
       some_of (Some value) there = (value, refl)
 
   -- who is gone
-  forgotten_changes : (name : ℕ) → ChangesOne sending (forgotten sending name) name
+  forgotten_changes : (name : ℕ) → ChangesOne sending (without_future sending name) name
   forgotten_changes name = record {
     phases = (becomes-forgotten sending name).others;
     values = λ q ne. ap (λ f. option_flatten (asks_in f)) (get-remove_other sending.live name q ne);
   }
 
-  gone_value : (name : ℕ) → value_at (forgotten sending name) name ≡ None
+  gone_value : (name : ℕ) → value_at (without_future sending name) name ≡ None
   gone_value name = ap (λ f. option_flatten (asks_in f)) (get-remove_same sending.live name)
 
   -- where the buffer has room nobody waits
@@ -148,9 +148,9 @@ module _ {T W : Type 0} (old : ChannelMachine T W) (was : Holds old) where
     -- A send was made.
     pub made_follows : (value : T) (name : ℕ) (offers_after : ℕ → Option T) → send_phase old name ≡ None →
         offers_after name ≡ Some value → ((q : ℕ) → q ≢ name → offers_after q ≡ offers q) →
-        Follows before offers_after taken items (made sending name (Some value))
+        Follows before offers_after taken items (insert_fresh sending name (Some value))
     made_follows value name offers_after none now same =
-        let new = made sending name (Some value) in
+        let new = insert_fresh sending name (Some value) in
         let values = λ (q : ℕ) (ne : q ≢ name). ap (λ f. option_flatten (asks_in f))
         (get-insert_other sending.live name _ q ne) in
         one_changed sending new name before before offers offers_after taken taken items items held.settled
@@ -220,7 +220,7 @@ module _ {T W : Type 0} (old : ChannelMachine T W) (was : Holds old) where
         (λ v at. held.offered name v (sym (same name) ∙ at)) (λ q ne. refl))
 
     -- A fresh send ends without its value, which is not held.
-    abbrev finished : ℕ → Side (Option T) W
+    abbrev finished : ℕ → Waiters (Option T) W
     finished name = exchange (ended sending name) name None
 
     finished_changes : (name : ℕ) → send_phase old name ≡ Some Fresh → ChangesOne sending (finished name) name
@@ -286,9 +286,9 @@ module _ {T W : Type 0} (old : ChannelMachine T W) (was : Holds old) where
 
     -- A send that owned its value is gone with it.
     pub withdrawn_follows : (name : ℕ) (value : T) → value_of old name ≡ Some value →
-        Follows (withdrawn_by name before) offers taken items (forgotten sending name)
+        Follows (withdrawn_by name before) offers taken items (without_future sending name)
     withdrawn_follows name value owns =
-        let new = forgotten sending name in
+        let new = without_future sending name in
         let off = unsettled name (owner_waits (send_phase old name) (sym (was.0.owned name) ∙ ap is_some owns)) in
         let changes = forgotten_changes name in
         one_changed sending new name before (withdrawn_by name before) offers offers taken taken items items held.settled changes held
@@ -304,9 +304,9 @@ module _ {T W : Type 0} (old : ChannelMachine T W) (was : Holds old) where
 
     -- A send that owned none is gone.
     pub left_follows : (name : ℕ) → value_of old name ≡ None →
-        Follows (released_by name before) offers taken items (forgotten sending name)
+        Follows (released_by name before) offers taken items (without_future sending name)
     left_follows name none =
-        let new = forgotten sending name in
+        let new = without_future sending name in
         let out = nothing_waits (send_phase old name) (sym (was.0.owned name) ∙ ap is_some none) in
         let absent = unqueued name out in
         let changes = forgotten_changes name in
@@ -376,7 +376,7 @@ module _ {T W : Type 0} (old : ChannelMachine T W) (was : Holds old) where
 
     -- The first close withdraws the values of those that wait.
     pub closed_follows : items ≡ old.own.buffer.items →
-        Follows (take (length taken + old.own.buffer.capacity) before) offers taken items (emptied Fresh sending)
+        Follows (take (length taken + old.own.buffer.capacity) before) offers taken items (clear_queue Fresh sending)
     closed_follows is = record {
       settled = held.settled;
       accepted_is = ap (take room) held.accepted_is ∙ cut sending.queue refl ∙ sym (append-nil held.settled);
@@ -394,7 +394,7 @@ module _ {T W : Type 0} (old : ChannelMachine T W) (was : Holds old) where
         room : ℕ
         room = length taken + old.own.buffer.capacity
 
-        renewed : (q : ℕ) → phase_of (emptied Fresh sending) q ≡ noticed_phase Fresh (send_phase old q)
+        renewed : (q : ℕ) → phase_of (clear_queue Fresh sending) q ≡ noticed_phase Fresh (send_phase old q)
         renewed q = phase-emptied Fresh sending (sends_in old.waiting.out) q was.0.waiters.sends.ordered
 
         many : length held.settled ≡ length taken + length old.own.buffer.items

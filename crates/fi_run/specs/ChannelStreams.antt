@@ -14,8 +14,8 @@ use Rattle.fi_parts.specs.declared.phase.Phase.TheVariants.{Fresh, Registered, T
 use Rattle.fi_parts.specs.Buffer.{Bounded}
 use Rattle.fi_parts.specs.Oldest.{pop_first, pop_oldest}
 use Rattle.fi_parts.specs.Pairs.{without_pair}
-use Rattle.fi_parts.specs.Waiting.{Side, phase_of, asks_of, asks_in, is_registered, made, registered, stays, ended}
-use Rattle.fi_parts.specs.Waiting.{forgotten, emptied}
+use Rattle.fi_parts.specs.Waiting.{Waiters, phase_of, asks_of, asks_in, is_registered, insert_fresh, registered, stays, ended}
+use Rattle.fi_parts.specs.Waiting.{without_future, clear_queue}
 use Rattle.fi_parts.specs.Waiting.{with_phase, IsOrdered, AreSound}
 use Rattle.fi_parts.proofs.Effects.{some_phase}
 use Rattle.fi_parts.proofs.FiniteMaps.{get-insert_other, get-remove_other}
@@ -33,7 +33,7 @@ use Rattle.fi_channels.specs.Channel.{ChannelMachine, is_receive_phase, can_rece
 use Rattle.fi_channels.specs.Channel.{next_of, is_given}
 use Rattle.fi_channels.specs.Channel.{SendsAs, FreshSends, TakesNext, ReceivesAs, StreamsAs, CancelsReceiveAs, TriesNext}
 use Rattle.fi_channels.specs.Channel.{ClosesAt}
-use Rattle.fi_channels.specs.ChannelFields.{Waiters}
+use Rattle.fi_channels.specs.ChannelFields.{ChannelWaiters}
 use Rattle.fi_channels.specs.TwoSidedEffects.{TakesOn}
 use Rattle.fi_channels.specs.Waiter.{same_waiter, receives_in}
 use Rattle.fi_channels.proofs.ChannelLaws as laws
@@ -84,7 +84,7 @@ module _ {W : Type 0} where
   stream_only (Some kinds.Single) phase can = absurd (both_ways false refl can)
   stream_only (Some kinds.Stream) phase can = refl
 
-module _ {W : Type 0} (old new : Side ReceiveKind W) where
+module _ {W : Type 0} (old new : Waiters ReceiveKind W) where
   -- this receive stands as before, and is of the same kind
   abbrev SameAt : ℕ → Type 0
   SameAt q = (phase_of new q ≡ phase_of old q) × (asks_of new q ≡ asks_of old q)
@@ -98,7 +98,7 @@ module _ {W : Type 0} (old new : Side ReceiveKind W) where
 
 module _ {W : Type 0} where
   -- The oldest was told.
-  quiet_told : (side : Side ReceiveKind W) (out : List (ℕ × W)) → IsOrdered side out → Quiet side (pop_oldest Told side)
+  quiet_told : (side : Waiters ReceiveKind W) (out : List (ℕ × W)) → IsOrdered side out → Quiet side (pop_oldest Told side)
   quiet_told side out ordered = each side.queue refl
     where
       each : (queue : List ℕ) → side.queue ≡ queue → Quiet side (pop_first Told side queue)
@@ -112,14 +112,14 @@ module _ {W : Type 0} where
           )
 
   -- All that waited are fresh.
-  quiet_renewed : (side : Side ReceiveKind W) (out : List (ℕ × W)) → IsOrdered side out → Quiet side (emptied Fresh side)
+  quiet_renewed : (side : Waiters ReceiveKind W) (out : List (ℕ × W)) → IsOrdered side out → Quiet side (clear_queue Fresh side)
   quiet_renewed side out ordered q off = (
     phase-emptied Fresh side out q ordered ∙ renewed_same (phase_of side q) off,
     asks-with_phases Fresh side.queue side.live q,
   )
 
   -- One has another phase.
-  quiet_phase : (side : Side ReceiveKind W) (name : ℕ) (phase before : Phase W) (queue : List ℕ) →
+  quiet_phase : (side : Waiters ReceiveKind W) (name : ℕ) (phase before : Phase W) (queue : List ℕ) →
       phase_of side name ≡ Some before →
       QuietBut side (record { live = with_phase side.live name phase; queue = queue }) name
   quiet_phase side name phase before queue lives q ne off = (
@@ -127,29 +127,29 @@ module _ {W : Type 0} where
     asks-with_phase side.live name phase q,
   )
 
-  quiet_made : (side : Side ReceiveKind W) (name : ℕ) (kind : ReceiveKind) → QuietBut side (made side name kind) name
+  quiet_made : (side : Waiters ReceiveKind W) (name : ℕ) (kind : ReceiveKind) → QuietBut side (insert_fresh side name kind) name
   quiet_made side name kind q ne off =
       ((becomes-made side name kind).others q ne, ap asks_in (get-insert_other side.live name _ q ne))
 
-  quiet_forgotten : (side : Side ReceiveKind W) (name : ℕ) → QuietBut side (forgotten side name) name
+  quiet_forgotten : (side : Waiters ReceiveKind W) (name : ℕ) → QuietBut side (without_future side name) name
   quiet_forgotten side name q ne off =
       ((becomes-forgotten side name).others q ne, ap asks_in (get-remove_other side.live name q ne))
 
   -- One is gone, and then the oldest was told.
-  quiet_passed : (side : Side ReceiveKind W) (out : List (ℕ × W)) (name : ℕ) → AreSound is_receive_phase side out →
-      QuietBut side (pop_oldest Told (forgotten side name)) name
+  quiet_passed : (side : Waiters ReceiveKind W) (out : List (ℕ × W)) (name : ℕ) → AreSound is_receive_phase side out →
+      QuietBut side (pop_oldest Told (without_future side name)) name
   quiet_passed side out name sound q ne off =
       let gone = quiet_forgotten side name q ne off in
-      let told = quiet_told (forgotten side name) (without_pair name out)
+      let told = quiet_told (without_future side name) (without_pair name out)
       (sound-forgotten is_receive_phase side out name refl sound).ordered q
       (ap is_registered gone.0 ∙ off) in
       (told.0 ∙ gone.0, told.1 ∙ gone.1)
 
 module _ {T W : Type 0} (old new : ChannelMachine T W) where
-  abbrev before : Side ReceiveKind W
+  abbrev before : Waiters ReceiveKind W
   before = old.waiting.receives
 
-  abbrev after : Side ReceiveKind W
+  abbrev after : Waiters ReceiveKind W
   after = new.waiting.receives
 
   abbrev Stands : LastNext → ℕ → Type 0
@@ -165,11 +165,11 @@ module _ {T W : Type 0} (old new : ChannelMachine T W) where
   quiet_stands GaveItem name same was = let is = same (ap is_registered was.1) in (is.1 ∙ was.0, is.0 ∙ was.1)
   quiet_stands GaveEnd name same was = let is = same (ap is_registered was.1) in (is.1 ∙ was.0, is.0 ∙ was.1)
 
-  to_quiet : (side : Side ReceiveKind W) → after ≡ side → Quiet before side → Quiet before after
-  to_quiet side is quiet = subst (λ (s : Side ReceiveKind W). Quiet before s) (sym is) quiet
+  to_quiet : (side : Waiters ReceiveKind W) → after ≡ side → Quiet before side → Quiet before after
+  to_quiet side is quiet = subst (λ (s : Waiters ReceiveKind W). Quiet before s) (sym is) quiet
 
-  to_quiet_but : (side : Side ReceiveKind W) (name : ℕ) → after ≡ side → QuietBut before side name → QuietBut before after name
-  to_quiet_but side name is quiet = subst (λ (s : Side ReceiveKind W). QuietBut before s name) (sym is) quiet
+  to_quiet_but : (side : Waiters ReceiveKind W) (name : ℕ) → after ≡ side → QuietBut before side name → QuietBut before after name
+  to_quiet_but side name is quiet = subst (λ (s : Waiters ReceiveKind W). QuietBut before s name) (sym is) quiet
 
   receives_same : after ≡ before → Quiet before after
   receives_same is = to_quiet before is (λ q off. (refl, refl))
@@ -200,26 +200,26 @@ module _ {T W : Type 0} (old new : ChannelMachine T W) where
     quiet_sends name waker phase answer did = absurd did
 
     -- a receive that was given an item
-    given_at : (kind : Option ReceiveKind) (name : ℕ) (side : Side ReceiveKind W) (out rest : List (Waiter × W)) →
+    given_at : (kind : Option ReceiveKind) (name : ℕ) (side : Waiters ReceiveKind W) (out rest : List (Waiter × W)) →
         TakesOn sides.Receive same_waiter (is_given kind name) before out side rest →
         QuietBut before side name × (kind ≡ Some kinds.Stream → phase_of side name ≡ Some Fresh)
     given_at None name side out rest did =
         let p = some_phase (phase_of before name) did.0 in (
-          subst (λ (s : Side ReceiveKind W). QuietBut before s name) (sym did.1)
+          subst (λ (s : Waiters ReceiveKind W). QuietBut before s name) (sym did.1)
               (quiet_phase before name Ended p.0 before.queue p.1),
           λ is. absurd (cc is),
         )
     given_at (Some kinds.Single) name side out rest did =
         let p = some_phase (phase_of before name) did.0 in (
-          subst (λ (s : Side ReceiveKind W). QuietBut before s name) (sym did.1)
+          subst (λ (s : Waiters ReceiveKind W). QuietBut before s name) (sym did.1)
               (quiet_phase before name Ended p.0 before.queue p.1),
           λ is. absurd (cc is),
         )
     given_at (Some kinds.Stream) name side out rest did =
         let p = some_phase (phase_of before name) did.0 in (
-          subst (λ (s : Side ReceiveKind W). QuietBut before s name) (sym did.1)
+          subst (λ (s : Waiters ReceiveKind W). QuietBut before s name) (sym did.1)
               (quiet_phase before name Fresh p.0 before.queue p.1),
-          λ is. ap (λ (s : Side ReceiveKind W). phase_of s name) did.1
+          λ is. ap (λ (s : Waiters ReceiveKind W). phase_of s name) did.1
               ∙ (becomes-with_phase before name Fresh before.queue (lives_as before name p.0 p.1)).here,
         )
 
@@ -232,7 +232,7 @@ module _ {T W : Type 0} (old new : ChannelMachine T W) where
     abbrev Polled : ℕ → polls.Poll (Option T) → Type 0
     Polled name answer = QuietBut before after name × (kind_of old name ≡ Some kinds.Stream → Gives name answer)
 
-    abbrev phase_now : ℕ → Side ReceiveKind W → Option (Phase W)
+    abbrev phase_now : ℕ → Waiters ReceiveKind W → Option (Phase W)
     phase_now name side = phase_of side name
 
     ends : (name : ℕ) (phase : Phase W) → receive_phase old name ≡ Some phase → after ≡ ended before name →
@@ -296,17 +296,17 @@ module _ {T W : Type 0} (old new : ChannelMachine T W) where
 
     quiet_cancels : (name : ℕ) (phase : Option (Phase W)) → CancelsReceiveAs phase old name new → QuietBut before after name
     quiet_cancels name (Some Told) did =
-        to_quiet_but (pop_oldest Told (forgotten before name)) name (did.1.2.0.0 ∙ ap (pop_oldest Told) did.1.1.0.1)
+        to_quiet_but (pop_oldest Told (without_future before name)) name (did.1.2.0.0 ∙ ap (pop_oldest Told) did.1.1.0.1)
         (quiet_passed before pairs name was.0.waiters.receives)
-    quiet_cancels name None did = to_quiet_but (forgotten before name) name did.1.0.1 (quiet_forgotten before name)
-    quiet_cancels name (Some Fresh) did = to_quiet_but (forgotten before name) name did.1.0.1 (quiet_forgotten before name)
-    quiet_cancels name (Some (Registered older)) did = to_quiet_but (forgotten before name) name did.1.0.1
+    quiet_cancels name None did = to_quiet_but (without_future before name) name did.1.0.1 (quiet_forgotten before name)
+    quiet_cancels name (Some Fresh) did = to_quiet_but (without_future before name) name did.1.0.1 (quiet_forgotten before name)
+    quiet_cancels name (Some (Registered older)) did = to_quiet_but (without_future before name) name did.1.0.1
         (quiet_forgotten before name)
-    quiet_cancels name (Some Complete) did = to_quiet_but (forgotten before name) name did.1.0.1 (quiet_forgotten before name)
-    quiet_cancels name (Some Ended) did = to_quiet_but (forgotten before name) name did.1.0.1 (quiet_forgotten before name)
+    quiet_cancels name (Some Complete) did = to_quiet_but (without_future before name) name did.1.0.1 (quiet_forgotten before name)
+    quiet_cancels name (Some Ended) did = to_quiet_but (without_future before name) name did.1.0.1 (quiet_forgotten before name)
 
     quiet_closes : (is_open : Bool) (status : CloseStatus) → ClosesAt is_open old status new → Quiet before after
-    quiet_closes true status did = to_quiet (emptied Fresh before) (did.1.1.2.1 ∙ did.1.1.1.0.0)
+    quiet_closes true status did = to_quiet (clear_queue Fresh before) (did.1.1.2.1 ∙ did.1.1.1.0.0)
         (quiet_renewed before pairs ordered)
     quiet_closes false status did = receives_same (ap (λ (m : ChannelMachine T W). m.waiting.receives) did.1)
 
@@ -345,10 +345,10 @@ module _ {T W : Type 0} (old new : ChannelMachine T W) where
   streams_stand was (Send value) (Back given NoMemory) did last name stood =
       all_stand was last name (receives_same (ap (λ (m : ChannelMachine T W). m.waiting.receives) did.1)) stood
   streams_stand was Receive (Made slot) did last name stood =
-      but_stands was slot.0 name last GaveNone (to_quiet_but (made before slot.0 kinds.Single) slot.0 did.1.0.1
+      but_stands was slot.0 name last GaveNone (to_quiet_but (insert_fresh before slot.0 kinds.Single) slot.0 did.1.0.1
       (quiet_made before slot.0 kinds.Single)) tt stood
   streams_stand was Stream (Made slot) did last name stood =
-      but_stands was slot.0 name last GaveNone (to_quiet_but (made before slot.0 kinds.Stream) slot.0 did.1.0.1
+      but_stands was slot.0 name last GaveNone (to_quiet_but (insert_fresh before slot.0 kinds.Stream) slot.0 did.1.0.1
       (quiet_made before slot.0 kinds.Stream)) tt stood
   streams_stand was (PollSend slot waker) Pending did last name stood =
       all_stand was last name (quiet_sends was slot.0 waker _ polled.Pending did) stood
@@ -392,7 +392,7 @@ module _ {T W : Type 0} (old new : ChannelMachine T W) where
   streams_stand was Close Already did last name stood = all_stand was last name
       (quiet_closes was old.own.is_open AlreadyClosed did) stood
   streams_stand was NextWake (Woken waker) did last name stood =
-      all_stand was last name (receives_same (ap (λ (m : Waiters T W). m.receives) did.1.1)) stood
+      all_stand was last name (receives_same (ap (λ (m : ChannelWaiters T W). m.receives) did.1.1)) stood
   streams_stand was call answer did last name stood = absurd did
 
   -- A stream that ended ends again.

@@ -5,7 +5,7 @@ use Rattle.std.specs.Prelude.{Option, Some, None, List, [], ◌∷◌, ◌++◌,
 use Rattle.std.specs.List.{list_any}
 use Rattle.std.specs.Option.{option_flatten}
 use Rattle.fi_parts.specs.declared.phase.Phase.TheVariants.{Complete}
-use Rattle.fi_parts.specs.Waiting.{Side, phase_of, asks_of}
+use Rattle.fi_parts.specs.Waiting.{Waiters, phase_of, asks_of}
 use Rattle.fi_channels.specs.Channel.{ChannelMachine, value_of}
 use Rattle.fi_run.specs.declared.answer.Answer.{Answer}
 use Rattle.fi_run.specs.declared.answer.Answer.TheVariants.{Made, Pending, Item, Nothing, Done, Newly, Refused}
@@ -77,7 +77,7 @@ module _ {T W : Type 0} where
   received (entry ∷ history) = received_step entry.0 entry.1 (received history)
 
   -- the values of the sends that wait, in the order of this queue
-  abbrev pub waiting_in : Side (Option T) W → List ℕ → List (Accepted T)
+  abbrev pub waiting_in : Waiters (Option T) W → List ℕ → List (Accepted T)
   waiting_in sends [] = []
   waiting_in sends (name ∷ names) = one_from (Some name) (option_flatten (asks_of sends name)) ++ waiting_in sends names
 
@@ -116,7 +116,7 @@ module _ {T W : Type 0} where
   -- values received or buffered are settled, and behind them are those of the sends that wait. Who waits with a settled value is
   -- complete; a complete send that doesn't was so in the first state.
   pub record Follows (before : List (Accepted T)) (offers : ℕ → Option T) (taken items : List T)
-      (sends : Side (Option T) W) : Type 0 where
+      (sends : Waiters (Option T) W) : Type 0 where
     pub settled : List (Accepted T)
     pub accepted_is : before ≡ settled ++ waiting_in sends sends.queue
     pub values : values_in settled ≡ taken ++ items

@@ -1,5 +1,5 @@
 use Rattle.std.proofs.Common.{◌≡◌, Some, sym, ap, ◌∙◌, option_copied}
-use Rattle.fi_parts.specs.Heaped.{value_under}
+use Rattle.fi_parts.specs.HeapModel.{value_under}
 use Rattle.fi_parts.proofs.FirstSeat.{no_later}
 use Rattle.fi_parts.proofs.deadlines.first.Goals as goal
 

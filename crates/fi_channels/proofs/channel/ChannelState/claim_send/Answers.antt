@@ -1,14 +1,12 @@
-use Rattle.fi_channels.specs.ChannelFields.{machine}
+use Rattle.fi_channels.specs.ChannelFields.{machine_of}
 use Rattle.fi_channels.proofs.ChannelLaws.{makes_send, unchanged}
 use Rattle.fi_channels.proofs.Results.{either}
 use Rattle.fi_channels.proofs.channel.ChannelState.claim_send.Goals as goal
 
 pub invariant_of-self : goal.invariant_of-self
 invariant_of-self g c =
-    let old = machine (g.B.RingBuf.bounded c.self.inside.fields.buffer) c.self.inside.fields.waiters
-    c.self.inside.fields.is_open in
-    let new = machine (g.B.RingBuf.bounded c.claim_send.new.self.buffer) c.claim_send.new.self.waiters
-    c.claim_send.new.self.is_open in
+    let old = machine_of g.B.RingBuf.bounded c.self.inside.fields in
+    let new = machine_of g.B.RingBuf.bounded c.claim_send.new.self in
     either c.claim_send.result _ _ _ c.claim_send.ensures.made c.claim_send.ensures.refused
     (λ slot did. (makes_send old new c.args.value slot.0 did c.self.invariant).1) (λ same.
     (unchanged old new same c.self.invariant).1)

@@ -1,4 +1,4 @@
-use Rattle.fi_channels.specs.ChannelFields.{machine}
+use Rattle.fi_channels.specs.ChannelFields.{machine_of}
 use Rattle.fi_channels.proofs.ChannelLaws.{makes_receive, unchanged}
 use Rattle.fi_channels.proofs.Results.{either}
 use Rattle.fi_channels.specs.declared.channel_fields.ReceiveKind.TheVariants.{Stream}
@@ -6,10 +6,8 @@ use Rattle.fi_channels.proofs.channel.ChannelState.claim_stream.Goals as goal
 
 pub invariant_of-self : goal.invariant_of-self
 invariant_of-self g c =
-    let old = machine (g.B.RingBuf.bounded c.self.inside.fields.buffer) c.self.inside.fields.waiters
-    c.self.inside.fields.is_open in
-    let new = machine (g.B.RingBuf.bounded c.claim_receive.new.self.buffer) c.claim_receive.new.self.waiters
-    c.claim_receive.new.self.is_open in
+    let old = machine_of g.B.RingBuf.bounded c.self.inside.fields in
+    let new = machine_of g.B.RingBuf.bounded c.claim_receive.new.self in
     either c.claim_receive.result _ _ _ c.claim_receive.ensures.made c.claim_receive.ensures.refused
     (λ slot did. (makes_receive old new Stream slot.0 did c.self.invariant).1) (λ same.
     (unchanged old new same c.self.invariant).1)

@@ -1,11 +1,9 @@
-use Rattle.fi_channels.specs.ChannelFields.{machine}
+use Rattle.fi_channels.specs.ChannelFields.{machine_of}
 use Rattle.fi_channels.proofs.ChannelLaws.{cancels_send}
 use Rattle.fi_channels.proofs.channel.ChannelStateChannelSendAccess.remove_send_waiter.Goals as goal
 
 pub invariant_of-self : goal.invariant_of-self
 invariant_of-self g c =
-    let old = machine (g.B.RingBuf.bounded c.self.inside.fields.buffer) c.self.inside.fields.waiters
-    c.self.inside.fields.is_open in
-    let new = machine (g.B.RingBuf.bounded c.remove_send_waiter.new.self.buffer) c.remove_send_waiter.new.self.waiters
-    c.remove_send_waiter.new.self.is_open in
+    let old = machine_of g.B.RingBuf.bounded c.self.inside.fields in
+    let new = machine_of g.B.RingBuf.bounded c.remove_send_waiter.new.self in
     (cancels_send old new c.args.slot.0 c.remove_send_waiter.result.0 c.remove_send_waiter.ensures.cancelled c.self.invariant).1

@@ -1,21 +1,17 @@
-use Rattle.fi_channels.specs.ChannelFields.{machine}
+use Rattle.fi_channels.specs.ChannelFields.{machine_of}
 use Rattle.fi_channels.proofs.ChannelLaws.{polls_send}
 use Rattle.fi_channels.proofs.channel.ChannelStateChannelSendAccess.send_or_register.Goals as goal
 
 pub invariant_of-self : goal.invariant_of-self
 invariant_of-self g c =
-    let old = machine (g.B.RingBuf.bounded c.self.inside.fields.buffer) c.self.inside.fields.waiters
-    c.self.inside.fields.is_open in
-    let new = machine (g.B.RingBuf.bounded c.send_or_register.new.self.buffer) c.send_or_register.new.self.waiters
-    c.send_or_register.new.self.is_open in
+    let old = machine_of g.B.RingBuf.bounded c.self.inside.fields in
+    let new = machine_of g.B.RingBuf.bounded c.send_or_register.new.self in
     (polls_send old new c.args.slot.0 c.args.waker c.send_or_register.result.0 c.send_or_register.ensures.polled
     c.self.invariant).0.1
 
 pub returns-clause-live : goal.returns-clause-live
 returns-clause-live g c =
-    let old = machine (g.B.RingBuf.bounded c.self.inside.fields.buffer) c.self.inside.fields.waiters
-    c.self.inside.fields.is_open in
-    let new = machine (g.B.RingBuf.bounded c.send_or_register.new.self.buffer) c.send_or_register.new.self.waiters
-    c.send_or_register.new.self.is_open in
+    let old = machine_of g.B.RingBuf.bounded c.self.inside.fields in
+    let new = machine_of g.B.RingBuf.bounded c.send_or_register.new.self in
     (polls_send old new c.args.slot.0 c.args.waker c.send_or_register.result.0 c.send_or_register.ensures.polled
     c.self.invariant).1

@@ -1,10 +1,10 @@
-use Rattle.fi_channels.specs.StateParts.{machine_of}
+use Rattle.fi_channels.specs.StateFields.{machine_of}
 use Rattle.fi_channels.specs.StateLaws.{same_preserves, cloned, own_cloned}
 use Rattle.fi_channels.proofs.state.StateBroadcastStateChannelReceiveAccess.receive_or_register.Goals as goal
 
 pub invariant_of-self : goal.invariant_of-self
 invariant_of-self g c =
-    let old = machine_of c.self.inside.parts in
+    let old = machine_of c.self.inside.fields in
     let new = machine_of c.receive_or_register.new.self in
     let did = c.receive_or_register.ensures.polled in
     same_preserves old new
@@ -13,5 +13,5 @@ invariant_of-self g c =
 
 pub returns-clause-live : goal.returns-clause-live
 returns-clause-live g c =
-    (cloned _ _ (machine_of c.self.inside.parts) c.args.slot.0 c.args.waker (machine_of c.receive_or_register.new.self)
+    (cloned _ _ (machine_of c.self.inside.fields) c.args.slot.0 c.args.waker (machine_of c.receive_or_register.new.self)
     c.receive_or_register.result.0 c.self.invariant.0.numbered c.receive_or_register.ensures.polled).lives

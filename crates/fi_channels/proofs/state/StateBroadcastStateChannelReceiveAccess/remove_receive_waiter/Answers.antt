@@ -1,11 +1,11 @@
 use Rattle.fi_parts.proofs.Machines.{removes}
-use Rattle.fi_channels.specs.StateParts.{machine_of}
+use Rattle.fi_channels.specs.StateFields.{machine_of}
 use Rattle.fi_channels.specs.StateLaws.{rules, same_preserves}
 use Rattle.fi_channels.proofs.state.StateBroadcastStateChannelReceiveAccess.remove_receive_waiter.Goals as goal
 
 pub invariant_of-self : goal.invariant_of-self
 invariant_of-self g c =
-    let old = machine_of c.self.inside.parts in
+    let old = machine_of c.self.inside.fields in
     let new = machine_of c.remove_receive_waiter.new.self in
     let did = c.remove_receive_waiter.ensures.cancelled in
     same_preserves old new (removes rules c.args.slot.0 old new did) did.0 c.self.invariant

@@ -49,4 +49,4 @@ returns-clause-ended g c =
       | else-has_place w ↦ stayed old name c.if-has_place.self.locks (c.requires.place ∙ w.if-has_place.false)
           (ap (λ (f : Fields g.row.T.Denot g.row.W.Denot). f.locks) w.self-is ∙ c.take_out-named.ensures.rest)
     ] in
-    (c.requires.live, ended old name c.if-has_place.self.locks c.stand-before.new.self mid c.stand-before.ensures.rest)
+    (c.requires.live, ended old name c.if-has_place.self.locks c.set_phase-before.new.self mid c.set_phase-before.ensures.rest)

@@ -4,5 +4,5 @@ use Rattle.fi_locks.proofs.semaphore.Fields.claim_acquire.Goals as goal
 
 pub returns-in-Ok-clause-marked : goal.returns-in-Ok-clause-marked
 returns-in-Ok-clause-marked g c =
-    marks_made (machine_of c.args.self.now) c.in-Ok.slot.0 c.args.self.now.promised c.args.self.now.untold c.make.new.self
+    marks_made (machine_of c.args.self.now) c.in-Ok.slot.0 c.args.self.now.promised c.args.self.now.untold c.insert.new.self
     c.requires.sound c.requires.marked c.args.permits (c.in-Ok.ensures.was_free, c.in-Ok.ensures.made)

@@ -29,9 +29,9 @@ returns-clause-marked g c =
     let name = c.args.slot.0 in
     let old = c.args.self.now in
     let waits : c.hand_out.new.self.waits ≡ old.waits = ap (λ (p : Fields g.row.W.Denot). p.waits) c.hand_out.ensures in
-    let taken : TakesEffect (Ends name) old.waits c.stand.new.self = (
+    let taken : TakesEffect (Ends name) old.waits c.set_phase.new.self = (
       ap may_be_named c.requires.fresh,
-      c.stand.ensures.rest
+      c.set_phase.ensures.rest
           ∙ ap (λ (v : Waiting ℕ g.row.W.Denot). let w : Waiting ℕ g.row.W.Denot =
           record v { side = record v.side { live = with_phase v.side.live name Ended } } in w)
           (c.take_out-named-2.ensures.rest ∙ ap (λ (v : Waiting ℕ g.row.W.Denot). let w : Waiting ℕ g.row.W.Denot =
@@ -41,5 +41,6 @@ returns-clause-marked g c =
     ap (λ n. can_take (machine_of old).own old.waits.side.queue n) (sym c.need-need.ensures)
     ∙ sym c.can_take.ensures ∙ c.if-not-can_take.false in
     rw (c.hand_out.ensures, c.need-need.ensures)
-    (marks_ended (machine_of old) name old.promised old.untold c.stand.new.self c.requires.sound c.requires.marked c.requires.fresh takes
+    (marks_ended (machine_of old) name old.promised old.untold c.set_phase.new.self c.requires.sound
+    c.requires.marked c.requires.fresh takes
     taken)

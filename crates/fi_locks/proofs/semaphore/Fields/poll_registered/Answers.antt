@@ -13,12 +13,12 @@ returns-then-self-clause-marked g c =
     let name = c.args.slot.0 in
     let old = c.args.self.now in
     let stood = registered_as (phase_of old.waits.side name) c.requires.registered in
-    let taken : TakesEffect (KeepsWaiting name c.args.waker) old.waits c.stand-before.new.self = (
+    let taken : TakesEffect (KeepsWaiting name c.args.waker) old.waits c.set_phase-before.new.self = (
       c.requires.registered,
-      c.stand-before.ensures.rest
+      c.set_phase-before.ensures.rest
           ∙ ap (λ (v : Waiting ℕ g.row.W.Denot). let w : Waiting ℕ g.row.W.Denot =
           record v { side = record v.side { live = with_phase v.side.live name (Registered c.args.waker) } } in w)
           c.take_out.ensures.rest,
     ) in
-    marks_stay (machine_of old) name old.promised old.untold c.stand-before.new.self c.requires.sound c.requires.marked stood.0
+    marks_stay (machine_of old) name old.promised old.untold c.set_phase-before.new.self c.requires.sound c.requires.marked stood.0
     c.args.waker stood.1 taken

@@ -1,8 +1,8 @@
-use Rattle.std.proofs.Common.{◌≡◌, ℕ, refl, ap, sym, subst, ◌∙◌}
+use Rattle.std.proofs.Common.{◌≡◌, ℕ, true, is_some, ap, sym, subst, ◌∙◌}
 use Rattle.fi_parts.specs.Effects.{TakesEffect}
 use Rattle.fi_parts.specs.Effects.WaiterEffect.{Removes}
 use Rattle.fi_parts.specs.Pairs.{without_pair}
-use Rattle.fi_parts.specs.Waiting.{Waiting, phase_of, forgotten}
+use Rattle.fi_parts.specs.Waiting.{Waiting, phase_of, without_future}
 use Rattle.fi_locks.specs.declared.semaphore.Fields.{Fields}
 use Rattle.fi_locks.specs.Semaphore.{cancel_tells, IsSound, Tells}
 use Rattle.fi_locks.specs.SemaphoreFields.{machine_of}
@@ -12,25 +12,23 @@ use Rattle.fi_locks.proofs.SemaphoreSteps.{telling_if, quiet_if, live_from}
 use Rattle.fi_locks.proofs.semaphore.Fields.remove_waiter.Goals as goal
 
 -- the future is removed from the waiters as they were
-removed : {W : Type 0} (old unmarked : Fields W) (waits : Waiting ℕ W) (name : ℕ) → unmarked.waits ≡ old.waits →
-    TakesEffect (Removes name) unmarked.waits waits → TakesEffect (Removes name) old.waits waits
-removed old unmarked waits name same taken = subst (λ w. TakesEffect (Removes name) w waits) same taken
+removed : {W : Type 0} (old unmarked now : Waiting ℕ W) (name : ℕ) → unmarked ≡ old → is_some (phase_of old.side name) ≡ true →
+    now ≡ record { side = without_future unmarked.side name; out = without_pair name unmarked.out } → TakesEffect (Removes name) old now
+removed {W} old unmarked now name same lives is = (
+  live_from old.side name lives,
+  is ∙ ap (λ (v : Waiting ℕ W). let w : Waiting ℕ W =
+      record { side = without_future v.side name; out = without_pair name v.out } in w) same,
+)
 
 pub tell-requires-clause-sound : goal.tell-requires-clause-sound
 tell-requires-clause-sound g c =
     let old = c.args.self.now in
     let name = c.args.slot.0 in
-    let now = c.forget-waker.new.self in
+    let now = c.remove-waker.new.self in
     let waits : c.unmark.new.self.waits ≡ old.waits = ap (λ (p : Fields g.row.W.Denot). p.waits) c.unmark.ensures.rest in
     let own : (machine_of c.unmark.new.self).own ≡ (machine_of old).own =
     ap (λ (p : Fields g.row.W.Denot). (machine_of p).own) c.unmark.ensures.rest in
-    let live = live_from old.waits.side name c.requires.live in
-    let taken : TakesEffect (Removes name) old.waits now = (
-      live,
-      c.forget-waker.ensures.forgotten
-          ∙ ap (λ (v : Waiting ℕ g.row.W.Denot). let w : Waiting ℕ g.row.W.Denot =
-          record { side = forgotten v.side name; out = without_pair name v.out } in w) waits,
-    ) in
+    let taken = removed old.waits c.unmark.new.self.waits now name waits c.requires.live c.remove-waker.ensures.removed in
     subst (λ o. IsSound (at_own o now)) (sym own) (sound_removed (machine_of old) now name c.requires.sound taken
     (after (Removes name) (machine_of old) now c.requires.sound tt taken))
 
@@ -38,17 +36,11 @@ pub tell-requires-clause-marked : goal.tell-requires-clause-marked
 tell-requires-clause-marked g c =
     let old = c.args.self.now in
     let name = c.args.slot.0 in
-    let now = c.forget-waker.new.self in
+    let now = c.remove-waker.new.self in
     let waits : c.unmark.new.self.waits ≡ old.waits = ap (λ (p : Fields g.row.W.Denot). p.waits) c.unmark.ensures.rest in
     let kind : c.unmark.new.self.is_fair ≡ old.is_fair = ap (λ (p : Fields g.row.W.Denot). p.is_fair) c.unmark.ensures.rest in
     let free : c.unmark.new.self.free ≡ old.free = ap (λ (p : Fields g.row.W.Denot). p.free) c.unmark.ensures.rest in
-    let live = live_from old.waits.side name c.requires.live in
-    let taken : TakesEffect (Removes name) old.waits now = (
-      live,
-      c.forget-waker.ensures.forgotten
-          ∙ ap (λ (v : Waiting ℕ g.row.W.Denot). let w : Waiting ℕ g.row.W.Denot =
-          record { side = forgotten v.side name; out = without_pair name v.out } in w) waits,
-    ) in
+    let taken = removed old.waits c.unmark.new.self.waits now name waits c.requires.live c.remove-waker.ensures.removed in
     rw (kind, free) (marks_removed (machine_of old) name c.unmark.new.self.promised c.unmark.new.self.untold now c.requires.sound
     c.unmark.ensures.marked taken)
 
@@ -56,17 +48,11 @@ pub returns-then-tells-clause-cancelled : goal.returns-then-tells-clause-cancell
 returns-then-tells-clause-cancelled g c =
     let old = c.args.self.now in
     let name = c.args.slot.0 in
-    let now = c.forget-waker.new.self in
+    let now = c.remove-waker.new.self in
     let waits : c.unmark.new.self.waits ≡ old.waits = ap (λ (p : Fields g.row.W.Denot). p.waits) c.unmark.ensures.rest in
     let own : (machine_of c.unmark.new.self).own ≡ (machine_of old).own =
     ap (λ (p : Fields g.row.W.Denot). (machine_of p).own) c.unmark.ensures.rest in
-    let live = live_from old.waits.side name c.requires.live in
-    let taken : TakesEffect (Removes name) old.waits now = (
-      live,
-      c.forget-waker.ensures.forgotten
-          ∙ ap (λ (v : Waiting ℕ g.row.W.Denot). let w : Waiting ℕ g.row.W.Denot =
-          record { side = forgotten v.side name; out = without_pair name v.out } in w) waits,
-    ) in
+    let taken = removed old.waits c.unmark.new.self.waits now name waits c.requires.live c.remove-waker.ensures.removed in
     telling_if (cancel_tells old.is_fair (phase_of old.waits.side name)) (machine_of old) (machine_of old).own (Removes name)
     (machine_of c.tell.new.self) (sym c.tells_on_cancel-tells.ensures ∙ c.if-tells.true)
     (now, taken, subst (λ o. Tells (at_own o now) (machine_of c.tell.new.self)) own c.tell.ensures.told)
@@ -75,16 +61,10 @@ pub returns-else-tells-clause-marked : goal.returns-else-tells-clause-marked
 returns-else-tells-clause-marked g c =
     let old = c.args.self.now in
     let name = c.args.slot.0 in
-    let now = c.forget-waker.new.self in
+    let now = c.remove-waker.new.self in
     let waits : c.unmark.new.self.waits ≡ old.waits = ap (λ (p : Fields g.row.W.Denot). p.waits) c.unmark.ensures.rest in
     let kind : c.unmark.new.self.is_fair ≡ old.is_fair = ap (λ (p : Fields g.row.W.Denot). p.is_fair) c.unmark.ensures.rest in
     let free : c.unmark.new.self.free ≡ old.free = ap (λ (p : Fields g.row.W.Denot). p.free) c.unmark.ensures.rest in
-    let live = live_from old.waits.side name c.requires.live in
-    let taken : TakesEffect (Removes name) old.waits now = (
-      live,
-      c.forget-waker.ensures.forgotten
-          ∙ ap (λ (v : Waiting ℕ g.row.W.Denot). let w : Waiting ℕ g.row.W.Denot =
-          record { side = forgotten v.side name; out = without_pair name v.out } in w) waits,
-    ) in
+    let taken = removed old.waits c.unmark.new.self.waits now name waits c.requires.live c.remove-waker.ensures.removed in
     rw (kind, free) (marks_removed (machine_of old) name c.unmark.new.self.promised c.unmark.new.self.untold now c.requires.sound
     c.unmark.ensures.marked taken)

@@ -2,7 +2,7 @@ use Rattle.std.proofs.Common.{◌≡◌, Some, map, is_some, refl, sym, ap, ◌�
 use Rattle.std.specs.FinMap as fin
 use Rattle.slab.specs.Slab.{get}
 use Rattle.fi_parts.specs.Order.{holds}
-use Rattle.fi_parts.specs.Listed.{with_live}
+use Rattle.fi_parts.specs.ListModel.{with_live}
 use Rattle.fi_parts.specs.Blocks.{item_by, live_by, slot_by, IsSound}
 use Rattle.fi_parts.specs.CountedBlocks.{item_in, data_in, loose_block}
 use Rattle.fi_parts.specs.LinkedBlocks.{data_of, chain_of}

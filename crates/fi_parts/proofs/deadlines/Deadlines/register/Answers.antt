@@ -17,10 +17,10 @@ insert-requires-clause-apart g c =
 
 pub invariant_of-self : goal.invariant_of-self
 invariant_of-self g c =
-    rw c.stand.ensures.rest
+    rw c.set_phase.ensures.rest
     (kept-registered c.self.inside.waits.side.live c.self.inside.heap c.insert.new.self c.args.slot.0 c.args.waker c.unwrap.result.now
     c.self.invariant (sym c.asks.ensures ∙ ap option_copied c.unwrap.ensures) c.insert.ensures.live c.insert.ensures.members)
 
 pub returns : goal.returns
-returns g c = rw (← c.self.view_is) (seen-phase c.self.inside.waits c.args.slot.0 c.stand.new.self
-    (Registered c.args.waker) c.stand.ensures.rest)
+returns g c = rw (← c.self.view_is) (seen-phase c.self.inside.waits c.args.slot.0 c.set_phase.new.self
+    (Registered c.args.waker) c.set_phase.ensures.rest)
