@@ -3,9 +3,8 @@ ghost use Rattle.std.specs.Prelude.{◌<◌};
 
 use crate::errors::Slot;
 use crate::heap::PairingHeap;
-use std::alloc::Global;
+use std::alloc::AllocError;
 use std::process::Abort;
-use std::test::Fail;
 
 /// Claims a slot for a value and puts it into the heap.
 fn add(rt: &impl Abort, heap: &mut PairingHeap<u64>, value: u64) -> Slot {
@@ -44,11 +43,11 @@ fn heap_order(rt: HostRuntime) {
 }
 
 #[test]
-fn values_are_written_outside(rt: HostRuntime) -> Result<(), Fail> {
+fn values_are_written_outside(rt: HostRuntime) {
     let mut heap = PairingHeap::new(rt.alloc());
-    let other = heap.claim(6).ok().ok_or("no memory")?;
+    let other = heap.claim(6).expect(&rt, "no memory");
     heap.insert(other);
-    let slot = heap.claim(7).ok().ok_or("no memory")?;
+    let slot = heap.claim(7).expect(&rt, "no memory");
     if let Some(value) = heap.get_mut(slot) {
         *value = 5;
     }
@@ -59,7 +58,6 @@ fn values_are_written_outside(rt: HostRuntime) -> Result<(), Fail> {
     assert_eq!(rt; heap.peek_min(), Some(slot));
     assert!(rt; !heap.contains(Slot(7)));
     assert_eq!(rt; heap.get_mut(Slot(7)), None, "a slot that isn't live");
-    Ok(())
 }
 
 /// Draws numbers: the same ones in each run.
@@ -82,7 +80,7 @@ impl Draws {
 }
 
 /// Puts a value behind the last that isn't greater.
-fn add_sorted(list: &mut Vec<(u64, Slot)>, value: u64, slot: Slot) -> Result<(), Fail> {
+fn add_sorted(list: &mut Vec<(u64, Slot)>, value: u64, slot: Slot) -> Result<(), AllocError> {
     let place = list.iter().filter(|entry| entry.0 <= value).count();
     if place <= list.len() {
         list.insert(place, (value, slot))?;
@@ -91,16 +89,16 @@ fn add_sorted(list: &mut Vec<(u64, Slot)>, value: u64, slot: Slot) -> Result<(),
 }
 
 #[test]
-fn drawn_inserts_and_removals(rt: HostRuntime) -> Result<(), Fail> {
+fn drawn_inserts_and_removals(rt: HostRuntime) {
     let mut heap = PairingHeap::new(rt.alloc());
     let mut list: Vec<(u64, Slot)> = Vec::new(rt.alloc());
     let mut draws = Draws { state: 1 };
     for _ in 0..10_000 {
         if list.is_empty() || draws.below(100) < 52 {
             let value = draws.below(40);
-            let slot = heap.claim(value).ok().ok_or("no memory")?;
+            let slot = heap.claim(value).expect(&rt, "no memory");
             heap.insert(slot);
-            add_sorted(&mut list, value, slot)?;
+            add_sorted(&mut list, value, slot).expect(&rt, "memory");
         } else {
             let place = draws.below(list.len() as u64) as usize;
             if place < list.len() {
@@ -117,5 +115,4 @@ fn drawn_inserts_and_removals(rt: HostRuntime) -> Result<(), Fail> {
         };
         assert_eq!(rt; least, list.first().map(|entry| entry.0));
     }
-    Ok(())
 }

@@ -7,9 +7,9 @@ use crate::{
     ChannelSendError, CloseStatus, Deadlines, Fault, LinkedList, NoRoom, Outbox, Slot, StateId,
     Waits,
 };
-use std::alloc::Global;
+use std::alloc::{AllocError, Global};
+use std::process::Abort;
 use std::rc::Rc;
-use std::test::Fail;
 
 // Claims a slot for the value, and puts it in front.
 fn put<T: Drop>(list: &mut LinkedList<T>, value: T) -> Result<Slot, NoRoom<T>>
@@ -34,7 +34,7 @@ fn value(list: &LinkedList<u32>, slot: Slot) -> u32 {
 }
 
 // The values under these slots.
-fn values(alloc: Global, list: &LinkedList<u32>, slots: &[Slot]) -> Result<Vec<u32>, Fail> {
+fn values(alloc: Global, list: &LinkedList<u32>, slots: &[Slot]) -> Result<Vec<u32>, AllocError> {
     let mut values = Vec::new(alloc);
     for slot in slots {
         values.push(value(list, *slot))?;
@@ -43,40 +43,40 @@ fn values(alloc: Global, list: &LinkedList<u32>, slots: &[Slot]) -> Result<Vec<u
 }
 
 #[test]
-fn list_order(rt: HostRuntime) -> Result<(), Fail> {
-    let (mut list, _, _) = three(rt.alloc()).ok().ok_or("room")?;
-    let slots: Vec<Slot> = list.drain().collect(rt.alloc())?;
-    let youngest_first = values(rt.alloc(), &list, &slots)?;
+fn list_order(rt: HostRuntime) {
+    let (mut list, _, _) = three(rt.alloc()).expect(&rt, "room");
+    let slots: Vec<Slot> = list.drain().collect(rt.alloc()).expect(&rt, "memory");
+    let youngest_first = values(rt.alloc(), &list, &slots).expect(&rt, "memory");
     assert_eq!(rt; youngest_first.as_slice(), [5, 7, 31].as_slice());
-    Ok(())
 }
 
 #[test]
-fn list_order_reversed(rt: HostRuntime) -> Result<(), Fail> {
-    let (mut list, _, _) = three(rt.alloc()).ok().ok_or("room")?;
-    let slots: Vec<Slot> = list.reverse_drain().collect(rt.alloc())?;
-    let oldest_first = values(rt.alloc(), &list, &slots)?;
+fn list_order_reversed(rt: HostRuntime) {
+    let (mut list, _, _) = three(rt.alloc()).expect(&rt, "room");
+    let slots: Vec<Slot> = list
+        .reverse_drain()
+        .collect(rt.alloc())
+        .expect(&rt, "memory");
+    let oldest_first = values(rt.alloc(), &list, &slots).expect(&rt, "memory");
     assert_eq!(rt; oldest_first.as_slice(), [31, 7, 5].as_slice());
     assert!(rt; list.is_empty());
-    Ok(())
 }
 
 #[test]
-fn list_remove(rt: HostRuntime) -> Result<(), Fail> {
-    let (mut list, oldest, middle) = three(rt.alloc()).ok().ok_or("room")?;
+fn list_remove(rt: HostRuntime) {
+    let (mut list, oldest, middle) = three(rt.alloc()).expect(&rt, "room");
     assert!(rt; list.remove(middle));
     assert!(rt; !list.remove(middle));
-    let slots: Vec<Slot> = list.drain().collect(rt.alloc())?;
+    let slots: Vec<Slot> = list.drain().collect(rt.alloc()).expect(&rt, "memory");
     assert_eq!(rt; slots.len(), 2);
     assert_eq!(rt; value(&list, slots[0]), 5);
     assert_eq!(rt; slots[1], oldest);
     assert_eq!(rt; value(&list, middle), 7, "what was taken out stays live");
-    Ok(())
 }
 
 #[test]
-fn list_ends(rt: HostRuntime) -> Result<(), Fail> {
-    let (mut list, oldest, _) = three(rt.alloc()).ok().ok_or("room")?;
+fn list_ends(rt: HostRuntime) {
+    let (mut list, oldest, _) = three(rt.alloc()).expect(&rt, "room");
     assert!(rt; !list.is_empty());
     assert_eq!(rt; list.last_slot(), Some(oldest));
     assert_eq!(rt; list.peek_first().copied(), Some(5));
@@ -85,12 +85,11 @@ fn list_ends(rt: HostRuntime) -> Result<(), Fail> {
     assert_eq!(rt; list.remove_last(), Some(oldest));
     assert_eq!(rt; list.peek_first().copied(), Some(7));
     assert!(rt; list.first_slot() == list.last_slot());
-    Ok(())
 }
 
 #[test]
-fn list_writes(rt: HostRuntime) -> Result<(), Fail> {
-    let (mut list, _, _) = three(rt.alloc()).ok().ok_or("room")?;
+fn list_writes(rt: HostRuntime) {
+    let (mut list, _, _) = three(rt.alloc()).expect(&rt, "room");
     if let Some(first) = list.peek_first_mut() {
         *first = 6;
     }
@@ -99,12 +98,11 @@ fn list_writes(rt: HostRuntime) -> Result<(), Fail> {
     }
     assert_eq!(rt; list.peek_first().copied(), Some(6));
     assert_eq!(rt; list.peek_last().copied(), Some(32));
-    Ok(())
 }
 
 #[test]
-fn a_drain_dropped_early_leaves_the_rest(rt: HostRuntime) -> Result<(), Fail> {
-    let (mut list, _, middle) = three(rt.alloc()).ok().ok_or("room")?;
+fn a_drain_dropped_early_leaves_the_rest(rt: HostRuntime) {
+    let (mut list, _, middle) = three(rt.alloc()).expect(&rt, "room");
     {
         let mut youngest_first = list.drain();
         assert!(rt; youngest_first.next().is_some());
@@ -115,67 +113,63 @@ fn a_drain_dropped_early_leaves_the_rest(rt: HostRuntime) -> Result<(), Fail> {
         assert!(rt; oldest_first.next().is_some());
     }
     assert_eq!(rt; list.last_slot(), Some(middle));
-    Ok(())
 }
 
 #[test]
-fn list_values(rt: HostRuntime) -> Result<(), Fail> {
+fn list_values(rt: HostRuntime) {
     let mut list = LinkedList::new(rt.alloc());
-    let slot = list.claim(3).ok().ok_or("room")?;
+    let slot = list.claim(3).expect(&rt, "room");
     assert_eq!(rt; list.free(slot), 3);
     assert_eq!(rt; list.get(slot).copied(), None);
     assert!(rt; list.get_mut(slot).is_none());
     assert!(rt; !list.remove(slot));
-    Ok(())
 }
 
 // Five live slots under one count of owners; the second and the fourth are linked.
-fn five(counted: &Rc<u64>, alloc: Global) -> Result<LinkedList<Rc<u64>>, Fail> {
+fn five(rt: &impl Abort, counted: &Rc<u64>, alloc: Global) -> LinkedList<Rc<u64>> {
     let mut list = LinkedList::new(alloc);
     for place in 0..5u64 {
-        let slot = list.claim(counted.clone()?).ok().ok_or("room")?;
+        let owner = counted.clone().expect(rt, "memory");
+        let slot = list.claim(owner).expect(rt, "room");
         if place % 2 == 1 {
             list.add_front(slot);
         }
     }
-    Ok(list)
+    list
 }
 
 #[test]
-fn the_end_of_a_list_drops_each_value_once(rt: HostRuntime) -> Result<(), Fail> {
-    let counted = Rc::new(rt.alloc(), 7u64)?;
-    let list = five(&counted, rt.alloc())?;
+fn the_end_of_a_list_drops_each_value_once(rt: HostRuntime) {
+    let counted = Rc::new(rt.alloc(), 7u64).expect(&rt, "memory");
+    let list = five(&rt, &counted, rt.alloc());
     assert!(rt; !list.is_empty());
     assert_eq!(rt; Rc::strong_count(&counted), 6);
     drop(list);
     assert_eq!(rt; Rc::strong_count(&counted), 1);
-    Ok(())
 }
 
 #[test]
-fn outbox_names(rt: HostRuntime) -> Result<(), Fail> {
+fn outbox_names(rt: HostRuntime) {
     let mut outbox = Outbox::<u64>::new(rt.alloc());
-    let first = outbox.claim().ok().ok_or("room")?;
+    let first = outbox.claim().expect(&rt, "room");
     outbox.name(first, 11);
-    let second = outbox.claim().ok().ok_or("room")?;
+    let second = outbox.claim().expect(&rt, "room");
     assert_eq!(rt; outbox.len(), 1);
     assert_eq!(rt; outbox.take_out(second), None);
     assert_eq!(rt; outbox.take_out(first), Some(11));
     assert_eq!(rt; outbox.pop(), None);
-    Ok(())
 }
 
 #[test]
-fn outbox_frees(rt: HostRuntime) -> Result<(), Fail> {
+fn outbox_frees(rt: HostRuntime) {
     let mut outbox = Outbox::<u64>::new(rt.alloc());
-    let ticket = outbox.claim().ok().ok_or("room")?;
+    let ticket = outbox.claim().expect(&rt, "room");
     outbox.free(ticket);
     assert_eq!(rt; outbox.len(), 0);
-    Ok(())
 }
 
 #[test]
-fn faults_and_closes(rt: HostRuntime) -> Result<(), Fail> {
+fn faults_and_closes(rt: HostRuntime) {
     let faults = [
         Fault::NoMemory,
         Fault::NoSlot,
@@ -194,54 +188,59 @@ fn faults_and_closes(rt: HostRuntime) -> Result<(), Fail> {
     assert!(rt; CloseStatus::AlreadyClosed.is_already_closed());
     assert!(rt; !CloseStatus::AlreadyClosed.is_newly_closed());
     assert_eq!(rt; ChannelSendError(5), ChannelSendError(5));
-    Ok(())
 }
 
 #[test]
-fn state_ids(rt: HostRuntime) -> Result<(), Fail> {
+fn state_ids(rt: HostRuntime) {
     assert_eq!(rt; StateId::new(), StateId::default());
     assert_eq!(rt; StateId::new().value(), 0);
     assert_eq!(rt; StateId::from_value(7).value(), 7);
     assert!(rt; StateId::new() < StateId::from_value(1));
     assert_eq!(rt;
-        format!(in rt.alloc(); "{:?}", StateId::from_value(7))?.as_str(),
+        format!(in rt.alloc(); "{:?}", StateId::from_value(7))
+            .expect(&rt, "memory")
+            .as_str(),
         "StateId(7)"
     );
     assert_eq!(rt;
-        format!(in rt.alloc(); "{:?}", Slot(3))?.as_str(),
+        format!(in rt.alloc(); "{:?}", Slot(3))
+            .expect(&rt, "memory")
+            .as_str(),
         "Slot(3)"
     );
     assert_eq!(rt;
-        format!(in rt.alloc(); "{:?}", NoRoom(3))?.as_str(),
+        format!(in rt.alloc(); "{:?}", NoRoom(3))
+            .expect(&rt, "memory")
+            .as_str(),
         "NoRoom(3)"
     );
     assert_eq!(rt;
-        format!(in rt.alloc(); "{:?}", Fault::Closed)?.as_str(),
+        format!(in rt.alloc(); "{:?}", Fault::Closed)
+            .expect(&rt, "memory")
+            .as_str(),
         "Closed"
     );
-    Ok(())
 }
 
 // Tickets and futures are made beside named, queued and seated ones.
 #[test]
-fn room_is_found_beside_others(rt: HostRuntime) -> Result<(), Fail> {
+fn room_is_found_beside_others(rt: HostRuntime) {
     let mut outbox: Outbox<u64> = Outbox::new(rt.alloc());
     for number in 0..4u64 {
-        let ticket = outbox.claim()?;
+        let ticket = outbox.claim().expect(&rt, "memory");
         outbox.name(ticket, number);
     }
     assert_eq!(rt; outbox.len(), 4);
     let mut waits: Waits<u32, u64> = Waits::new(rt.alloc());
-    let oldest = waits.insert(1)?;
+    let oldest = waits.insert(1).expect(&rt, "memory");
     assert!(rt; waits.phase(oldest).is_some());
     waits.register(oldest, 7);
     assert!(rt; waits.insert(2).is_ok());
     let mut deadlines: Deadlines<u64> = Deadlines::new(rt.alloc());
-    let first = deadlines.insert(5)?;
+    let first = deadlines.insert(5).expect(&rt, "memory");
     assert!(rt; deadlines.is_fresh(first));
     deadlines.register(first, 7);
     assert!(rt; deadlines.insert(4).is_ok());
-    Ok(())
 }
 
 fn is_shared<T: Send + Sync>(_value: &T) {}

@@ -146,76 +146,55 @@ pub fn every_run_of_an_event<W: Drop>()
 #[cfg(test)]
 mod tests {
     use super::*;
-    use crate::runs::run;
+    use crate::tests::answers;
     use std::test::Fail;
 
     #[test]
     fn a_told_wait_is_ready_after_reset(rt: HostRuntime) -> Result<(), Fail> {
-        let mut event: EventState<u64> = EventState::open(rt.alloc(), false)?;
-        let mut out = Vec::new(rt.alloc());
         let w = Slot(0);
-        let calls = vec![in rt.alloc();
-            EventCall::Wait,
-            EventCall::Poll(w, 1),
-            EventCall::Poll(w, 2),
-            EventCall::Set,
-            EventCall::NextWake,
-            EventCall::NextWake,
-            EventCall::Reset,
-            EventCall::Poll(w, 3),
-            EventCall::Poll(w, 3),
-            EventCall::Cancel(w),
-            EventCall::Cancel(w),
-        ]?;
-        run(&mut event, calls, &mut out)?;
-        let wanted = [
-            Answer::Made(w),
-            Answer::Pending,
-            Answer::Pending,
-            Answer::Done,
-            Answer::Woken(Some(2)),
-            Answer::Woken(None),
-            Answer::Done,
-            Answer::Ready,
-            Answer::Refused(Fault::NoSlot),
-            Answer::Done,
-            Answer::Refused(Fault::NoSlot),
+        let lines = [
+            (EventCall::Wait, Answer::Made(w)),
+            (EventCall::Poll(w, 1), Answer::Pending),
+            (EventCall::Poll(w, 2), Answer::Pending),
+            (EventCall::Set, Answer::Done),
+            (EventCall::NextWake, Answer::Woken(Some(2))),
+            (EventCall::NextWake, Answer::Woken(None)),
+            (EventCall::Reset, Answer::Done),
+            (EventCall::Poll(w, 3), Answer::Ready),
+            (EventCall::Poll(w, 3), Answer::Refused(Fault::NoSlot)),
+            (EventCall::Cancel(w), Answer::Done),
+            (EventCall::Cancel(w), Answer::Refused(Fault::NoSlot)),
         ];
-        assert_eq!(rt; out.as_slice(), wanted.as_slice());
+        assert!(rt; answers::<EventState<u64>>(rt.alloc(), false, lines.as_slice())?);
         Ok(())
     }
 
     #[test]
     fn the_others_are_woken_in_order(rt: HostRuntime) -> Result<(), Fail> {
-        let mut event: EventState<u64> = EventState::open(rt.alloc(), false)?;
-        let mut out = Vec::new(rt.alloc());
-        let calls = vec![in rt.alloc();
-            EventCall::Wait,
-            EventCall::Wait,
-            EventCall::Wait,
-            EventCall::Poll(Slot(0), 1),
-            EventCall::Poll(Slot(1), 2),
-            EventCall::Poll(Slot(2), 3),
-            EventCall::Cancel(Slot(1)),
-            EventCall::Set,
-            EventCall::Cancel(Slot(0)),
-            EventCall::NextWake,
-            EventCall::NextWake,
-        ]?;
-        run(&mut event, calls, &mut out)?;
-        let wanted = [Answer::Woken(Some(3)), Answer::Woken(None)];
-        assert_eq!(rt; &out.as_slice()[9..], wanted.as_slice());
+        let lines = [
+            (EventCall::Wait, Answer::Made(Slot(0))),
+            (EventCall::Wait, Answer::Made(Slot(1))),
+            (EventCall::Wait, Answer::Made(Slot(2))),
+            (EventCall::Poll(Slot(0), 1), Answer::Pending),
+            (EventCall::Poll(Slot(1), 2), Answer::Pending),
+            (EventCall::Poll(Slot(2), 3), Answer::Pending),
+            (EventCall::Cancel(Slot(1)), Answer::Done),
+            (EventCall::Set, Answer::Done),
+            (EventCall::Cancel(Slot(0)), Answer::Done),
+            (EventCall::NextWake, Answer::Woken(Some(3))),
+            (EventCall::NextWake, Answer::Woken(None)),
+        ];
+        assert!(rt; answers::<EventState<u64>>(rt.alloc(), false, lines.as_slice())?);
         Ok(())
     }
 
     #[test]
     fn a_set_event_is_set(rt: HostRuntime) -> Result<(), Fail> {
-        let mut event: EventState<u64> = EventState::open(rt.alloc(), false)?;
-        let mut out = Vec::new(rt.alloc());
-        let calls = vec![in rt.alloc(); EventCall::Set, EventCall::IsSet]?;
-        assert!(rt; run(&mut event, calls, &mut out).is_ok());
-        let wanted = [Answer::Done, Answer::Flag(true)];
-        assert_eq!(rt; out.as_slice(), wanted.as_slice());
+        let lines = [
+            (EventCall::Set, Answer::Done),
+            (EventCall::IsSet, Answer::Flag(true)),
+        ];
+        assert!(rt; answers::<EventState<u64>>(rt.alloc(), false, lines.as_slice())?);
         Ok(())
     }
 }

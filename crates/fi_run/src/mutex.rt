@@ -148,31 +148,12 @@ pub fn every_run_of_a_mutex<T: Drop, W: Drop>()
 #[cfg(test)]
 mod tests {
     use super::*;
-    use crate::runs::run;
+    use crate::tests::answers;
     use std::test::Fail;
 
     const A: Slot = Slot(0);
 
     const B: Slot = Slot(1);
-
-    // A mutex with the value 7 answers the calls of these rows so.
-    fn answers(
-        alloc: Global,
-        is_fair: bool,
-        rows: &[(MutexCall<u64, u64>, Answer<u64, u64>)],
-    ) -> Result<bool, Fail> {
-        let mut mutex: MutexState<u64, u64> = MutexState::open(alloc, (7, is_fair))?;
-        let mut calls = Vec::new(alloc);
-        let mut wanted = Vec::new(alloc);
-        for (call, answer) in rows.iter() {
-            calls.push(*call)?;
-            wanted.push(*answer)?;
-        }
-        let mut out = Vec::new(alloc);
-        run(&mut mutex, calls, &mut out)?;
-        Primitive::show(&mutex);
-        Ok(out.as_slice() == wanted.as_slice())
-    }
 
     #[test]
     fn mutex_unfair(rt: HostRuntime) -> Result<(), Fail> {
@@ -195,7 +176,7 @@ mod tests {
             (MutexCall::NextWake, Answer::Woken(None)),
             (MutexCall::Poll(A, 3), Answer::Item(9)),
         ];
-        assert!(rt; answers(rt.alloc(), false, rows.as_slice())?);
+        assert!(rt; answers::<MutexState<u64, u64>>(rt.alloc(), (7, false), rows.as_slice())?);
         Ok(())
     }
 
@@ -218,7 +199,7 @@ mod tests {
             (MutexCall::NextWake, Answer::Woken(Some(2))),
             (MutexCall::NextWake, Answer::Woken(None)),
         ];
-        assert!(rt; answers(rt.alloc(), true, rows.as_slice())?);
+        assert!(rt; answers::<MutexState<u64, u64>>(rt.alloc(), (7, true), rows.as_slice())?);
         Ok(())
     }
 
@@ -235,7 +216,7 @@ mod tests {
             (MutexCall::Unlock(9), Answer::Done),
             (MutexCall::IsLocked, Answer::Flag(false)),
         ];
-        assert!(rt; answers(rt.alloc(), true, rows.as_slice())?);
+        assert!(rt; answers::<MutexState<u64, u64>>(rt.alloc(), (7, true), rows.as_slice())?);
         every_run_of_a_mutex::<u64, u64>();
         Ok(())
     }

@@ -188,7 +188,7 @@ pub fn every_run_of_a_semaphore<W: Drop>()
 #[cfg(test)]
 mod tests {
     use super::*;
-    use crate::runs::run;
+    use crate::tests::answers;
     use std::test::Fail;
 
     const A: Slot = Slot(0);
@@ -198,25 +198,6 @@ mod tests {
     const C: Slot = Slot(2);
 
     const D: Slot = Slot(3);
-
-    // A semaphore of this opening answers the calls of these rows so.
-    fn answers(
-        alloc: Global,
-        opening: (usize, bool),
-        rows: &[(SemaphoreCall<u64>, Answer<u64, u64>)],
-    ) -> Result<bool, Fail> {
-        let mut semaphore: SemaphoreState<u64> = SemaphoreState::open(alloc, opening)?;
-        let mut calls = Vec::new(alloc);
-        let mut wanted = Vec::new(alloc);
-        for (call, answer) in rows.iter() {
-            calls.push(*call)?;
-            wanted.push(*answer)?;
-        }
-        let mut out = Vec::new(alloc);
-        run(&mut semaphore, calls, &mut out)?;
-        Primitive::show(&semaphore);
-        Ok(out.as_slice() == wanted.as_slice())
-    }
 
     #[test]
     fn semaphore_fair_cancel(rt: HostRuntime) -> Result<(), Fail> {
@@ -232,7 +213,7 @@ mod tests {
             (SemaphoreCall::Permits, Answer::Number(1)),
             (SemaphoreCall::Held, Answer::Number(2)),
         ];
-        assert!(rt; answers(rt.alloc(), (3, true), rows.as_slice())?);
+        assert!(rt; answers::<SemaphoreState<u64>>(rt.alloc(), (3, true), rows.as_slice())?);
         Ok(())
     }
 
@@ -255,7 +236,7 @@ mod tests {
             (SemaphoreCall::Poll(C, 3), Answer::Ready),
             (SemaphoreCall::Permits, Answer::Number(0)),
         ];
-        assert!(rt; answers(rt.alloc(), (0, false), rows.as_slice())?);
+        assert!(rt; answers::<SemaphoreState<u64>>(rt.alloc(), (0, false), rows.as_slice())?);
         Ok(())
     }
 
@@ -271,7 +252,9 @@ mod tests {
             (SemaphoreCall::Permits, Answer::Number(usize::MAX)),
             (SemaphoreCall::GiveBack(1), Answer::Refused(Fault::NotHeld)),
         ];
-        assert!(rt; answers(rt.alloc(), (usize::MAX, false), rows.as_slice())?);
+        assert!(rt;
+            answers::<SemaphoreState<u64>>(rt.alloc(), (usize::MAX, false), rows.as_slice())?
+        );
         Ok(())
     }
 
@@ -288,7 +271,7 @@ mod tests {
             (SemaphoreCall::NextWake, Answer::Woken(None)),
             (SemaphoreCall::Permits, Answer::Number(2)),
         ];
-        assert!(rt; answers(rt.alloc(), (2, false), rows.as_slice())?);
+        assert!(rt; answers::<SemaphoreState<u64>>(rt.alloc(), (2, false), rows.as_slice())?);
         Ok(())
     }
 
@@ -309,7 +292,7 @@ mod tests {
             (SemaphoreCall::Permits, Answer::Number(0)),
             (SemaphoreCall::Held, Answer::Number(2)),
         ];
-        assert!(rt; answers(rt.alloc(), (1, true), rows.as_slice())?);
+        assert!(rt; answers::<SemaphoreState<u64>>(rt.alloc(), (1, true), rows.as_slice())?);
         Ok(())
     }
 
@@ -331,7 +314,7 @@ mod tests {
             (SemaphoreCall::NextWake, Answer::Woken(None)),
             (SemaphoreCall::Permits, Answer::Number(2)),
         ];
-        assert!(rt; answers(rt.alloc(), (2, true), rows.as_slice())?);
+        assert!(rt; answers::<SemaphoreState<u64>>(rt.alloc(), (2, true), rows.as_slice())?);
         Ok(())
     }
 
@@ -365,7 +348,7 @@ mod tests {
             (SemaphoreCall::Permits, Answer::Number(1)),
             (SemaphoreCall::Held, Answer::Number(3)),
         ];
-        assert!(rt; answers(rt.alloc(), (0, true), rows.as_slice())?);
+        assert!(rt; answers::<SemaphoreState<u64>>(rt.alloc(), (0, true), rows.as_slice())?);
         Ok(())
     }
 
@@ -387,7 +370,7 @@ mod tests {
             (SemaphoreCall::Permits, Answer::Number(1)),
             (SemaphoreCall::Held, Answer::Number(3)),
         ];
-        assert!(rt; answers(rt.alloc(), (1, true), rows.as_slice())?);
+        assert!(rt; answers::<SemaphoreState<u64>>(rt.alloc(), (1, true), rows.as_slice())?);
         Ok(())
     }
 
@@ -406,7 +389,7 @@ mod tests {
             (SemaphoreCall::NextWake, Answer::Woken(None)),
             (SemaphoreCall::NextWake, Answer::Woken(None)),
         ];
-        assert!(rt; answers(rt.alloc(), (1, true), rows.as_slice())?);
+        assert!(rt; answers::<SemaphoreState<u64>>(rt.alloc(), (1, true), rows.as_slice())?);
         every_run_of_a_semaphore::<u64>();
         Ok(())
     }

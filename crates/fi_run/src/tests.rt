@@ -5,97 +5,86 @@ use crate::{
 };
 use fi_channels::{OneshotBroadcastState, OneshotState, StateBroadcastState};
 use fi_parts::{Fault, Slot, StateId};
+use std::alloc::Global;
 use std::test::Fail;
 
 mod channel;
 mod desks;
 mod journals;
 
+// Whether a primitive of this opening answers the calls of these lines so.
+pub(crate) fn answers<P: Primitive + Drop>(
+    alloc: Global,
+    opening: P::Opening,
+    lines: &[(P::Call, P::Answer)],
+) -> Result<bool, Fail>
+where
+    P::Call: Copy,
+    P::Answer: Copy + PartialEq,
+{
+    let mut primitive = P::open(alloc, opening)?;
+    let mut calls = Vec::new(alloc);
+    let mut wanted = Vec::new(alloc);
+    for (call, answer) in lines {
+        calls.push(*call)?;
+        wanted.push(*answer)?;
+    }
+    let mut out = Vec::new(alloc);
+    run(&mut primitive, calls, &mut out)?;
+    primitive.show();
+    Ok(out.as_slice() == wanted.as_slice())
+}
+
 #[test]
 fn a_oneshot_gives_its_value_once(rt: HostRuntime) -> Result<(), Fail> {
-    let mut channel: OneshotState<u32, u64> = OneshotState::open(rt.alloc(), ())?;
-    let mut out = Vec::new(rt.alloc());
-    let calls = vec![in rt.alloc();
-        OneshotCall::Receive,
-        OneshotCall::Poll(Slot(0), 1),
-        OneshotCall::Send(5),
-        OneshotCall::Send(6),
-        OneshotCall::NextWake,
-        OneshotCall::Poll(Slot(0), 2),
-        OneshotCall::Poll(Slot(0), 3),
-        OneshotCall::Cancel(Slot(0)),
-        OneshotCall::Close,
-    ]?;
-    run(&mut channel, calls, &mut out)?;
-    let wanted = [
-        Answer::Made(Slot(0)),
-        Answer::Pending,
-        Answer::Done,
-        Answer::Back(6, Fault::Closed),
-        Answer::Woken(Some(1)),
-        Answer::Item(5),
-        Answer::Refused(Fault::NoSlot),
-        Answer::Done,
-        Answer::Already,
+    let lines = [
+        (OneshotCall::Receive, Answer::Made(Slot(0))),
+        (OneshotCall::Poll(Slot(0), 1), Answer::Pending),
+        (OneshotCall::Send(5), Answer::Done),
+        (OneshotCall::Send(6), Answer::Back(6, Fault::Closed)),
+        (OneshotCall::NextWake, Answer::Woken(Some(1))),
+        (OneshotCall::Poll(Slot(0), 2), Answer::Item(5)),
+        (
+            OneshotCall::Poll(Slot(0), 3),
+            Answer::Refused(Fault::NoSlot),
+        ),
+        (OneshotCall::Cancel(Slot(0)), Answer::Done),
+        (OneshotCall::Close, Answer::Already),
     ];
-    assert_eq!(rt; out.as_slice(), wanted.as_slice());
-    Primitive::show(&channel);
+    assert!(rt; answers::<OneshotState<u32, u64>>(rt.alloc(), (), lines.as_slice())?);
     Ok(())
 }
 
 #[test]
 fn a_broadcast_gives_its_value_to_each(rt: HostRuntime) -> Result<(), Fail> {
-    let mut channel: OneshotBroadcastState<u32, u64> = OneshotBroadcastState::open(rt.alloc(), ())?;
-    let mut out = Vec::new(rt.alloc());
-    let calls = vec![in rt.alloc();
-        OneshotCall::Receive,
-        OneshotCall::Receive,
-        OneshotCall::Send(5),
-        OneshotCall::Close,
-        OneshotCall::Poll(Slot(0), 1),
-        OneshotCall::Poll(Slot(1), 2),
-        OneshotCall::Cancel(Slot(1)),
-        OneshotCall::NextWake,
-    ]?;
-    run(&mut channel, calls, &mut out)?;
-    let wanted = [
-        Answer::Already,
-        Answer::Item(5),
-        Answer::Item(5),
-        Answer::Done,
-        Answer::Woken(None),
+    let lines = [
+        (OneshotCall::Receive, Answer::Made(Slot(0))),
+        (OneshotCall::Receive, Answer::Made(Slot(1))),
+        (OneshotCall::Send(5), Answer::Done),
+        (OneshotCall::Close, Answer::Already),
+        (OneshotCall::Poll(Slot(0), 1), Answer::Item(5)),
+        (OneshotCall::Poll(Slot(1), 2), Answer::Item(5)),
+        (OneshotCall::Cancel(Slot(1)), Answer::Done),
+        (OneshotCall::NextWake, Answer::Woken(None)),
     ];
-    assert_eq!(rt; &out.as_slice()[3..], wanted.as_slice());
-    Primitive::show(&channel);
+    assert!(rt; answers::<OneshotBroadcastState<u32, u64>>(rt.alloc(), (), lines.as_slice())?);
     Ok(())
 }
 
 #[test]
 fn a_state_broadcast_gives_the_newest(rt: HostRuntime) -> Result<(), Fail> {
-    let mut channel: StateBroadcastState<u32, u64> = StateBroadcastState::open(rt.alloc(), ())?;
-    let mut out = Vec::new(rt.alloc());
-    let calls = vec![in rt.alloc();
-        StateCall::Send(5),
-        StateCall::Send(6),
-        StateCall::TryReceive(StateId::new()),
-        StateCall::Receive(StateId::new()),
-        StateCall::Poll(Slot(0), 1),
-        StateCall::Cancel(Slot(0)),
-        StateCall::Close,
-        StateCall::NextWake,
-    ]?;
-    run(&mut channel, calls, &mut out)?;
-    let newest = StateId::from_value(2);
-    let wanted = [
-        Answer::State(newest, 6),
-        Answer::Made(Slot(0)),
-        Answer::State(newest, 6),
-        Answer::Done,
-        Answer::Newly,
-        Answer::Woken(None),
+    let newest = Answer::State(StateId::from_value(2), 6);
+    let lines = [
+        (StateCall::Send(5), Answer::Done),
+        (StateCall::Send(6), Answer::Done),
+        (StateCall::TryReceive(StateId::new()), newest),
+        (StateCall::Receive(StateId::new()), Answer::Made(Slot(0))),
+        (StateCall::Poll(Slot(0), 1), newest),
+        (StateCall::Cancel(Slot(0)), Answer::Done),
+        (StateCall::Close, Answer::Newly),
+        (StateCall::NextWake, Answer::Woken(None)),
     ];
-    assert_eq!(rt; &out.as_slice()[2..], wanted.as_slice());
-    Primitive::show(&channel);
+    assert!(rt; answers::<StateBroadcastState<u32, u64>>(rt.alloc(), (), lines.as_slice())?);
     Ok(())
 }
 

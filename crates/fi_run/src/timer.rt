@@ -148,7 +148,7 @@ pub fn every_run_of_a_timer<W: Drop>()
 #[cfg(test)]
 mod tests {
     use super::*;
-    use crate::runs::run;
+    use crate::tests::answers;
     use std::test::Fail;
 
     const A: Slot = Slot(0);
@@ -156,21 +156,6 @@ mod tests {
     const B: Slot = Slot(1);
 
     const C: Slot = Slot(2);
-
-    // A new timer answers the calls of these rows so.
-    fn answers(alloc: Global, rows: &[(TimerCall<u64>, Answer<u64, u64>)]) -> Result<bool, Fail> {
-        let mut timer: TimerState<u64> = TimerState::open(alloc, ())?;
-        let mut calls = Vec::new(alloc);
-        let mut wanted = Vec::new(alloc);
-        for (call, answer) in rows.iter() {
-            calls.push(*call)?;
-            wanted.push(*answer)?;
-        }
-        let mut out = Vec::new(alloc);
-        run(&mut timer, calls, &mut out)?;
-        Primitive::show(&timer);
-        Ok(out.as_slice() == wanted.as_slice())
-    }
 
     #[test]
     fn timer_expirations(rt: HostRuntime) -> Result<(), Fail> {
@@ -201,7 +186,7 @@ mod tests {
             (TimerCall::NextWake, Answer::Woken(Some(3))),
             (TimerCall::NextWake, Answer::Woken(None)),
         ];
-        assert!(rt; answers(rt.alloc(), rows.as_slice())?);
+        assert!(rt; answers::<TimerState<u64>>(rt.alloc(), (), rows.as_slice())?);
         Ok(())
     }
 
@@ -219,7 +204,7 @@ mod tests {
             (TimerCall::NextWake, Answer::Woken(Some(1))),
             (TimerCall::Poll(A, u64::MAX, 1), Answer::Ready),
         ];
-        assert!(rt; answers(rt.alloc(), rows.as_slice())?);
+        assert!(rt; answers::<TimerState<u64>>(rt.alloc(), (), rows.as_slice())?);
         Ok(())
     }
 
@@ -246,7 +231,7 @@ mod tests {
             (TimerCall::Cancel(A), Answer::Refused(Fault::NoSlot)),
             (TimerCall::Poll(A, 0, 1), Answer::Refused(Fault::NoSlot)),
         ];
-        assert!(rt; answers(rt.alloc(), rows.as_slice())?);
+        assert!(rt; answers::<TimerState<u64>>(rt.alloc(), (), rows.as_slice())?);
         Ok(())
     }
 
@@ -270,7 +255,7 @@ mod tests {
             (TimerCall::NextWake, Answer::Woken(Some(3))),
             (TimerCall::Poll(A, 0, 3), Answer::Ready),
         ];
-        assert!(rt; answers(rt.alloc(), rows.as_slice())?);
+        assert!(rt; answers::<TimerState<u64>>(rt.alloc(), (), rows.as_slice())?);
         Ok(())
     }
 
@@ -284,7 +269,7 @@ mod tests {
             (TimerCall::Poll(A, 5, 1), Answer::Pending),
             (TimerCall::Next, Answer::Moment(Some(6))),
         ];
-        assert!(rt; answers(rt.alloc(), rows.as_slice())?);
+        assert!(rt; answers::<TimerState<u64>>(rt.alloc(), (), rows.as_slice())?);
         every_run_of_a_timer::<u64>();
         Ok(())
     }

@@ -28,7 +28,6 @@ use std::process::Abort;
 use std::random::RandomSource;
 use std::sync::Wait;
 use std::sync::atomic::{AtomicU64, Ordering};
-use std::test::Fail;
 use std::thread;
 use std::thread::Threads;
 use std::time::Duration;
@@ -107,8 +106,8 @@ fn are_woken<R: Wait + Abort>(rt: &R, tasks: &Queue, expected: &[usize]) -> bool
 }
 
 #[test]
-fn event_set_and_reset(rt: HostRuntime) -> Result<(), Fail> {
-    let tasks = &Queue::new(&rt, Doorbell::spinning())?;
+fn event_set_and_reset(rt: HostRuntime) {
+    let tasks = &Queue::new(&rt, Doorbell::spinning()).expect(&rt, "memory");
     let event = ManualResetEvent::new(rt.alloc(), rt, false);
     assert!(rt; !event.is_set());
     let (mut w, first) = registered(&rt, tasks, &event);
@@ -121,12 +120,11 @@ fn event_set_and_reset(rt: HostRuntime) -> Result<(), Fail> {
     let (polled, _) = poll_once(&rt, tasks, &mut w);
     assert!(rt; polled == Poll::Ready(Ok(())) && w.is_terminated());
     let (_v, _) = registered(&rt, tasks, &event);
-    Ok(())
 }
 
 #[test]
-fn event_cancels(rt: HostRuntime) -> Result<(), Fail> {
-    let tasks = &Queue::new(&rt, Doorbell::spinning())?;
+fn event_cancels(rt: HostRuntime) {
+    let tasks = &Queue::new(&rt, Doorbell::spinning()).expect(&rt, "memory");
     let event = ManualResetEvent::new(rt.alloc(), rt, false);
     let (_a, first) = registered(&rt, tasks, &event);
     let (b, second) = registered(&rt, tasks, &event);
@@ -141,12 +139,11 @@ fn event_cancels(rt: HostRuntime) -> Result<(), Fail> {
     assert!(rt; are_woken(&rt, tasks, &[first, third, fifth]));
     let (polled, _) = poll_once(&rt, tasks, &mut c);
     assert_eq!(rt; polled, Poll::Ready(Ok(())));
-    Ok(())
 }
 
 #[test]
-fn event_newest_waker(rt: HostRuntime) -> Result<(), Fail> {
-    let tasks = &Queue::new(&rt, Doorbell::spinning())?;
+fn event_newest_waker(rt: HostRuntime) {
+    let tasks = &Queue::new(&rt, Doorbell::spinning()).expect(&rt, "memory");
     let event = ManualResetEvent::new(rt.alloc(), rt, false);
     let (mut w, _) = registered(&rt, tasks, &event);
     let (polled, second) = poll_once(&rt, tasks, &mut w);
@@ -155,27 +152,25 @@ fn event_newest_waker(rt: HostRuntime) -> Result<(), Fail> {
     assert!(rt; are_woken(&rt, tasks, &[second]));
     let (polled, _) = poll_once(&rt, tasks, &mut w);
     assert_eq!(rt; polled, Poll::Ready(Ok(())));
-    Ok(())
 }
 
 // A thread-safe `set` wakes before it returns, so no wake is held back. What holds here as there: whichever task polls a
 // told wait, it is ready, and that poll wakes nobody.
 #[test]
-fn event_held_wake(rt: HostRuntime) -> Result<(), Fail> {
-    let tasks = &Queue::new(&rt, Doorbell::spinning())?;
+fn event_held_wake(rt: HostRuntime) {
+    let tasks = &Queue::new(&rt, Doorbell::spinning()).expect(&rt, "memory");
     let event = ManualResetEvent::new(rt.alloc(), rt, false);
     let (mut w, first) = registered(&rt, tasks, &event);
     event.set();
     assert!(rt; are_woken(&rt, tasks, &[first]));
     let (polled, _) = poll_once(&rt, tasks, &mut w);
     assert!(rt; polled == Poll::Ready(Ok(())) && are_woken(&rt, tasks, &[]));
-    Ok(())
 }
 
 // A poll after the end stays pending and changes nothing of the event.
 #[test]
-fn event_ended_wait(rt: HostRuntime) -> Result<(), Fail> {
-    let tasks = &Queue::new(&rt, Doorbell::spinning())?;
+fn event_ended_wait(rt: HostRuntime) {
+    let tasks = &Queue::new(&rt, Doorbell::spinning()).expect(&rt, "memory");
     let event = ManualResetEvent::new(rt.alloc(), rt, true);
     let mut w = event.wait().expect(&rt, "memory");
     let (polled, _) = poll_once(&rt, tasks, &mut w);
@@ -186,12 +181,11 @@ fn event_ended_wait(rt: HostRuntime) -> Result<(), Fail> {
     assert!(rt; polled.is_pending() && w.is_terminated() && !event.is_set());
     event.set();
     assert!(rt; are_woken(&rt, tasks, &[other]));
-    Ok(())
 }
 
 #[test]
-fn event_cancel_told(rt: HostRuntime) -> Result<(), Fail> {
-    let tasks = &Queue::new(&rt, Doorbell::spinning())?;
+fn event_cancel_told(rt: HostRuntime) {
+    let tasks = &Queue::new(&rt, Doorbell::spinning()).expect(&rt, "memory");
     let event = ManualResetEvent::new(rt.alloc(), rt, false);
     let (a, first) = registered(&rt, tasks, &event);
     let (mut b, second) = registered(&rt, tasks, &event);
@@ -203,13 +197,12 @@ fn event_cancel_told(rt: HostRuntime) -> Result<(), Fail> {
     assert!(rt; are_woken(&rt, tasks, &[]));
     let (polled, _) = poll_once(&rt, tasks, &mut b);
     assert_eq!(rt; polled, Poll::Ready(Ok(())));
-    Ok(())
 }
 
 // A wait that is dropped while it is registered is not woken by a later `set`, and one that was not polled wakes nobody.
 #[test]
-fn a_dropped_wait_is_unregistered(rt: HostRuntime) -> Result<(), Fail> {
-    let tasks = &Queue::new(&rt, Doorbell::spinning())?;
+fn a_dropped_wait_is_unregistered(rt: HostRuntime) {
+    let tasks = &Queue::new(&rt, Doorbell::spinning()).expect(&rt, "memory");
     let event = ManualResetEvent::new(rt.alloc(), rt, false);
     for _ in 0..100 {
         let (wait, task) = registered(&rt, tasks, &event);
@@ -220,12 +213,11 @@ fn a_dropped_wait_is_unregistered(rt: HostRuntime) -> Result<(), Fail> {
     }
     event.set();
     assert!(rt; are_woken(&rt, tasks, &[]));
-    Ok(())
 }
 
 #[test]
-fn a_pending_poll_by_the_same_task_wakes_nobody(rt: HostRuntime) -> Result<(), Fail> {
-    let task = MockTask::new(&rt)?;
+fn a_pending_poll_by_the_same_task_wakes_nobody(rt: HostRuntime) {
+    let task = MockTask::new(&rt).expect(&rt, "memory");
     let event = ManualResetEvent::new(rt.alloc(), rt, false);
     let mut wait = event.wait().expect(&rt, "memory");
     for _ in 0..4 {
@@ -234,7 +226,6 @@ fn a_pending_poll_by_the_same_task_wakes_nobody(rt: HostRuntime) -> Result<(), F
     event.set();
     assert!(rt; task.is_woken());
     assert!(rt; task.poll(&mut wait).is_ready() && !task.is_woken());
-    Ok(())
 }
 
 // Counts the polls of a future.
@@ -262,7 +253,7 @@ impl<F: Future> Future for Counting<'_, F> {
 
 // A task that waits for two events is polled when it starts, and at most twice for each event.
 #[test]
-fn a_join_does_not_spin(rt: HostRuntime) -> Result<(), Fail> {
+fn a_join_does_not_spin(rt: HostRuntime) {
     let first = &ManualResetEvent::new(rt.alloc(), rt, false);
     let second = &ManualResetEvent::new(rt.alloc(), rt, false);
     let polls = &AtomicU64::new(0);
@@ -281,7 +272,6 @@ fn a_join_does_not_spin(rt: HostRuntime) -> Result<(), Fail> {
     assert_eq!(*rt; done, Some(true));
     let count = polls.load(Ordering::SeqCst);
     assert!(*rt; count <= 5, "{count} polls");
-    Ok(())
 }
 
 // Whether so many polls were made in the end. It looks a bounded number of times.
@@ -297,7 +287,7 @@ fn were_polled(polls: &AtomicU64, count: u64) -> bool {
 
 // The event is set once the wait is registered.
 #[test]
-fn an_executor_waits(rt: HostRuntime) -> Result<(), Fail> {
+fn an_executor_waits(rt: HostRuntime) {
     let event = &ManualResetEvent::new(rt.alloc(), rt, false);
     let polls = &AtomicU64::new(0);
     let rt = &rt;
@@ -313,7 +303,6 @@ fn an_executor_waits(rt: HostRuntime) -> Result<(), Fail> {
     let (answer, was_polled) = thread::join(rt, wait, setter);
     assert_eq!(*rt; answer, Some(Ok(())));
     assert!(*rt; was_polled);
-    Ok(())
 }
 
 fn meet<R: Wait>(mine: &ManualResetEvent<R>, other: &ManualResetEvent<R>, task: &MockTask) -> bool {
@@ -331,18 +320,17 @@ fn meet<R: Wait>(mine: &ManualResetEvent<R>, other: &ManualResetEvent<R>, task: 
 }
 
 #[test]
-fn two_threads_meet(rt: HostRuntime) -> Result<(), Fail> {
+fn two_threads_meet(rt: HostRuntime) {
     let first = &ManualResetEvent::new(rt.alloc(), rt, false);
     let second = &ManualResetEvent::new(rt.alloc(), rt, false);
-    let a = &MockTask::new(&rt)?;
-    let b = &MockTask::new(&rt)?;
+    let a = &MockTask::new(&rt).expect(&rt, "memory");
+    let b = &MockTask::new(&rt).expect(&rt, "memory");
     let (left, right) = thread::join(
         &rt,
         move || meet(first, second, a),
         move || meet(second, first, b),
     );
     assert!(rt; left && right);
-    Ok(())
 }
 
 fn sends<T: Send>(value: T) -> T {
@@ -403,7 +391,7 @@ where
 
 // Three workers wait, and once all are registered one thread tells them to stop.
 #[test]
-fn shutdown_signal(rt: HostRuntime) -> Result<(), Fail> {
+fn shutdown_signal(rt: HostRuntime) {
     let rt = &rt;
     let shutdown = &ManualResetEvent::new(rt.alloc(), *rt, false);
     let stopped = &AtomicU64::new(0);
@@ -422,5 +410,4 @@ fn shutdown_signal(rt: HostRuntime) -> Result<(), Fail> {
     });
     assert_eq!(*rt; stopped.load(Ordering::SeqCst), 3);
     assert!(*rt; polls.load(Ordering::SeqCst) >= 6);
-    Ok(())
 }

@@ -2,7 +2,6 @@
 use crate::{LocalChannel, LocalUnbufferedChannel, TryReceiveError, TrySendError};
 use fi_parts::CloseStatus;
 use futures::task::Poll;
-use std::test::Fail;
 
 #[test]
 fn channel_refusals(rt: HostRuntime) {
@@ -20,39 +19,37 @@ fn channel_refusals(rt: HostRuntime) {
 }
 
 #[test]
-fn a_local_channel(rt: HostRuntime) -> Result<(), Fail> {
+fn a_local_channel(rt: HostRuntime) {
     let mut channel: LocalChannel<u64, 1, u64> = LocalChannel::new(rt.alloc());
-    let mut send = channel.send(5).ok().ok_or("room")?;
+    let mut send = channel.send(5).expect(&rt, "room");
     let sent = send.poll(&mut channel, 1);
     let is_ended = send.is_terminated();
     let left = send.cancel(&mut channel);
-    let mut receive = channel.receive().ok().ok_or("room")?;
+    let mut receive = channel.receive().expect(&rt, "room");
     let received = receive.poll(&mut channel, 2);
     receive.cancel(&mut channel);
     assert_eq!(rt; sent, Poll::Ready(Ok(())));
     assert!(rt; is_ended);
     assert_eq!(rt; left, None);
     assert_eq!(rt; received, Poll::Ready(Ok(Some(5))));
-    Ok(())
 }
 
 #[test]
-fn an_unbuffered_stream(rt: HostRuntime) -> Result<(), Fail> {
+fn an_unbuffered_stream(rt: HostRuntime) {
     let mut channel: LocalUnbufferedChannel<u64, u64> = LocalUnbufferedChannel::new(rt.alloc());
-    let mut stream = channel.stream().ok().ok_or("room")?;
+    let mut stream = channel.stream().expect(&rt, "room");
     let answer = stream.poll_next(&mut channel, 2);
     let is_ended = stream.is_terminated();
     stream.cancel(&mut channel);
     assert_eq!(rt; answer, Poll::Pending);
     assert!(rt; !is_ended);
-    Ok(())
 }
 
 #[test]
-fn a_stream_of_a_closed_channel(rt: HostRuntime) -> Result<(), Fail> {
+fn a_stream_of_a_closed_channel(rt: HostRuntime) {
     let mut channel: LocalUnbufferedChannel<u64, u64> = LocalUnbufferedChannel::new(rt.alloc());
     assert_eq!(rt; channel.close(), CloseStatus::NewlyClosed);
-    let mut stream = channel.stream().ok().ok_or("room")?;
+    let mut stream = channel.stream().expect(&rt, "room");
     let last = stream.poll_next(&mut channel, 2);
     let again = stream.poll_next(&mut channel, 2);
     let is_ended = stream.is_terminated();
@@ -60,5 +57,4 @@ fn a_stream_of_a_closed_channel(rt: HostRuntime) -> Result<(), Fail> {
     assert_eq!(rt; last, Poll::Ready(None));
     assert_eq!(rt; again, Poll::Ready(None));
     assert!(rt; is_ended);
-    Ok(())
 }

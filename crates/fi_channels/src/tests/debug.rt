@@ -5,7 +5,6 @@ use crate::{
 };
 use std::alloc::Global;
 use std::fmt;
-use std::test::Fail;
 
 fn shows<D: fmt::Debug>(alloc: Global, value: &D, wanted: &str) -> bool {
     match format!(in alloc; "{value:?}") {
@@ -15,86 +14,76 @@ fn shows<D: fmt::Debug>(alloc: Global, value: &D, wanted: &str) -> bool {
 }
 
 #[test]
-fn an_event_shows_its_name(rt: HostRuntime) -> Result<(), Fail> {
+fn an_event_shows_its_name(rt: HostRuntime) {
     let event: EventState<u64> = EventState::new(rt.alloc(), false);
     assert!(rt; shows(rt.alloc(), &event, "ManualResetEvent"));
-    Ok(())
 }
 
 #[test]
-fn a_oneshot_shows_its_name(rt: HostRuntime) -> Result<(), Fail> {
+fn a_oneshot_shows_its_name(rt: HostRuntime) {
     let channel: LocalOneshotChannel<u32, u64> = LocalOneshotChannel::new(rt.alloc());
     assert!(rt; shows(rt.alloc(), &channel, "GenericOneshotChannel"));
-    Ok(())
 }
 
 #[test]
-fn a_oneshot_broadcast_shows_its_name(rt: HostRuntime) -> Result<(), Fail> {
+fn a_oneshot_broadcast_shows_its_name(rt: HostRuntime) {
     let channel: LocalOneshotBroadcastChannel<u32, u64> = LocalOneshotBroadcastChannel::new(
         rt.alloc(),
     );
     assert!(rt; shows(rt.alloc(), &channel, "GenericOneshotBroadcastChannel"));
-    Ok(())
 }
 
 #[test]
-fn a_state_broadcast_shows_its_name(rt: HostRuntime) -> Result<(), Fail> {
+fn a_state_broadcast_shows_its_name(rt: HostRuntime) {
     let channel: LocalStateBroadcastChannel<u32, u64> = LocalStateBroadcastChannel::new(rt.alloc());
     assert!(rt; shows(rt.alloc(), &channel, "GenericStateBroadcastChannel"));
-    Ok(())
 }
 
 #[test]
-fn a_channel_shows_its_name(rt: HostRuntime) -> Result<(), Fail> {
+fn a_channel_shows_its_name(rt: HostRuntime) {
     let channel: LocalChannel<u32, 2, u64> = LocalChannel::new(rt.alloc());
     assert!(rt; shows(rt.alloc(), &channel, "Channel"));
-    Ok(())
 }
 
 #[test]
-fn ways_of_giving_show_their_names(rt: HostRuntime) -> Result<(), Fail> {
+fn ways_of_giving_show_their_names(rt: HostRuntime) {
     assert!(rt; shows(rt.alloc(), &TakesValue, "TakesValue"));
     assert!(rt; shows(rt.alloc(), &ClonesValue, "ClonesValue"));
-    Ok(())
 }
 
 #[test]
-fn a_wait_shows_its_name(rt: HostRuntime) -> Result<(), Fail> {
+fn a_wait_shows_its_name(rt: HostRuntime) {
     let mut event: EventState<u64> = EventState::new(rt.alloc(), false);
-    let wait = event.wait().ok().ok_or("room")?;
+    let wait = event.wait().expect(&rt, "room");
     let shown = shows(rt.alloc(), &wait, "GenericWaitForEventFuture");
     wait.cancel(&mut event);
     assert!(rt; shown);
-    Ok(())
 }
 
 #[test]
-fn a_receive_shows_its_name(rt: HostRuntime) -> Result<(), Fail> {
+fn a_receive_shows_its_name(rt: HostRuntime) {
     let mut channel: LocalOneshotChannel<u32, u64> = LocalOneshotChannel::new(rt.alloc());
-    let receive = channel.receive().ok().ok_or("room")?;
+    let receive = channel.receive().expect(&rt, "room");
     let shown = shows(rt.alloc(), &receive, "ChannelReceiveFuture");
     receive.cancel(&mut channel);
     assert!(rt; shown);
-    Ok(())
 }
 
 #[test]
-fn a_send_shows_its_name(rt: HostRuntime) -> Result<(), Fail> {
+fn a_send_shows_its_name(rt: HostRuntime) {
     let mut channel: LocalChannel<u32, 2, u64> = LocalChannel::new(rt.alloc());
-    let send = channel.send(5).ok().ok_or("room")?;
+    let send = channel.send(5).expect(&rt, "room");
     let shown = shows(rt.alloc(), &send, "ChannelSendFuture");
     let unsent = send.cancel(&mut channel);
     assert!(rt; shown);
     assert_eq!(rt; unsent, Some(5));
-    Ok(())
 }
 
 #[test]
-fn a_stream_shows_its_name(rt: HostRuntime) -> Result<(), Fail> {
+fn a_stream_shows_its_name(rt: HostRuntime) {
     let mut channel: LocalChannel<u32, 2, u64> = LocalChannel::new(rt.alloc());
-    let stream = channel.stream().ok().ok_or("room")?;
+    let stream = channel.stream().expect(&rt, "room");
     let shown = shows(rt.alloc(), &stream, "ChannelStream");
     stream.cancel(&mut channel);
     assert!(rt; shown);
-    Ok(())
 }

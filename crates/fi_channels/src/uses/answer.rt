@@ -3,7 +3,6 @@
 use crate::{ChannelReceiveAccess, LocalOneshotChannel};
 use fi_parts::{Fault, Slot};
 use futures::task::Poll;
-use std::test::Fail;
 
 /// The number of the task that asked.
 const ASKER: u64 = 7;
@@ -38,9 +37,9 @@ fn leave(asked: Slot, answer: &mut LocalOneshotChannel<u32, u64>) {
 }
 
 #[test]
-fn an_answer_comes_once(rt: HostRuntime) -> Result<(), Fail> {
+fn an_answer_comes_once(rt: HostRuntime) {
     let mut answer = LocalOneshotChannel::new(rt.alloc());
-    let asked = answer.claim_receive().ok().ok_or("room")?;
+    let asked = answer.claim_receive().expect(&rt, "room");
     assert_eq!(rt; learn(asked, &mut answer), Some(Poll::Pending));
     assert!(rt; work(12, &mut answer));
     assert_eq!(rt; answer.next_wake(), Some(ASKER));
@@ -51,15 +50,13 @@ fn an_answer_comes_once(rt: HostRuntime) -> Result<(), Fail> {
         !work(13, &mut answer),
         "one answer is all that the channel takes"
     );
-    Ok(())
 }
 
 #[test]
-fn a_worker_that_gives_up_is_noticed(rt: HostRuntime) -> Result<(), Fail> {
+fn a_worker_that_gives_up_is_noticed(rt: HostRuntime) {
     let mut answer = LocalOneshotChannel::new(rt.alloc());
-    let asked = answer.claim_receive().ok().ok_or("room")?;
+    let asked = answer.claim_receive().expect(&rt, "room");
     assert!(rt; work(70_000, &mut answer));
     assert_eq!(rt; learn(asked, &mut answer), Some(Poll::Ready(Ok(None))));
     leave(asked, &mut answer);
-    Ok(())
 }

@@ -4,7 +4,6 @@
 use crate::{ChannelReceiveAccess, ChannelSendAccess, LocalChannel};
 use fi_parts::{Fault, Slot};
 use futures::task::Poll;
-use std::test::Fail;
 
 /// The task of the first stage, and of the second.
 const SQUARES: u64 = 1;
@@ -114,16 +113,16 @@ impl Sum {
 }
 
 #[test]
-fn squares_are_added_up(rt: HostRuntime) -> Result<(), Fail> {
+fn squares_are_added_up(rt: HostRuntime) {
     let mut pipe: Pipe = LocalChannel::new(rt.alloc());
     let mut squares = Squares {
         next: 1,
         end: 6,
         sending: None,
     };
-    let mut sum = Sum::new(&mut pipe).ok().ok_or("room")?;
+    let mut sum = Sum::new(&mut pipe).expect(&rt, "room");
     sum.run(&mut pipe);
-    squares.run(&mut pipe).ok().ok_or("room")?;
+    squares.run(&mut pipe).expect(&rt, "room");
     for _ in 0..STEPS {
         let Some(task) = pipe.next_wake() else {
             break;
@@ -131,11 +130,10 @@ fn squares_are_added_up(rt: HostRuntime) -> Result<(), Fail> {
         if task == SUM {
             sum.run(&mut pipe);
         } else {
-            squares.run(&mut pipe).ok().ok_or("room")?;
+            squares.run(&mut pipe).expect(&rt, "room");
         }
     }
     assert!(rt; sum.is_done);
     assert_eq!(rt; sum.total, 55, "1 + 4 + 9 + 16 + 25");
     sum.leave(&mut pipe);
-    Ok(())
 }

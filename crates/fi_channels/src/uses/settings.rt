@@ -3,7 +3,6 @@
 use crate::{ChannelReceiveAccess, LocalStateBroadcastChannel};
 use fi_parts::{CloseStatus, Fault, Slot, StateId};
 use futures::task::Poll;
-use std::test::Fail;
 
 /// How many connections a server may hold.
 type Limit = u32;
@@ -59,7 +58,7 @@ impl Watcher {
 }
 
 #[test]
-fn watchers_see_the_newest_setting(rt: HostRuntime) -> Result<(), Fail> {
+fn watchers_see_the_newest_setting(rt: HostRuntime) {
     let mut settings = LocalStateBroadcastChannel::new(rt.alloc());
     let mut server = Watcher::new(1);
     let mut log = Watcher::new(2);
@@ -84,5 +83,4 @@ fn watchers_see_the_newest_setting(rt: HostRuntime) -> Result<(), Fail> {
     assert_eq!(rt; settings.close(), CloseStatus::NewlyClosed);
     assert_eq!(rt; settings.next_wake(), Some(1));
     assert_eq!(rt; server.follow(&mut settings), Ok(false));
-    Ok(())
 }

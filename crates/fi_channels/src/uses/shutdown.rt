@@ -3,8 +3,7 @@
 use crate::LocalManualResetEvent;
 use fi_parts::{Fault, Slot};
 use futures::task::Poll;
-use std::alloc::Global;
-use std::test::Fail;
+use std::alloc::{AllocError, Global};
 
 /// A worker that counts how often it has run.
 #[derive(Clone, Copy)]
@@ -51,7 +50,7 @@ fn run_woken(
     workers: &mut [Worker],
     shutdown: &mut LocalManualResetEvent<u64>,
     alloc: Global,
-) -> Result<Vec<u64>, Fail> {
+) -> Result<Vec<u64>, AllocError> {
     let mut order = Vec::new(alloc);
     for _ in 0..shutdown.wake_count() {
         let Some(number) = shutdown.next_wake() else {
@@ -68,12 +67,12 @@ fn run_woken(
 }
 
 #[test]
-fn workers_stop_in_the_order_in_which_they_began(rt: HostRuntime) -> Result<(), Fail> {
+fn workers_stop_in_the_order_in_which_they_began(rt: HostRuntime) {
     let mut shutdown = LocalManualResetEvent::new(rt.alloc(), false);
     let mut workers = [
-        Worker::new(1, &mut shutdown).ok().ok_or("room")?,
-        Worker::new(2, &mut shutdown).ok().ok_or("room")?,
-        Worker::new(3, &mut shutdown).ok().ok_or("room")?,
+        Worker::new(1, &mut shutdown).expect(&rt, "room"),
+        Worker::new(2, &mut shutdown).expect(&rt, "room"),
+        Worker::new(3, &mut shutdown).expect(&rt, "room"),
     ];
     for worker in workers.iter_mut() {
         worker.run(&mut shutdown);
@@ -85,7 +84,7 @@ fn workers_stop_in_the_order_in_which_they_began(rt: HostRuntime) -> Result<(), 
         "nobody is woken before the signal"
     );
     shutdown.set();
-    let order = run_woken(&mut workers, &mut shutdown, rt.alloc())?;
+    let order = run_woken(&mut workers, &mut shutdown, rt.alloc()).expect(&rt, "room");
     assert_eq!(rt; order.as_slice(), [1, 2, 3].as_slice());
     let [first, second, third] = workers;
     assert!(rt; first.has_stopped && second.has_stopped && third.has_stopped);
@@ -93,12 +92,11 @@ fn workers_stop_in_the_order_in_which_they_began(rt: HostRuntime) -> Result<(), 
     first.leave(&mut shutdown);
     second.leave(&mut shutdown);
     third.leave(&mut shutdown);
-    let mut late = Worker::new(4, &mut shutdown).ok().ok_or("room")?;
+    let mut late = Worker::new(4, &mut shutdown).expect(&rt, "room");
     late.run(&mut shutdown);
     assert!(rt;
         late.has_stopped,
         "who comes after the signal need not wait"
     );
     late.leave(&mut shutdown);
-    Ok(())
 }

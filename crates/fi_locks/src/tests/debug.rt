@@ -3,7 +3,6 @@ use crate::{LocalMutex, LocalSemaphore, LocalTimerService};
 use futures::task::Poll;
 use std::alloc::Global;
 use std::fmt;
-use std::test::Fail;
 
 fn shows<D: fmt::Debug>(alloc: Global, value: &D, wanted: &str) -> bool {
     match format!(in alloc; "{value:?}") {
@@ -13,30 +12,27 @@ fn shows<D: fmt::Debug>(alloc: Global, value: &D, wanted: &str) -> bool {
 }
 
 #[test]
-fn a_mutex_shows_whether_it_is_locked(rt: HostRuntime) -> Result<(), Fail> {
+fn a_mutex_shows_whether_it_is_locked(rt: HostRuntime) {
     let mutex: LocalMutex<u32, u64> = LocalMutex::new(rt.alloc(), 7, true);
     assert!(rt; shows(rt.alloc(), &mutex, "Mutex { is_locked: false }"));
-    Ok(())
 }
 
 #[test]
-fn a_semaphore_shows_its_free_permits(rt: HostRuntime) -> Result<(), Fail> {
+fn a_semaphore_shows_its_free_permits(rt: HostRuntime) {
     let semaphore: LocalSemaphore<u64> = LocalSemaphore::new(rt.alloc(), true, 3);
     assert!(rt; shows(rt.alloc(), &semaphore, "Semaphore { permits: 3 }"));
-    Ok(())
 }
 
 #[test]
-fn a_timer_shows_its_name(rt: HostRuntime) -> Result<(), Fail> {
+fn a_timer_shows_its_name(rt: HostRuntime) {
     let timer: LocalTimerService<u64> = LocalTimerService::new(rt.alloc());
     assert!(rt; shows(rt.alloc(), &timer, "TimerService"));
-    Ok(())
 }
 
 #[test]
-fn a_lock_and_its_guard_show_their_names(rt: HostRuntime) -> Result<(), Fail> {
+fn a_lock_and_its_guard_show_their_names(rt: HostRuntime) {
     let mut mutex: LocalMutex<u32, u64> = LocalMutex::new(rt.alloc(), 7, true);
-    let mut lock = mutex.lock().ok().ok_or("room")?;
+    let mut lock = mutex.lock().expect(&rt, "room");
     let shown = shows(rt.alloc(), &lock, "GenericMutexLockFuture");
     let mut guarded = false;
     if let Poll::Ready(guard) = lock.poll(&mut mutex, 1) {
@@ -46,13 +42,12 @@ fn a_lock_and_its_guard_show_their_names(rt: HostRuntime) -> Result<(), Fail> {
     lock.cancel(&mut mutex);
     assert!(rt; shown);
     assert!(rt; guarded);
-    Ok(())
 }
 
 #[test]
-fn a_future_and_its_permits_show_their_names(rt: HostRuntime) -> Result<(), Fail> {
+fn a_future_and_its_permits_show_their_names(rt: HostRuntime) {
     let mut semaphore: LocalSemaphore<u64> = LocalSemaphore::new(rt.alloc(), true, 3);
-    let mut future = semaphore.acquire(2).ok().ok_or("room")?;
+    let mut future = semaphore.acquire(2).expect(&rt, "room");
     let shown = shows(rt.alloc(), &future, "GenericSemaphoreAcquireFuture");
     let answer = future.poll(&mut semaphore, 1);
     future.cancel(&mut semaphore);
@@ -63,15 +58,13 @@ fn a_future_and_its_permits_show_their_names(rt: HostRuntime) -> Result<(), Fail
     }
     assert!(rt; shown);
     assert!(rt; held);
-    Ok(())
 }
 
 #[test]
-fn a_timer_future_shows_its_name(rt: HostRuntime) -> Result<(), Fail> {
+fn a_timer_future_shows_its_name(rt: HostRuntime) {
     let mut timer: LocalTimerService<u64> = LocalTimerService::new(rt.alloc());
-    let future = timer.deadline(10).ok().ok_or("room")?;
+    let future = timer.deadline(10).expect(&rt, "room");
     let shown = shows(rt.alloc(), &future, "LocalTimerFuture");
     future.cancel(&mut timer);
     assert!(rt; shown);
-    Ok(())
 }

@@ -1,32 +1,36 @@
 //! Wakers that a local future has no more use for are dropped: each is counted by its owners.
 use crate::{LocalMutex, LocalSemaphore, LocalTimerService};
 use futures::task::Poll;
+use std::process::Abort;
 use std::rc::Rc;
-use std::test::Fail;
 
 // The waker's owners while a future of a timer waits that was polled twice, and once it is cancelled.
 fn owners_of_a_wait(
+    rt: &impl Abort,
     timer: &mut LocalTimerService<Rc<u64>>,
     waker: &Rc<u64>,
-) -> Result<(usize, usize), Fail> {
-    let (first, second) = (waker.clone()?, waker.clone()?);
-    let mut wait = timer.deadline(5).ok().ok_or("room")?;
+) -> (usize, usize) {
+    let first = waker.clone().expect(rt, "room");
+    let second = waker.clone().expect(rt, "room");
+    let mut wait = timer.deadline(5).expect(rt, "room");
     let _ = wait.poll(timer, 1, first);
     if timer.can_poll(wait.slot()) {
         let _ = wait.poll(timer, 2, second);
     }
     let pending = Rc::strong_count(waker);
     wait.cancel(timer);
-    Ok((pending, Rc::strong_count(waker)))
+    (pending, Rc::strong_count(waker))
 }
 
 // The same of a lock of a locked mutex.
 fn owners_of_a_lock(
+    rt: &impl Abort,
     mutex: &mut LocalMutex<u64, Rc<u64>>,
     waker: &Rc<u64>,
-) -> Result<(usize, usize), Fail> {
-    let (first, second) = (waker.clone()?, waker.clone()?);
-    let mut lock = mutex.lock().ok().ok_or("room")?;
+) -> (usize, usize) {
+    let first = waker.clone().expect(rt, "room");
+    let second = waker.clone().expect(rt, "room");
+    let mut lock = mutex.lock().expect(rt, "room");
     if let Poll::Ready(guard) = lock.poll(mutex, first) {
         guard.unlock(mutex);
     }
@@ -37,16 +41,18 @@ fn owners_of_a_lock(
     }
     let pending = Rc::strong_count(waker);
     lock.cancel(mutex);
-    Ok((pending, Rc::strong_count(waker)))
+    (pending, Rc::strong_count(waker))
 }
 
 // The same of an acquire of a semaphore without permits.
 fn owners_of_an_acquire(
+    rt: &impl Abort,
     semaphore: &mut LocalSemaphore<Rc<u64>>,
     waker: &Rc<u64>,
-) -> Result<(usize, usize), Fail> {
-    let (first, second) = (waker.clone()?, waker.clone()?);
-    let mut acquire = semaphore.acquire(1).ok().ok_or("room")?;
+) -> (usize, usize) {
+    let first = waker.clone().expect(rt, "room");
+    let second = waker.clone().expect(rt, "room");
+    let mut acquire = semaphore.acquire(1).expect(rt, "room");
     if let Poll::Ready(releaser) = acquire.poll(semaphore, first) {
         releaser.give_back(semaphore);
     }
@@ -57,18 +63,27 @@ fn owners_of_an_acquire(
     }
     let pending = Rc::strong_count(waker);
     acquire.cancel(semaphore);
-    Ok((pending, Rc::strong_count(waker)))
+    (pending, Rc::strong_count(waker))
 }
 
 #[test]
-fn wakers_of_no_more_use_are_dropped(rt: HostRuntime) -> Result<(), Fail> {
-    let waker = Rc::new(rt.alloc(), 7u64)?;
+fn a_timer_drops_wakers_of_no_more_use(rt: HostRuntime) {
+    let waker = Rc::new(rt.alloc(), 7u64).expect(&rt, "room");
     let mut timer = LocalTimerService::new(rt.alloc());
-    assert_eq!(rt; owners_of_a_wait(&mut timer, &waker)?, (2, 1));
+    assert_eq!(rt; owners_of_a_wait(&rt, &mut timer, &waker), (2, 1));
+}
+
+#[test]
+fn a_mutex_drops_wakers_of_no_more_use(rt: HostRuntime) {
+    let waker = Rc::new(rt.alloc(), 7u64).expect(&rt, "room");
     let mut mutex = LocalMutex::new(rt.alloc(), 7, true);
     assert_eq!(rt; mutex.try_take(), Some(7));
-    assert_eq!(rt; owners_of_a_lock(&mut mutex, &waker)?, (2, 1));
+    assert_eq!(rt; owners_of_a_lock(&rt, &mut mutex, &waker), (2, 1));
+}
+
+#[test]
+fn a_semaphore_drops_wakers_of_no_more_use(rt: HostRuntime) {
+    let waker = Rc::new(rt.alloc(), 7u64).expect(&rt, "room");
     let mut semaphore = LocalSemaphore::new(rt.alloc(), true, 0);
-    assert_eq!(rt; owners_of_an_acquire(&mut semaphore, &waker)?, (2, 1));
-    Ok(())
+    assert_eq!(rt; owners_of_an_acquire(&rt, &mut semaphore, &waker), (2, 1));
 }

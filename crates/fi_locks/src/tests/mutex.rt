@@ -2,8 +2,6 @@
 use crate::{LocalMutex, MutexState};
 use fi_parts::Slot;
 use futures::task::Poll;
-use std::alloc::Global;
-use std::test::Fail;
 
 // Polls a future that may be polled; None where none may.
 fn poll(mutex: &mut MutexState<u64, u64>, slot: Slot, waker: u64) -> Option<Poll<u64>> {
@@ -14,49 +12,28 @@ fn poll(mutex: &mut MutexState<u64, u64>, slot: Slot, waker: u64) -> Option<Poll
     Some(answer)
 }
 
-// Cancels a live future, and takes out all wakers that are named then.
-fn cancel(mutex: &mut MutexState<u64, u64>, slot: Slot, alloc: Global) -> Result<Vec<u64>, Fail> {
-    if mutex.is_live(slot) {
-        mutex.remove_waiter(slot);
-    }
-    wakes(mutex, alloc)
-}
-
-// Unlocks the mutex with this value, and takes out all wakers that are named then.
-fn unlock(mutex: &mut MutexState<u64, u64>, value: u64, alloc: Global) -> Result<Vec<u64>, Fail> {
-    mutex.unlock(value).ok().ok_or("it was not locked")?;
-    wakes(mutex, alloc)
-}
-
-fn wakes(mutex: &mut MutexState<u64, u64>, alloc: Global) -> Result<Vec<u64>, Fail> {
-    let mut woken = Vec::new(alloc);
-    for _ in 0..mutex.wake_count() {
-        if let Some(waker) = mutex.next_wake() {
-            woken.push(waker)?;
-        }
-    }
-    Ok(woken)
+// The wakers that are named now, all taken out; at most two are.
+fn woken(mutex: &mut MutexState<u64, u64>) -> (Option<u64>, Option<u64>) {
+    (mutex.next_wake(), mutex.next_wake())
 }
 
 #[test]
-fn a_told_cancel_tells_the_next_while_locked(rt: HostRuntime) -> Result<(), Fail> {
+fn a_told_cancel_tells_the_next_while_locked(rt: HostRuntime) {
     let mut mutex = MutexState::new(rt.alloc(), 7, false);
     assert_eq!(rt; mutex.try_take(), Some(7));
-    let a = mutex.claim_lock().ok().ok_or("room")?;
-    let b = mutex.claim_lock().ok().ok_or("room")?;
+    let a = mutex.claim_lock().expect(&rt, "room");
+    let b = mutex.claim_lock().expect(&rt, "room");
     assert_eq!(rt; poll(&mut mutex, a, 1), Some(Poll::Pending));
     assert_eq!(rt; poll(&mut mutex, b, 2), Some(Poll::Pending));
-    assert_eq!(rt;
-        unlock(&mut mutex, 8, rt.alloc())?.as_slice(),
-        [1].as_slice()
-    );
+    assert_eq!(rt; mutex.unlock(8), Ok(()));
+    assert_eq!(rt; woken(&mut mutex), (Some(1), None));
     assert_eq!(rt; mutex.try_take(), Some(8));
-    assert_eq!(rt;
-        cancel(&mut mutex, a, rt.alloc())?.as_slice(),
-        [2].as_slice()
-    );
+    assert!(rt; mutex.is_live(a));
+    if mutex.is_live(a) {
+        mutex.remove_waiter(a);
+    }
+    assert_eq!(rt; woken(&mut mutex), (Some(2), None));
     assert_eq!(rt; poll(&mut mutex, b, 2), Some(Poll::Pending));
-    Ok(())
 }
 
 #[test]
@@ -74,9 +51,9 @@ fn an_unlock_of_a_free_mutex_hands_the_value_back(rt: HostRuntime) {
 }
 
 #[test]
-fn a_guard_writes_the_value(rt: HostRuntime) -> Result<(), Fail> {
+fn a_guard_writes_the_value(rt: HostRuntime) {
     let mut mutex: LocalMutex<u64, u64> = LocalMutex::new(rt.alloc(), 7, true);
-    let mut future = mutex.lock().ok().ok_or("room")?;
+    let mut future = mutex.lock().expect(&rt, "room");
     let was_ended = future.is_terminated();
     let slot = future.slot();
     let mut read = 0;
@@ -92,31 +69,32 @@ fn a_guard_writes_the_value(rt: HostRuntime) -> Result<(), Fail> {
     assert!(rt; is_ended);
     assert!(rt; !mutex.is_live(slot));
     assert_eq!(rt; mutex.try_take(), Some(8));
-    Ok(())
+}
+
+// The displaced and the unused waker that a poll leaves, if the future can be polled.
+fn leftover(
+    mutex: &mut MutexState<u64, u64>,
+    slot: Slot,
+    waker: u64,
+) -> Option<(Option<u64>, Option<u64>)> {
+    if !mutex.can_poll(slot) {
+        return None;
+    }
+    let (_, leftover) = mutex.try_wait(slot, waker);
+    Some((leftover.displaced, leftover.unused))
 }
 
 #[test]
-fn wakers_come_back(rt: HostRuntime) -> Result<(), Fail> {
+fn wakers_come_back(rt: HostRuntime) {
     let mut mutex = MutexState::new(rt.alloc(), 7, true);
-    let value = mutex.try_take();
-    let slot = mutex.claim_lock().ok().ok_or("room")?;
-    let mut left = Vec::new(rt.alloc());
-    for waker in [1_u64, 2] {
-        if mutex.can_poll(slot) {
-            let (_, leftover) = mutex.try_wait(slot, waker);
-            left.push((leftover.displaced, leftover.unused))?;
-        }
-    }
-    mutex.unlock(8).ok().ok_or("it was not locked")?;
-    if mutex.can_poll(slot) {
-        let (_, leftover) = mutex.try_wait(slot, 3);
-        left.push((leftover.displaced, leftover.unused))?;
-    }
-    let wanted = [(None, None), (Some(1), None), (Some(2), Some(3))];
-    assert_eq!(rt; value, Some(7));
-    assert_eq!(rt; left.as_slice(), wanted.as_slice());
-    assert!(rt; mutex.is_live(slot) && !mutex.can_poll(slot));
-    Ok(())
+    assert_eq!(rt; mutex.try_take(), Some(7));
+    let slot = mutex.claim_lock().expect(&rt, "room");
+    assert_eq!(rt; leftover(&mut mutex, slot, 1), Some((None, None)));
+    assert_eq!(rt; leftover(&mut mutex, slot, 2), Some((Some(1), None)));
+    assert_eq!(rt; mutex.unlock(8), Ok(()));
+    assert_eq!(rt; leftover(&mut mutex, slot, 3), Some((Some(2), Some(3))));
+    assert_eq!(rt; leftover(&mut mutex, slot, 4), None, "it has ended");
+    assert!(rt; mutex.is_live(slot));
 }
 
 // Makes four futures, polls three and cancels one of these.

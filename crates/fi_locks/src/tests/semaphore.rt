@@ -2,12 +2,11 @@
 
 use crate::LocalSemaphore;
 use futures::task::Poll;
-use std::test::Fail;
 
 #[test]
-fn a_local_future_and_its_permits(rt: HostRuntime) -> Result<(), Fail> {
+fn a_local_future_and_its_permits(rt: HostRuntime) {
     let mut semaphore: LocalSemaphore<u64> = LocalSemaphore::new(rt.alloc(), true, 3);
-    let mut future = semaphore.acquire(2).ok().ok_or("room")?;
+    let mut future = semaphore.acquire(2).expect(&rt, "room");
     let was_ended = future.is_terminated();
     let answer = future.poll(&mut semaphore, 1);
     let is_ended = future.is_terminated();
@@ -20,7 +19,6 @@ fn a_local_future_and_its_permits(rt: HostRuntime) -> Result<(), Fail> {
     assert!(rt; !was_ended && is_ended);
     assert_eq!(rt; count, 2);
     assert_eq!(rt; (semaphore.permits(), semaphore.held()), (3, 0));
-    Ok(())
 }
 
 #[test]
@@ -40,9 +38,9 @@ fn semaphore_disarm(rt: HostRuntime) {
 }
 
 #[test]
-fn a_waiting_future_is_told_and_leaves(rt: HostRuntime) -> Result<(), Fail> {
+fn a_waiting_future_is_told_and_leaves(rt: HostRuntime) {
     let mut semaphore: LocalSemaphore<u64> = LocalSemaphore::new(rt.alloc(), true, 1);
-    let mut future = semaphore.acquire(2).ok().ok_or("room")?;
+    let mut future = semaphore.acquire(2).expect(&rt, "room");
     let answer = future.poll(&mut semaphore, 1);
     let released = semaphore.release(1);
     let woken = semaphore.next_wake();
@@ -53,5 +51,4 @@ fn a_waiting_future_is_told_and_leaves(rt: HostRuntime) -> Result<(), Fail> {
     }
     assert_eq!(rt; (released, woken), (Ok(()), Some(1)));
     assert_eq!(rt; semaphore.permits(), 2);
-    Ok(())
 }

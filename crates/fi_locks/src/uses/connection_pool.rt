@@ -3,8 +3,7 @@
 use crate::LocalSemaphore;
 use fi_parts::{Fault, Slot};
 use futures::task::Poll;
-use std::alloc::Global;
-use std::test::Fail;
+use std::alloc::{AllocError, Global};
 
 /// A connection to a server: here only its number.
 #[derive(Clone, Copy, Debug, PartialEq, Eq, Drop)]
@@ -51,7 +50,7 @@ impl Pool {
     }
 
     /// Puts a connection back, which wakes the task whose turn is next.
-    fn put_back(&mut self, connection: Connection) -> Result<(), Fail> {
+    fn put_back(&mut self, connection: Connection) -> Result<(), AllocError> {
         self.idle.push(connection)?;
         if self.permits.held() > 0 {
             self.permits.give_back(1);
@@ -61,18 +60,18 @@ impl Pool {
 }
 
 #[test]
-fn two_connections_for_four_tasks(rt: HostRuntime) -> Result<(), Fail> {
-    let connections = vec![in rt.alloc(); Connection(70), Connection(80)]?;
+fn two_connections_for_four_tasks(rt: HostRuntime) {
+    let connections = vec![in rt.alloc(); Connection(70), Connection(80)].expect(&rt, "room");
     let mut pool = Pool::new(rt.alloc(), connections);
-    let first = pool.ask().ok().ok_or("room")?;
-    let second = pool.ask().ok().ok_or("room")?;
-    let third = pool.ask().ok().ok_or("room")?;
-    let fourth = pool.ask().ok().ok_or("room")?;
+    let first = pool.ask().expect(&rt, "room");
+    let second = pool.ask().expect(&rt, "room");
+    let third = pool.ask().expect(&rt, "room");
+    let fourth = pool.ask().expect(&rt, "room");
     assert_eq!(rt; pool.take(first, 1), Some(Connection(80)));
     assert_eq!(rt; pool.take(second, 2), Some(Connection(70)));
     assert_eq!(rt; pool.take(third, 3), None, "both are in use");
     assert_eq!(rt; pool.take(fourth, 4), None);
-    pool.put_back(Connection(80))?;
+    pool.put_back(Connection(80)).expect(&rt, "room");
     assert_eq!(rt; pool.permits.next_wake(), Some(3));
     pool.leave(third);
     assert_eq!(rt;
@@ -82,5 +81,4 @@ fn two_connections_for_four_tasks(rt: HostRuntime) -> Result<(), Fail> {
     );
     assert_eq!(rt; pool.take(fourth, 4), Some(Connection(80)));
     assert_eq!(rt; pool.permits.next_wake(), None);
-    Ok(())
 }

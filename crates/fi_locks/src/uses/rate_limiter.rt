@@ -4,7 +4,6 @@ use crate::{LocalSemaphore, LocalTimerService};
 use fi_parts::{Fault, Slot};
 use futures::task::Poll;
 use std::alloc::Global;
-use std::test::Fail;
 
 /// The task that refills the limiter.
 const REFILL: u64 = 0;
@@ -81,15 +80,13 @@ impl RateLimiter {
 }
 
 #[test]
-fn two_requests_in_each_period(rt: HostRuntime) -> Result<(), Fail> {
-    let mut limiter = RateLimiter::new(rt.alloc(), 2, 1_000, 0)
-        .ok()
-        .ok_or("room")?;
-    let first = limiter.request().ok().ok_or("room")?;
+fn two_requests_in_each_period(rt: HostRuntime) {
+    let mut limiter = RateLimiter::new(rt.alloc(), 2, 1_000, 0).expect(&rt, "room");
+    let first = limiter.request().expect(&rt, "room");
     assert!(rt; limiter.may_pass(first, 1));
-    let second = limiter.request().ok().ok_or("room")?;
+    let second = limiter.request().expect(&rt, "room");
     assert!(rt; limiter.may_pass(second, 2));
-    let third = limiter.request().ok().ok_or("room")?;
+    let third = limiter.request().expect(&rt, "room");
     assert!(rt; !limiter.may_pass(third, 3), "the third of this period");
     assert_eq!(rt; limiter.tick(999), Ok(()));
     assert_eq!(rt; limiter.permits.next_wake(), None);
@@ -98,5 +95,4 @@ fn two_requests_in_each_period(rt: HostRuntime) -> Result<(), Fail> {
     assert!(rt; limiter.may_pass(third, 3));
     assert_eq!(rt; limiter.permits.permits(), 1);
     assert_eq!(rt; limiter.timer.next_expiration(), Some(2_000));
-    Ok(())
 }

@@ -168,7 +168,7 @@ fn capacity_zero(rt: HostRuntime) {
 }
 
 #[test]
-fn array_buf(rt: HostRuntime) -> Result<(), Fail> {
+fn array_buf(rt: HostRuntime) {
     let mut buffer = ArrayBuf::<u32, 3>::new(rt.alloc());
     assert_eq!(rt; (buffer.capacity(), buffer.reserved()), (3, 0));
     put(&rt, &mut buffer, 1);
@@ -178,31 +178,33 @@ fn array_buf(rt: HostRuntime) -> Result<(), Fail> {
     assert_eq!(rt; take(&mut buffer), Some(2));
     assert_eq!(rt; (buffer.reserved(), buffer.is_empty()), (3, true));
     assert_eq!(rt;
-        format!(in rt.alloc(); "{buffer:?}")?.as_str(),
+        format!(in rt.alloc(); "{buffer:?}")
+            .expect(&rt, "memory")
+            .as_str(),
         "ArrayBuf { size: 0, cap: 3 }"
     );
-    Ok(())
 }
 
 #[test]
-fn fixed_heap_buf(rt: HostRuntime) -> Result<(), Fail> {
-    let mut buffer = FixedHeapBuf::with_capacity(rt.alloc(), 3)?;
+fn fixed_heap_buf(rt: HostRuntime) {
+    let mut buffer = FixedHeapBuf::with_capacity(rt.alloc(), 3).expect(&rt, "memory");
     assert_eq!(rt; (buffer.capacity(), buffer.reserved()), (3, 3));
     put(&rt, &mut buffer, 1);
     assert_eq!(rt; buffer.capacity(), 3);
     assert_eq!(rt; refill(&mut buffer, 2).ok(), Some(Some(1)));
     assert_eq!(rt;
-        format!(in rt.alloc(); "{buffer:?}")?.as_str(),
+        format!(in rt.alloc(); "{buffer:?}")
+            .expect(&rt, "memory")
+            .as_str(),
         "FixedHeapBuf { size: 1, cap: 3 }"
     );
     assert_eq!(rt; take(&mut buffer), Some(2));
     assert_eq!(rt; (buffer.reserved(), buffer.is_empty()), (3, true));
-    Ok(())
 }
 
 #[test]
-fn growing_heap_buf(rt: HostRuntime) -> Result<(), Fail> {
-    let mut buffer = GrowingHeapBuf::with_capacity(rt.alloc(), 10)?;
+fn growing_heap_buf(rt: HostRuntime) {
+    let mut buffer = GrowingHeapBuf::with_capacity(rt.alloc(), 10).expect(&rt, "memory");
     assert_eq!(rt; (buffer.capacity(), buffer.reserved()), (10, 0));
     for (item, reserved) in [
         (1, 4),
@@ -221,21 +223,22 @@ fn growing_heap_buf(rt: HostRuntime) -> Result<(), Fail> {
     assert_eq!(rt; buffer.capacity(), 10);
     assert_eq!(rt; refill(&mut buffer, 10).ok(), Some(Some(1)));
     assert_eq!(rt;
-        format!(in rt.alloc(); "{buffer:?}")?.as_str(),
+        format!(in rt.alloc(); "{buffer:?}")
+            .expect(&rt, "memory")
+            .as_str(),
         "GrowingHeapBuf { size: 9, limit: 10 }"
     );
     for item in [2, 3, 4, 5, 6, 7, 8, 9, 10] {
         assert_eq!(rt; take(&mut buffer), Some(item));
     }
     assert_eq!(rt; (buffer.reserved(), buffer.is_empty()), (10, true));
-    Ok(())
 }
 
 /// More than any address space has room for.
 const TOO_MANY: usize = 1 << 62;
 
 #[test]
-fn refused_for_memory(rt: HostRuntime) -> Result<(), Fail> {
+fn refused_for_memory(rt: HostRuntime) {
     assert_eq!(rt;
         ArrayBuf::<u32, TOO_MANY>::with_capacity(rt.alloc(), 1).err(),
         Some(Fault::NoMemory)
@@ -250,18 +253,20 @@ fn refused_for_memory(rt: HostRuntime) -> Result<(), Fail> {
         let NoRoom(back) = buffer.push(7).err().expect(&rt, "no memory");
         assert_eq!(rt; (back, buffer.len(), buffer.reserved()), (7, 0, 0));
     }
-    Ok(())
 }
 
 #[test]
-fn drops_each_item_once(rt: HostRuntime) -> Result<(), Fail> {
-    let item = Rc::new(rt.alloc(), 0)?;
-    let mut array = ArrayBuf::<Rc<i32>, 3>::with_capacity(rt.alloc(), 3)?;
-    let mut heap = GrowingHeapBuf::with_capacity(rt.alloc(), 3)?;
+fn drops_each_item_once(rt: HostRuntime) {
+    let item = Rc::new(rt.alloc(), 0).expect(&rt, "memory");
+    let mut array = ArrayBuf::<Rc<i32>, 3>::with_capacity(rt.alloc(), 3).expect(&rt, "memory");
+    let mut heap = GrowingHeapBuf::with_capacity(rt.alloc(), 3).expect(&rt, "memory");
     for _ in 0..3 {
         assert!(rt; array.can_push() && heap.can_push());
-        array.push(item.clone()?)?;
-        heap.push(item.clone()?)?;
+        array
+            .push(item.clone().expect(&rt, "memory"))
+            .expect(&rt, "memory");
+        heap.push(item.clone().expect(&rt, "memory"))
+            .expect(&rt, "memory");
     }
     assert_eq!(rt; Rc::strong_count(&item), 7);
     drop(take(&mut array));
@@ -270,16 +275,14 @@ fn drops_each_item_once(rt: HostRuntime) -> Result<(), Fail> {
     drop(array);
     drop(heap);
     assert_eq!(rt; Rc::strong_count(&item), 1);
-    Ok(())
 }
 
 #[test]
-fn desk_takes_what_fits(rt: HostRuntime) -> Result<(), Fail> {
+fn desk_takes_what_fits(rt: HostRuntime) {
     let mut desk = Desk {
-        buffer: FixedHeapBuf::with_capacity(rt.alloc(), 1)?,
+        buffer: FixedHeapBuf::with_capacity(rt.alloc(), 1).expect(&rt, "memory"),
         taken: 0,
     };
     assert!(rt; desk.offer(1).is_ok() && desk.offer(2).is_err());
     assert_eq!(rt; desk.taken, 1);
-    Ok(())
 }

@@ -5,7 +5,6 @@ use crate::{
 };
 use std::alloc::Global;
 use std::fmt;
-use std::test::Fail;
 
 fn shows<D: fmt::Debug>(alloc: Global, value: &D, wanted: &str) -> bool {
     match format!(in alloc; "{value:?}") {
@@ -15,63 +14,55 @@ fn shows<D: fmt::Debug>(alloc: Global, value: &D, wanted: &str) -> bool {
 }
 
 #[test]
-fn a_list_shows_its_name(rt: HostRuntime) -> Result<(), Fail> {
+fn a_list_shows_its_name(rt: HostRuntime) {
     let list = LinkedList::<u32>::new(rt.alloc());
     assert!(rt; shows(rt.alloc(), &list, "LinkedList"));
-    Ok(())
 }
 
 #[test]
-fn a_drain_shows_its_name(rt: HostRuntime) -> Result<(), Fail> {
+fn a_drain_shows_its_name(rt: HostRuntime) {
     let mut list = LinkedList::<u32>::new(rt.alloc());
     assert!(rt; shows(rt.alloc(), &list.drain(), "Drain"));
-    Ok(())
 }
 
 #[test]
-fn a_reverse_drain_shows_its_name(rt: HostRuntime) -> Result<(), Fail> {
+fn a_reverse_drain_shows_its_name(rt: HostRuntime) {
     let mut list = LinkedList::<u32>::new(rt.alloc());
     assert!(rt; shows(rt.alloc(), &list.reverse_drain(), "ReverseDrain"));
-    Ok(())
 }
 
 #[test]
-fn a_heap_shows_its_name(rt: HostRuntime) -> Result<(), Fail> {
+fn a_heap_shows_its_name(rt: HostRuntime) {
     let heap = PairingHeap::<u32>::new(rt.alloc());
     assert!(rt; shows(rt.alloc(), &heap, "PairingHeap"));
-    Ok(())
 }
 
 #[test]
-fn an_outbox_shows_its_name(rt: HostRuntime) -> Result<(), Fail> {
+fn an_outbox_shows_its_name(rt: HostRuntime) {
     let outbox = Outbox::<u32>::new(rt.alloc());
     assert!(rt; shows(rt.alloc(), &outbox, "Outbox"));
-    Ok(())
 }
 
 #[test]
-fn a_line_shows_its_name(rt: HostRuntime) -> Result<(), Fail> {
+fn a_line_shows_its_name(rt: HostRuntime) {
     let line = Line::<u32, u64>::new(rt.alloc());
     assert!(rt; shows(rt.alloc(), &line, "Line"));
-    Ok(())
 }
 
 #[test]
-fn waits_show_their_name(rt: HostRuntime) -> Result<(), Fail> {
+fn waits_show_their_name(rt: HostRuntime) {
     let waits = Waits::<u32, u64>::new(rt.alloc());
     assert!(rt; shows(rt.alloc(), &waits, "Waits"));
-    Ok(())
 }
 
 #[test]
-fn deadlines_show_their_name(rt: HostRuntime) -> Result<(), Fail> {
+fn deadlines_show_their_name(rt: HostRuntime) {
     let deadlines = Deadlines::<u64>::new(rt.alloc());
     assert!(rt; shows(rt.alloc(), &deadlines, "Deadlines"));
-    Ok(())
 }
 
 #[test]
-fn an_entry_shows_its_fields(rt: HostRuntime) -> Result<(), Fail> {
+fn an_entry_shows_its_fields(rt: HostRuntime) {
     let future = Future {
         asks: 5,
         phase: Phase::Registered(7),
@@ -82,11 +73,10 @@ fn an_entry_shows_its_fields(rt: HostRuntime) -> Result<(), Fail> {
     };
     let wanted = "Entry { ticket: Ticket(3), future: Future { asks: 5, phase: Registered(7) } }";
     assert!(rt; shows(rt.alloc(), &entry, wanted));
-    Ok(())
 }
 
 #[test]
-fn values_show_their_fields(rt: HostRuntime) -> Result<(), Fail> {
+fn values_show_their_fields(rt: HostRuntime) {
     assert!(rt; shows(rt.alloc(), &Phase::<u64>::Told, "Told"));
     let leftover = Leftover::of(Some(1), None);
     assert!(rt;
@@ -96,15 +86,13 @@ fn values_show_their_fields(rt: HostRuntime) -> Result<(), Fail> {
             "Leftover { displaced: Some(1), unused: None }"
         )
     );
-    Ok(())
 }
 
 #[test]
-fn clocks_as_in_the_rust_crate(rt: HostRuntime) -> Result<(), Fail> {
+fn clocks_as_in_the_rust_crate(rt: HostRuntime) {
     let clock = MockClock::new();
     clock.set_time(50);
     assert!(rt; shows(rt.alloc(), &clock, "MockClock { now: 50 }"));
-    let clock = StdClock::new(rt)?;
+    let clock = StdClock::new(rt).expect(&rt, "memory");
     assert!(rt; shows(rt.alloc(), &clock, "StdClock"));
-    Ok(())
 }

@@ -1,5 +1,6 @@
 //! The worked cases of the channel, over each buffer.
-use crate::{Answer, ChannelCall, Primitive, every_run_of_a_channel, run};
+use super::answers;
+use crate::{Answer, ChannelCall, every_run_of_a_channel};
 use fi_channels::ChannelState;
 use fi_parts::buffer::{ArrayBuf, FixedHeapBuf, GrowingHeapBuf, RingBuf};
 use fi_parts::{Fault, Slot};
@@ -22,17 +23,7 @@ fn holds<Buf: RingBuf<Item = u64>>(
     capacity: usize,
     lines: &[Line],
 ) -> Result<bool, Fail> {
-    let mut channel: ChannelState<u64, Buf, u64> = ChannelState::open(alloc, capacity)?;
-    let mut calls = Vec::new(alloc);
-    let mut wanted = Vec::new(alloc);
-    for (call, answer) in lines {
-        calls.push(*call)?;
-        wanted.push(*answer)?;
-    }
-    let mut out = Vec::new(alloc);
-    run(&mut channel, calls, &mut out)?;
-    Primitive::show(&channel);
-    Ok(out.as_slice() == wanted.as_slice())
+    answers::<ChannelState<u64, Buf, u64>>(alloc, capacity, lines)
 }
 
 fn holds_over_each<const N: usize>(alloc: Global, lines: &[Line]) -> Result<bool, Fail> {

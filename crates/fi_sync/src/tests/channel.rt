@@ -10,7 +10,6 @@ use std::alloc::AllocGlobal;
 use std::process::Abort;
 use std::random::RandomSource;
 use std::sync::Wait;
-use std::test::Fail;
 use std::thread;
 use std::thread::Threads;
 
@@ -42,8 +41,8 @@ fn is_sent_back<R: Wait + Abort, F: Future<Output = Result<(), SendFault<u64>>>>
 }
 
 #[test]
-fn channel_two_places(rt: HostRuntime) -> Result<(), Fail> {
-    let tasks = &Queue::new(&rt, Doorbell::spinning())?;
+fn channel_two_places(rt: HostRuntime) {
+    let tasks = &Queue::new(&rt, Doorbell::spinning()).expect(&rt, "memory");
     let channel = Channel::<u64, 2, HostRuntime>::new(rt.alloc(), rt);
     assert!(rt; channel.try_send(1).is_ok());
     let mut b = channel.send(2).ok().expect(&rt, "memory");
@@ -55,12 +54,11 @@ fn channel_two_places(rt: HostRuntime) -> Result<(), Fail> {
     assert!(rt; channel.try_receive() == Err(TryReceiveError::Empty));
     assert!(rt; is_sent(&rt, tasks, &mut c) && c.is_terminated());
     assert!(rt; are_woken(&rt, tasks, &[]));
-    Ok(())
 }
 
 #[test]
-fn channel_rendezvous(rt: HostRuntime) -> Result<(), Fail> {
-    let tasks = &Queue::new(&rt, Doorbell::spinning())?;
+fn channel_rendezvous(rt: HostRuntime) {
+    let tasks = &Queue::new(&rt, Doorbell::spinning()).expect(&rt, "memory");
     let channel = UnbufferedChannel::<u64, HostRuntime>::new(rt.alloc(), rt);
     let mut a = channel.receive().expect(&rt, "memory");
     let first = waits(&rt, tasks, &mut a);
@@ -73,12 +71,11 @@ fn channel_rendezvous(rt: HostRuntime) -> Result<(), Fail> {
     assert!(rt; are_woken(&rt, tasks, &[second]));
     assert!(rt; receives(&rt, tasks, &mut b, Some(7)) && are_woken(&rt, tasks, &[third]));
     assert!(rt; is_sent(&rt, tasks, &mut send));
-    Ok(())
 }
 
 #[test]
-fn channel_close(rt: HostRuntime) -> Result<(), Fail> {
-    let tasks = &Queue::new(&rt, Doorbell::spinning())?;
+fn channel_close(rt: HostRuntime) {
+    let tasks = &Queue::new(&rt, Doorbell::spinning()).expect(&rt, "memory");
     let channel = Channel::<u64, 1, HostRuntime>::new(rt.alloc(), rt);
     assert!(rt; channel.try_send(1).is_ok());
     let mut b = channel.send(2).ok().expect(&rt, "memory");
@@ -88,25 +85,23 @@ fn channel_close(rt: HostRuntime) -> Result<(), Fail> {
     assert!(rt; channel.close().is_newly_closed() && are_woken(&rt, tasks, &[second, third]));
     assert!(rt; is_sent_back(&rt, tasks, &mut b, 2) && b.cancel().is_none());
     assert!(rt; c.cancel() == Some(3) && !channel.close().is_newly_closed());
-    Ok(())
 }
 
 #[test]
-fn channel_close_leaves_what_is_stored(rt: HostRuntime) -> Result<(), Fail> {
-    let tasks = &Queue::new(&rt, Doorbell::spinning())?;
+fn channel_close_leaves_what_is_stored(rt: HostRuntime) {
+    let tasks = &Queue::new(&rt, Doorbell::spinning()).expect(&rt, "memory");
     let channel = Channel::<u64, 1, HostRuntime>::new(rt.alloc(), rt);
     assert!(rt; channel.try_send(1).is_ok() && channel.close().is_newly_closed());
     let mut a = channel.receive().expect(&rt, "memory");
     assert!(rt; receives(&rt, tasks, &mut a, Some(1)));
     let mut b = channel.receive().expect(&rt, "memory");
     assert!(rt; receives(&rt, tasks, &mut b, None));
-    Ok(())
 }
 
 // A cancelled send gives its value back if the channel hasn't taken it. Its waker wakes its own task when it is let go.
 #[test]
-fn channel_cancelled_send(rt: HostRuntime) -> Result<(), Fail> {
-    let tasks = &Queue::new(&rt, Doorbell::spinning())?;
+fn channel_cancelled_send(rt: HostRuntime) {
+    let tasks = &Queue::new(&rt, Doorbell::spinning()).expect(&rt, "memory");
     let channel = Channel::<u64, 1, HostRuntime>::new(rt.alloc(), rt);
     assert!(rt; channel.try_send(1).is_ok());
     let mut b = channel.send(2).ok().expect(&rt, "memory");
@@ -117,18 +112,17 @@ fn channel_cancelled_send(rt: HostRuntime) -> Result<(), Fail> {
     assert!(rt; channel.try_receive() == Ok(1) && are_woken(&rt, tasks, &[second, third]));
     assert!(rt; c.cancel().is_none() && channel.try_receive() == Ok(3));
     assert!(rt; channel.try_receive() == Err(TryReceiveError::Empty));
-    Ok(())
 }
 
 // The channel is moved, shared by reference, and its futures are moved to other threads.
-fn crosses<R>(rt: R) -> Result<(), Fail>
+fn crosses<R>(rt: R)
 where
     R: Wait + Threads + Abort + Copy + RandomSource + AllocGlobal + Send + Sync,
 {
     let channel = sends(Channel::<u64, 1, R>::new(rt.alloc(), rt));
     let channel = shares(&channel);
     let receive = sends(channel.receive().expect(&rt, "memory"));
-    let send = sends(channel.send(7).ok().ok_or("memory")?);
+    let send = sends(channel.send(7).ok().expect(&rt, "memory"));
     let rt = &rt;
     let (received, is_sent) = thread::join(
         rt,
@@ -136,10 +130,9 @@ where
         move || matches!(block_on(rt, send), Ok(Ok(()))),
     );
     assert!(*rt; is_sent && received == Some(Ok(Some(7))));
-    Ok(())
 }
 
 #[test]
-fn channel_crosses_threads(rt: HostRuntime) -> Result<(), Fail> {
+fn channel_crosses_threads(rt: HostRuntime) {
     crosses(rt)
 }

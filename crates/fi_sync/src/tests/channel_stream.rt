@@ -8,7 +8,6 @@ use futures::Stream;
 use futures::task::{Doorbell, Poll, Queue};
 use std::process::Abort;
 use std::sync::Wait;
-use std::test::Fail;
 
 // Polls by a task of its own, whose number names its waker. No other task is queued.
 fn poll_next_once<R: Wait + Abort, const N: usize>(
@@ -26,8 +25,8 @@ fn poll_next_once<R: Wait + Abort, const N: usize>(
 }
 
 #[test]
-fn stream_ends(rt: HostRuntime) -> Result<(), Fail> {
-    let tasks = &Queue::new(&rt, Doorbell::spinning())?;
+fn stream_ends(rt: HostRuntime) {
+    let tasks = &Queue::new(&rt, Doorbell::spinning()).expect(&rt, "memory");
     let channel = Channel::<u64, 1, HostRuntime>::new(rt.alloc(), rt);
     assert!(rt; channel.try_send(4).is_ok() && channel.close().is_newly_closed());
     let mut stream = channel.stream().expect(&rt, "memory");
@@ -37,12 +36,11 @@ fn stream_ends(rt: HostRuntime) -> Result<(), Fail> {
     assert!(rt; polled == Poll::Ready(None) && stream.is_terminated());
     let (polled, _) = poll_next_once(&rt, tasks, &mut stream);
     assert!(rt; polled == Poll::Ready(None));
-    Ok(())
 }
 
 #[test]
-fn stream_rendezvous(rt: HostRuntime) -> Result<(), Fail> {
-    let tasks = &Queue::new(&rt, Doorbell::spinning())?;
+fn stream_rendezvous(rt: HostRuntime) {
+    let tasks = &Queue::new(&rt, Doorbell::spinning()).expect(&rt, "memory");
     let channel = UnbufferedChannel::<u64, HostRuntime>::new(rt.alloc(), rt);
     let mut send = channel.send(1).ok().expect(&rt, "memory");
     let first = waits(&rt, tasks, &mut send);
@@ -56,5 +54,4 @@ fn stream_rendezvous(rt: HostRuntime) -> Result<(), Fail> {
     assert!(rt; polled == Poll::Ready(None));
     let (polled, _) = poll_once(&rt, tasks, &mut send);
     assert!(rt; matches!(polled, Poll::Ready(Ok(()))));
-    Ok(())
 }

@@ -10,7 +10,6 @@ use std::random::RandomSource;
 use std::sync::Wait;
 use std::sync::atomic::{AtomicU64, Ordering};
 use std::sync::ledger::{Blank, Ledger};
-use std::test::Fail;
 use std::thread;
 use std::thread::Threads;
 
@@ -39,7 +38,7 @@ where
     });
 }
 
-fn locks<R, L>(rt: R, blank: Blank, is_fair: bool) -> Result<(), Fail>
+fn locks<R, L>(rt: R, blank: Blank, is_fair: bool)
 where
     R: Wait + Threads + Abort + Copy + RandomSource + AllocGlobal + Send + Sync,
     L: Ledger + Send + Sync,
@@ -49,17 +48,16 @@ where
 {
     let mutex = Mutex::<u64, R, L>::new(rt.alloc(), rt, blank, 0, is_fair);
     add_all(&rt, &mutex);
-    assert!(rt; *mutex.try_lock().ok_or("free")? == 4 * ROUNDS);
-    Ok(())
+    assert!(rt; *mutex.try_lock().expect(&rt, "free") == 4 * ROUNDS);
 }
 
 #[test]
-fn four_threads_lock_fairly(rt: HostRuntime) -> Result<(), Fail> {
+fn four_threads_lock_fairly(rt: HostRuntime) {
     locks::<HostRuntime, Brand>(rt, Blank::new(1), true)
 }
 
 #[test]
-fn four_threads_lock_unfairly(rt: HostRuntime) -> Result<(), Fail> {
+fn four_threads_lock_unfairly(rt: HostRuntime) {
     locks::<HostRuntime, Brand>(rt, Blank::new(1), false)
 }
 

@@ -11,7 +11,6 @@ use std::fmt;
 use std::marker::Brand;
 use std::sync::Wait;
 use std::sync::ledger::{Blank, Ledger};
-use std::test::Fail;
 
 fn shows<D: fmt::Debug>(alloc: Global, value: &D, wanted: &str) -> bool {
     match format!(in alloc; "{value:?}") {
@@ -21,20 +20,19 @@ fn shows<D: fmt::Debug>(alloc: Global, value: &D, wanted: &str) -> bool {
 }
 
 #[test]
-fn an_event_and_a_timer_show_their_names(rt: HostRuntime) -> Result<(), Fail> {
+fn an_event_and_a_timer_show_their_names(rt: HostRuntime) {
     let event = ManualResetEvent::new(rt.alloc(), rt, false);
     assert!(rt; shows(rt.alloc(), &event, "ManualResetEvent"));
-    let wait = event.wait()?;
+    let wait = event.wait().expect(&rt, "memory");
     assert!(rt; shows(rt.alloc(), &wait, "GenericWaitForEventFuture"));
     let timer = TimerService::new(rt.alloc(), rt, MockClock::new());
     assert!(rt; shows(rt.alloc(), &timer, "TimerService"));
-    let deadline = timer.deadline(5)?;
+    let deadline = timer.deadline(5).expect(&rt, "memory");
     assert!(rt; shows(rt.alloc(), &deadline, "TimerFuture"));
-    Ok(())
 }
 
 #[test]
-fn channels_of_one_value_show_their_names(rt: HostRuntime) -> Result<(), Fail> {
+fn channels_of_one_value_show_their_names(rt: HostRuntime) {
     let oneshot: OneshotChannel<u64, HostRuntime> = OneshotChannel::new(rt.alloc(), rt);
     assert!(rt; shows(rt.alloc(), &oneshot, "GenericOneshotChannel"));
     let broadcast: OneshotBroadcastChannel<u64, HostRuntime> = OneshotBroadcastChannel::new(
@@ -47,20 +45,18 @@ fn channels_of_one_value_show_their_names(rt: HostRuntime) -> Result<(), Fail> {
         rt,
     );
     assert!(rt; shows(rt.alloc(), &states, "GenericStateBroadcastChannel"));
-    let receive = states.receive(StateId::new())?;
+    let receive = states.receive(StateId::new()).expect(&rt, "memory");
     assert!(rt; shows(rt.alloc(), &receive, "ChannelReceiveFuture"));
-    Ok(())
 }
 
 #[test]
-fn a_channel_shows_its_name(rt: HostRuntime) -> Result<(), Fail> {
+fn a_channel_shows_its_name(rt: HostRuntime) {
     let channel: Channel<u64, 2, HostRuntime> = Channel::new(rt.alloc(), rt);
     assert!(rt; shows(rt.alloc(), &channel, "Channel"));
-    let send = channel.send(5).ok().ok_or("room")?;
+    let send = channel.send(5).ok().expect(&rt, "room");
     assert!(rt; shows(rt.alloc(), &send, "ChannelSendFuture"));
-    let stream = channel.stream()?;
+    let stream = channel.stream().expect(&rt, "memory");
     assert!(rt; shows(rt.alloc(), &stream, "ChannelStream"));
-    Ok(())
 }
 
 fn mutex_shows<R: Wait + AllocGlobal + Copy, L: Ledger>(rt: R, blank: Blank) -> Option<bool>

@@ -3,7 +3,6 @@
 use crate::{Channel, StateBroadcastChannel};
 use std::alloc::AllocError;
 use std::sync::atomic::{AtomicBool, Ordering};
-use std::test::Fail;
 use std::thread;
 
 // Where two threads meet: one in a value's drop, the other with a call.
@@ -59,7 +58,7 @@ impl Drop for Guest<'_> {
 
 // The state that is replaced is let go while another thread closes the channel.
 #[test]
-fn a_replaced_state_is_let_go_without_the_lock(rt: HostRuntime) -> Result<(), Fail> {
+fn a_replaced_state_is_let_go_without_the_lock(rt: HostRuntime) {
     let meeting = &Meeting::new();
     let channel = &StateBroadcastChannel::new(rt.alloc(), rt);
     let first = Guest {
@@ -75,18 +74,17 @@ fn a_replaced_state_is_let_go_without_the_lock(rt: HostRuntime) -> Result<(), Fa
     let (is_sent, ()) = thread::join(&rt, replaces, closes);
     assert!(rt; is_sent);
     assert!(rt; meeting.was_met.load(Ordering::SeqCst));
-    Ok(())
 }
 
 // The value of a send that is dropped is let go while another thread closes the channel.
 #[test]
-fn an_unsent_value_is_let_go_without_the_lock(rt: HostRuntime) -> Result<(), Fail> {
+fn an_unsent_value_is_let_go_without_the_lock(rt: HostRuntime) {
     let meeting = &Meeting::new();
     let channel: &Channel<Guest, 1, HostRuntime> = &Channel::new(rt.alloc(), rt);
     let guest = Guest {
         meeting: Some(meeting),
     };
-    let send = channel.send(guest).ok().ok_or("room")?;
+    let send = channel.send(guest).ok().expect(&rt, "room");
     let drops = move || drop(send);
     let closes = move || {
         let _ = was_set(&meeting.has_begun);
@@ -95,5 +93,4 @@ fn an_unsent_value_is_let_go_without_the_lock(rt: HostRuntime) -> Result<(), Fai
     };
     let ((), ()) = thread::join(&rt, drops, closes);
     assert!(rt; meeting.was_met.load(Ordering::SeqCst));
-    Ok(())
 }

@@ -11,7 +11,6 @@ use std::process::Abort;
 use std::random::RandomSource;
 use std::sync::Wait;
 use std::sync::ledger::{Blank, Ledger};
-use std::test::Fail;
 use std::thread;
 use std::thread::Threads;
 
@@ -42,24 +41,20 @@ fn locked<'a, R: Wait + Abort, L: Ledger>(
     guard
 }
 
-fn unfair<R: Wait + Abort + Copy + AllocGlobal, L: Ledger>(
-    rt: R,
-    tasks: &Queue,
-    blank: Blank,
-) -> Result<(), Fail>
+fn unfair<R: Wait + Abort + Copy + AllocGlobal, L: Ledger>(rt: R, tasks: &Queue, blank: Blank)
     requires name { blank.name ≡ L.name }
     requires parts { blank.parts ≡ L.parts }
     requires one { blank.parts ≡ 1 }
 {
     let mutex = Mutex::<u64, R, L>::new(rt.alloc(), rt, blank, 7, false);
-    let mut guard = mutex.try_lock().ok_or("free")?;
+    let mut guard = mutex.try_lock().expect(&rt, "free");
     assert!(rt; *guard == 7);
     let (mut a, first) = registered(&rt, tasks, &mutex);
     let (b, second) = registered(&rt, tasks, &mutex);
     *guard = 8;
     drop(guard);
     assert!(rt; are_woken(&rt, tasks, &[first]));
-    let mut guard = mutex.try_lock().ok_or("free")?;
+    let mut guard = mutex.try_lock().expect(&rt, "free");
     assert!(rt; *guard == 8);
     let (polled, third) = poll_once(&rt, tasks, &mut a);
     assert!(rt; polled.is_pending());
@@ -69,27 +64,22 @@ fn unfair<R: Wait + Abort + Copy + AllocGlobal, L: Ledger>(
     drop(b);
     assert!(rt; are_woken(&rt, tasks, &[third]));
     drop(locked(&rt, tasks, &mut a, 9));
-    Ok(())
 }
 
 #[test]
-fn mutex_unfair(rt: HostRuntime) -> Result<(), Fail> {
-    let tasks = &Queue::new(&rt, Doorbell::spinning())?;
+fn mutex_unfair(rt: HostRuntime) {
+    let tasks = &Queue::new(&rt, Doorbell::spinning()).expect(&rt, "memory");
     unfair::<HostRuntime, Brand>(rt, tasks, Blank::new(1))
 }
 
-fn fair<R: Wait + Abort + Copy + AllocGlobal, L: Ledger>(
-    rt: R,
-    tasks: &Queue,
-    blank: Blank,
-) -> Result<(), Fail>
+fn fair<R: Wait + Abort + Copy + AllocGlobal, L: Ledger>(rt: R, tasks: &Queue, blank: Blank)
     requires name { blank.name ≡ L.name }
     requires parts { blank.parts ≡ L.parts }
     requires one { blank.parts ≡ 1 }
 {
     let mutex = Mutex::<u64, R, L>::new(rt.alloc(), rt, blank, 7, true);
     assert!(rt; !mutex.is_locked());
-    let mut guard = mutex.try_lock().ok_or("free")?;
+    let mut guard = mutex.try_lock().expect(&rt, "free");
     assert!(rt; *guard == 7);
     let (mut a, first) = registered(&rt, tasks, &mutex);
     let (mut b, other) = registered(&rt, tasks, &mutex);
@@ -108,17 +98,16 @@ fn fair<R: Wait + Abort + Copy + AllocGlobal, L: Ledger>(
     drop(b);
     drop(mutex.lock().expect(&rt, "memory"));
     assert!(rt; are_woken(&rt, tasks, &[other]) && !mutex.is_locked());
-    Ok(())
 }
 
 #[test]
-fn mutex_fair(rt: HostRuntime) -> Result<(), Fail> {
-    let tasks = &Queue::new(&rt, Doorbell::spinning())?;
+fn mutex_fair(rt: HostRuntime) {
+    let tasks = &Queue::new(&rt, Doorbell::spinning()).expect(&rt, "memory");
     fair::<HostRuntime, Brand>(rt, tasks, Blank::new(1))
 }
 
 // The mutex is moved, shared by reference, and its guard and its future are moved to another thread.
-fn crosses<R, L: Ledger + Send + Sync>(rt: R, blank: Blank) -> Result<(), Fail>
+fn crosses<R, L: Ledger + Send + Sync>(rt: R, blank: Blank)
 where
     R: Wait + Threads + Abort + Copy + RandomSource + AllocGlobal + Send + Sync,
     requires name { blank.name ≡ L.name }
@@ -127,7 +116,7 @@ where
 {
     let mutex = sends(Mutex::<u64, R, L>::new(rt.alloc(), rt, blank, 7, true));
     let mutex = shares(&mutex);
-    let guard = sends(mutex.try_lock().ok_or("free")?);
+    let guard = sends(mutex.try_lock().expect(&rt, "free"));
     let lock = sends(mutex.lock().expect(&rt, "memory"));
     let rt = &rt;
     let reads = move || match block_on(rt, lock) {
@@ -140,10 +129,9 @@ where
     };
     let (read, ()) = thread::join(rt, reads, writes);
     assert_eq!(*rt; read, 8);
-    Ok(())
 }
 
 #[test]
-fn mutex_crosses_threads(rt: HostRuntime) -> Result<(), Fail> {
+fn mutex_crosses_threads(rt: HostRuntime) {
     crosses::<HostRuntime, Brand>(rt, Blank::new(1))
 }

@@ -9,13 +9,12 @@ use std::alloc::AllocGlobal;
 use std::process::Abort;
 use std::random::RandomSource;
 use std::sync::Wait;
-use std::test::Fail;
 use std::thread;
 use std::thread::Threads;
 
 #[test]
-fn oneshot_one_value(rt: HostRuntime) -> Result<(), Fail> {
-    let tasks = &Queue::new(&rt, Doorbell::spinning())?;
+fn oneshot_one_value(rt: HostRuntime) {
+    let tasks = &Queue::new(&rt, Doorbell::spinning()).expect(&rt, "memory");
     let channel = OneshotChannel::<u64, HostRuntime>::new(rt.alloc(), rt);
     let mut a = channel.receive().expect(&rt, "memory");
     let mut b = channel.receive().expect(&rt, "memory");
@@ -26,12 +25,11 @@ fn oneshot_one_value(rt: HostRuntime) -> Result<(), Fail> {
     assert!(rt; receives(&rt, tasks, &mut a, None));
     assert!(rt; channel.send(7) == Err(ChannelSendError(7)));
     assert!(rt; channel.close() == CloseStatus::AlreadyClosed);
-    Ok(())
 }
 
 #[test]
-fn broadcast_clones(rt: HostRuntime) -> Result<(), Fail> {
-    let tasks = &Queue::new(&rt, Doorbell::spinning())?;
+fn broadcast_clones(rt: HostRuntime) {
+    let tasks = &Queue::new(&rt, Doorbell::spinning()).expect(&rt, "memory");
     let channel = OneshotBroadcastChannel::<u64, HostRuntime>::new(rt.alloc(), rt);
     let mut a = channel.receive().expect(&rt, "memory");
     let first = waits(&rt, tasks, &mut a);
@@ -44,7 +42,6 @@ fn broadcast_clones(rt: HostRuntime) -> Result<(), Fail> {
     let mut c = channel.receive().expect(&rt, "memory");
     assert!(rt; receives(&rt, tasks, &mut c, Some(5)));
     assert!(rt; channel.send(6) == Err(ChannelSendError(6)));
-    Ok(())
 }
 
 // The channel is moved, shared by reference, and its future is moved to another thread.

@@ -14,7 +14,6 @@ use std::process::Abort;
 use std::random::RandomSource;
 use std::sync::Wait;
 use std::sync::ledger::{Blank, Ledger};
-use std::test::Fail;
 use std::thread;
 use std::thread::Threads;
 
@@ -45,11 +44,7 @@ pub(super) fn granted<R: Wait + Abort, M: HasMonitor<State = CountedSemaphore<L>
     releaser
 }
 
-fn fair_cancel<R: Wait + Abort + Copy + AllocGlobal, L: Ledger>(
-    rt: R,
-    tasks: &Queue,
-    blank: Blank,
-) -> Result<(), Fail>
+fn fair_cancel<R: Wait + Abort + Copy + AllocGlobal, L: Ledger>(rt: R, tasks: &Queue, blank: Blank)
     requires name { blank.name ≡ L.name }
     requires parts { blank.parts ≡ L.parts }
     requires all { blank.parts ≡ 18446744073709551615 }
@@ -64,20 +59,15 @@ fn fair_cancel<R: Wait + Abort + Copy + AllocGlobal, L: Ledger>(
     assert!(rt; semaphore.permits() == 1);
     drop(releaser);
     assert!(rt; semaphore.permits() == 3);
-    Ok(())
 }
 
 #[test]
-fn semaphore_fair_cancel(rt: HostRuntime) -> Result<(), Fail> {
-    let tasks = &Queue::new(&rt, Doorbell::spinning())?;
+fn semaphore_fair_cancel(rt: HostRuntime) {
+    let tasks = &Queue::new(&rt, Doorbell::spinning()).expect(&rt, "memory");
     fair_cancel::<HostRuntime, Brand>(rt, tasks, Blank::new(u64::MAX))
 }
 
-fn unfair_mixed<R: Wait + Abort + Copy + AllocGlobal, L: Ledger>(
-    rt: R,
-    tasks: &Queue,
-    blank: Blank,
-) -> Result<(), Fail>
+fn unfair_mixed<R: Wait + Abort + Copy + AllocGlobal, L: Ledger>(rt: R, tasks: &Queue, blank: Blank)
     requires name { blank.name ≡ L.name }
     requires parts { blank.parts ≡ L.parts }
     requires all { blank.parts ≡ 18446744073709551615 }
@@ -97,38 +87,36 @@ fn unfair_mixed<R: Wait + Abort + Copy + AllocGlobal, L: Ledger>(
     drop(one);
     drop(three);
     assert!(rt; semaphore.permits() == 4);
-    Ok(())
 }
 
 #[test]
-fn semaphore_unfair_mixed(rt: HostRuntime) -> Result<(), Fail> {
-    let tasks = &Queue::new(&rt, Doorbell::spinning())?;
+fn semaphore_unfair_mixed(rt: HostRuntime) {
+    let tasks = &Queue::new(&rt, Doorbell::spinning()).expect(&rt, "memory");
     unfair_mixed::<HostRuntime, Brand>(rt, tasks, Blank::new(u64::MAX))
 }
 
-fn disarms<R: Wait + Abort + Copy + AllocGlobal, L: Ledger>(rt: R, blank: Blank) -> Result<(), Fail>
+fn disarms<R: Wait + Abort + Copy + AllocGlobal, L: Ledger>(rt: R, blank: Blank)
     requires name { blank.name ≡ L.name }
     requires parts { blank.parts ≡ L.parts }
     requires all { blank.parts ≡ 18446744073709551615 }
 {
     let semaphore = Semaphore::<R, L>::new(rt.alloc(), rt, blank, false, 2);
-    let mut releaser = semaphore.try_acquire(2).ok_or("free")?;
+    let mut releaser = semaphore.try_acquire(2).expect(&rt, "free");
     assert!(rt; releaser.disarm() == 2);
     assert!(rt; releaser.disarm() == 0);
     drop(releaser);
     assert!(rt; semaphore.permits() == 0);
     assert!(rt; semaphore.release(2).is_ok() && semaphore.permits() == 2);
     assert!(rt; semaphore.release(usize::MAX).is_err() && semaphore.permits() == 2);
-    Ok(())
 }
 
 #[test]
-fn semaphore_disarm(rt: HostRuntime) -> Result<(), Fail> {
+fn semaphore_disarm(rt: HostRuntime) {
     disarms::<HostRuntime, Brand>(rt, Blank::new(u64::MAX))
 }
 
 // The semaphore is moved, shared by reference, and its releaser and its future are moved to another thread.
-fn crosses<R, L: Ledger + Send + Sync>(rt: R, blank: Blank) -> Result<(), Fail>
+fn crosses<R, L: Ledger + Send + Sync>(rt: R, blank: Blank)
 where
     R: Wait + Threads + Abort + Copy + RandomSource + AllocGlobal + Send + Sync,
     requires name { blank.name ≡ L.name }
@@ -137,16 +125,15 @@ where
 {
     let semaphore = sends(Semaphore::<R, L>::new(rt.alloc(), rt, blank, true, 2));
     let semaphore = shares(&semaphore);
-    let releaser = sends(semaphore.try_acquire(2).ok_or("free")?);
+    let releaser = sends(semaphore.try_acquire(2).expect(&rt, "free"));
     let acquire = sends(semaphore.acquire(1).expect(&rt, "memory"));
     let rt = &rt;
     let waits = move || matches!(block_on(rt, acquire), Ok(Ok(_)));
     let (is_granted, ()) = thread::join(rt, waits, move || drop(releaser));
     assert!(*rt; is_granted && semaphore.permits() == 2);
-    Ok(())
 }
 
 #[test]
-fn semaphore_crosses_threads(rt: HostRuntime) -> Result<(), Fail> {
+fn semaphore_crosses_threads(rt: HostRuntime) {
     crosses::<HostRuntime, Brand>(rt, Blank::new(u64::MAX))
 }

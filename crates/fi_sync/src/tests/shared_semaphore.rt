@@ -12,7 +12,6 @@ use std::process::Abort;
 use std::random::RandomSource;
 use std::sync::Wait;
 use std::sync::ledger::{Blank, Ledger};
-use std::test::Fail;
 use std::thread;
 use std::thread::Threads;
 
@@ -64,10 +63,9 @@ fn shared<R: Wait + Abort + Drop + Copy + AllocGlobal, L: Ledger>(
 }
 
 #[test]
-fn shared_semaphore_outlives_its_owner(rt: HostRuntime) -> Result<(), Fail> {
-    let tasks = &Queue::new(&rt, Doorbell::spinning())?;
+fn shared_semaphore_outlives_its_owner(rt: HostRuntime) {
+    let tasks = &Queue::new(&rt, Doorbell::spinning()).expect(&rt, "memory");
     assert!(rt; shared::<HostRuntime, Brand>(rt, tasks, Blank::new(u64::MAX)));
-    Ok(())
 }
 
 // An owner and a future of it go to one thread, a releaser to another.

@@ -9,13 +9,12 @@ use std::alloc::AllocGlobal;
 use std::process::Abort;
 use std::random::RandomSource;
 use std::sync::Wait;
-use std::test::Fail;
 use std::thread;
 use std::thread::Threads;
 
 #[test]
-fn state_broadcast_numbers(rt: HostRuntime) -> Result<(), Fail> {
-    let tasks = &Queue::new(&rt, Doorbell::spinning())?;
+fn state_broadcast_numbers(rt: HostRuntime) {
+    let tasks = &Queue::new(&rt, Doorbell::spinning()).expect(&rt, "memory");
     let channel = StateBroadcastChannel::<u64, HostRuntime>::new(rt.alloc(), rt);
     let none = StateId::new();
     assert!(rt; channel.try_receive(none) == Ok(None) && channel.send(9).is_ok());
@@ -39,7 +38,6 @@ fn state_broadcast_numbers(rt: HostRuntime) -> Result<(), Fail> {
     let (polled, _) = poll_once(&rt, tasks, &mut c);
     assert!(rt; matches!(polled, Poll::Ready(Ok(None))));
     assert!(rt; channel.send(11) == Err(ChannelSendError(11)));
-    Ok(())
 }
 
 // The channel is moved, shared by reference, and its future is moved to another thread.

@@ -10,7 +10,6 @@ use std::process::Abort;
 use std::random::RandomSource;
 use std::sync::Wait;
 use std::sync::atomic::{AtomicU64, Ordering};
-use std::test::Fail;
 use std::thread;
 use std::thread::Threads;
 use std::time::Duration;
@@ -28,8 +27,8 @@ impl Clock for Shown<'_> {
 }
 
 #[test]
-fn timer_expirations(rt: HostRuntime) -> Result<(), Fail> {
-    let tasks = &Queue::new(&rt, Doorbell::spinning())?;
+fn timer_expirations(rt: HostRuntime) {
+    let tasks = &Queue::new(&rt, Doorbell::spinning()).expect(&rt, "memory");
     let time = &AtomicU64::new(200);
     let timer = TimerService::new(rt.alloc(), rt, Shown { time });
     let mut a = timer.deadline(999).expect(&rt, "memory");
@@ -56,13 +55,12 @@ fn timer_expirations(rt: HostRuntime) -> Result<(), Fail> {
     time.store(700, Ordering::SeqCst);
     timer.check_expirations();
     assert!(rt; are_woken(&rt, tasks, &[third]));
-    Ok(())
 }
 
 // A delay past the last moment ends there.
 #[test]
-fn timer_saturates(rt: HostRuntime) -> Result<(), Fail> {
-    let tasks = &Queue::new(&rt, Doorbell::spinning())?;
+fn timer_saturates(rt: HostRuntime) {
+    let tasks = &Queue::new(&rt, Doorbell::spinning()).expect(&rt, "memory");
     let time = &AtomicU64::new(u64::MAX - 5);
     let timer = TimerService::new(rt.alloc(), rt, Shown { time });
     let mut wait = timer.delay(Duration::from_millis(10)).expect(&rt, "memory");
@@ -73,7 +71,6 @@ fn timer_saturates(rt: HostRuntime) -> Result<(), Fail> {
     assert!(rt; are_woken(&rt, tasks, &[task]));
     let (polled, _) = poll_once(&rt, tasks, &mut wait);
     assert!(rt; polled == Poll::Ready(Ok(())));
-    Ok(())
 }
 
 // The timer is moved, shared by reference, and its future is moved to another thread.

@@ -47,7 +47,7 @@ fn waker<R: Wait + Abort>(rt: &R, tasks: &Queue, source: &Source) -> (Waker, usi
 // Three are named by the time that two wakes, which were owed, are paid: the two oldest are woken, and the third stays.
 #[test]
 fn a_payment_takes_what_was_owed(rt: HostRuntime) -> Result<(), Fail> {
-    let tasks = &Queue::new(&rt, Doorbell::spinning())?;
+    let tasks = &Queue::new(&rt, Doorbell::spinning()).expect(&rt, "memory");
     let source = &Source::new();
     let (oldest, first) = waker(&rt, tasks, source);
     let (other, second) = waker(&rt, tasks, source);
@@ -70,7 +70,7 @@ fn a_payment_takes_what_was_owed(rt: HostRuntime) -> Result<(), Fail> {
 // Where another thread took one out meanwhile, a payment ends without it.
 #[test]
 fn a_payment_ends_where_nobody_is_left(rt: HostRuntime) -> Result<(), Fail> {
-    let tasks = &Queue::new(&rt, Doorbell::spinning())?;
+    let tasks = &Queue::new(&rt, Doorbell::spinning()).expect(&rt, "memory");
     let source = &Source::new();
     let (oldest, first) = waker(&rt, tasks, source);
     let (other, second) = waker(&rt, tasks, source);

@@ -10,7 +10,6 @@ use std::random::RandomSource;
 use std::sync::Wait;
 use std::sync::atomic::{AtomicU64, Ordering};
 use std::sync::ledger::{Blank, Ledger};
-use std::test::Fail;
 use std::thread;
 use std::thread::Threads;
 
@@ -79,7 +78,7 @@ where
     });
 }
 
-fn serve<R, L, K>(rt: R, permits: Blank, lock: Blank) -> Result<(), Fail>
+fn serve<R, L, K>(rt: R, permits: Blank, lock: Blank)
 where
     R: Wait + Threads + Abort + Copy + RandomSource + AllocGlobal + Send + Sync,
     L: Ledger + Send + Sync,
@@ -91,19 +90,18 @@ where
     requires lock_parts { lock.parts ≡ K.parts }
     requires one { lock.parts ≡ 1 }
 {
-    let free = vec![in rt.alloc(); 0, 1]?;
+    let free = vec![in rt.alloc(); 0, 1].expect(&rt, "memory");
     let pool = Mutex::<Vec<u64>, R, K>::new(rt.alloc(), rt, lock, free, true);
     let permits = Semaphore::<R, L>::new(rt.alloc(), rt, permits, true, 2);
     let uses = AtomicU64::new(0);
     serve_all(&rt, &permits, &pool, &uses);
     assert_eq!(rt; uses.load(Ordering::SeqCst), 100);
     assert!(rt; permits.permits() == 2);
-    let free = pool.try_lock().ok_or("free")?;
+    let free = pool.try_lock().expect(&rt, "free");
     assert!(rt; free.len() == 2);
-    Ok(())
 }
 
 #[test]
-fn four_threads_share_two_connections(rt: HostRuntime) -> Result<(), Fail> {
+fn four_threads_share_two_connections(rt: HostRuntime) {
     serve::<HostRuntime, Brand, Brand>(rt, Blank::new(u64::MAX), Blank::new(1))
 }

@@ -11,7 +11,6 @@ use std::random::RandomSource;
 use std::sync::Wait;
 use std::sync::atomic::{AtomicU64, Ordering};
 use std::sync::ledger::{Blank, Ledger};
-use std::test::Fail;
 use std::thread;
 use std::thread::Threads;
 use std::time::Duration;
@@ -102,7 +101,7 @@ where
     });
 }
 
-fn limit<R, L>(rt: R, blank: Blank) -> Result<(), Fail>
+fn limit<R, L>(rt: R, blank: Blank)
 where
     R: Wait + Threads + Abort + Copy + RandomSource + AllocGlobal + Send + Sync,
     L: Ledger + Send + Sync,
@@ -117,10 +116,9 @@ where
     serve_all(&rt, &timer, &permits, &now, &served);
     assert!(rt; served.load(Ordering::SeqCst) == 6 && permits.permits() == 0);
     assert!(rt; now.load(Ordering::SeqCst) >= 20);
-    Ok(())
 }
 
 #[test]
-fn two_requests_in_each_period(rt: HostRuntime) -> Result<(), Fail> {
+fn two_requests_in_each_period(rt: HostRuntime) {
     limit::<HostRuntime, Brand>(rt, Blank::new(u64::MAX))
 }

@@ -7,7 +7,6 @@ use std::alloc::AllocGlobal;
 use std::random::RandomSource;
 use std::sync::Wait;
 use std::sync::atomic::{AtomicU64, Ordering};
-use std::test::Fail;
 use std::thread;
 use std::thread::Threads;
 
