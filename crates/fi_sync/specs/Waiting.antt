@@ -1,10 +1,12 @@
 -- What a contract sees of a future of a primitive that threads share.
-use Rattle.std.specs.Prelude.{◌≡◌, ◌⊎◌, ℕ, Bool, true, false, Option, None, Result, ◌||◌}
+use Rattle.std.specs.Prelude.{◌≡◌, ◌⊎◌, ℕ, Bool, true, false, Option, None, is_some, Result, Err, ◌||◌}
 use Rattle.futures.specs.declared.task.Poll.{Poll}
 use Rattle.futures.specs.declared.task.Poll.TheVariants.{Ready, Pending}
-use Rattle.fi_channels.specs.Polled.{displaced_by, unused_after}
+use Rattle.fi_channels.specs.Polled.{Answered, displaced_by, unused_after}
+use Rattle.fi_parts.specs.Machine.{Machine, phase_at, displaced_at}
 use Rattle.fi_parts.specs.declared.errors.Fault.{Fault}
 use Rattle.fi_parts.specs.declared.phase.Leftover.{Leftover}
+use Rattle.fi_parts.specs.declared.phase.Phase.{Phase}
 
 -- The source that its primitive's futures register at, and whether it was polled to its end or cancelled.
 pub record SharedFuture : Type 0 where
@@ -34,6 +36,22 @@ leftover_after answer had waker =
 abbrev pub CancelsWhere : {S L : Type 0} → Bool → Type 0 → Option L → S → Option L → S → Type 0
 CancelsWhere true cancels had old left new = cancels × (left ≡ had)
 CancelsWhere false cancels had old left new = (new ≡ old) × (left ≡ None)
+
+module _ {S D W : Type 0} where
+  -- A poll of a machine's future: the machine's, which refuses none, where one can be polled under this name; else it is refused.
+  abbrev pub PollsAt : {A : Type 0} → (Option (Phase W) → Bool) → (Machine S D W → ℕ → W → Poll A → Machine S D W → Type 0)
+      → Machine S D W → ℕ → W → Poll (Result A Fault) → Machine S D W → Type 0
+  PollsAt can_be_polled polls old name waker answer new =
+      PollsWhere (can_be_polled (phase_at old name)) (Answered (polls old name waker) (λ fault state. ⊥)) (Err Fault.NoSlot) old answer new
+
+  -- the wakers of no more use after such a poll
+  abbrev pub leftover_at : {A : Type 0} → Machine S D W → ℕ → W → Poll (Result A Fault) → Leftover W
+  leftover_at old name waker answer = leftover_after answer (displaced_at old name) waker
+
+  -- A cancel of a machine's future: the machine's, and leaves its waker, where one lives under this name; else nothing changes.
+  abbrev pub CancelsAt : (Machine S D W → ℕ → Machine S D W → Type 0) → Machine S D W → ℕ → Option W → Machine S D W → Type 0
+  CancelsAt cancels old name left new =
+      CancelsWhere (is_some (phase_at old name)) (cancels old name new) (displaced_at old name) old left new
 
 -- A cancel of the state, in some hold of the lock, left this.
 abbrev pub IsLeft : {S L : Type 0} → (S → ℕ → L → S → Type 0) → L → Type 0

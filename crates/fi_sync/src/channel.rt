@@ -12,7 +12,7 @@ use crate::slot_future::SlotFuture;
 use crate::wakes::HasOutbox;
 use fi_channels::{ChannelState, TryReceiveError, TrySendError};
 use fi_parts::buffer::{ArrayBuf, GrowingHeapBuf, RingBuf};
-use fi_parts::{CloseStatus, Fault, NoRoom, Slot};
+use fi_parts::{CloseStatus, Fault, NoRoom};
 use futures::task::Waker;
 use std::alloc::Global;
 use std::marker::Model;
@@ -68,13 +68,7 @@ impl<T: Drop, B: RingBuf<Item = T>, R: Wait> GenericChannel<T, B, R> {
     pub fn try_send(&self, value: T) -> Result<(), TrySendError<T>>
         ensures handed_back { IfErr result (λ refused. value_in refused ≡ value) }
     {
-        let try_send = |channel: &mut ChannelState<T, B, Waker>, value: T| -> Result<
-            (),
-            TrySendError<T>,
-        >
-            ensures { IfErr result (λ refused. value_in refused ≡ value) }
-        { channel.try_send(value) };
-        self.monitor.call(value, try_send)
+        self.monitor.call(value, ChannelState::try_send)
     }
 
     /// Receives the oldest value at once, if there is one. Keeps `GenericChannel::try_receive`.
@@ -96,10 +90,7 @@ impl<T: Drop, B: RingBuf<Item = T>, R: Wait> GenericChannel<T, B, R> {
         ensures made { IfOk result (λ future. future ≡ record { source = self.now; has_ended = false }) }
         ensures handed_back { IfErr result (λ failed. failed.0 ≡ value) }
     {
-        let claim = |channel: &mut ChannelState<T, B, Waker>, value: T| -> Result<Slot, NoRoom<T>>
-            ensures { IfErr result (λ failed. failed.0 ≡ value) }
-        { channel.claim_send(value) };
-        let slot = self.monitor.call(value, claim)?;
+        let slot = self.monitor.call(value, ChannelState::claim_send)?;
         Ok(SlotFuture::new(&self.monitor, Claim::of(slot)))
     }
 

@@ -10,7 +10,7 @@ ghost use Rattle.fi_sync.specs.Waiting.{CancelsWhere};
 
 use crate::claim::{Cancel, Claim};
 use crate::monitor::Monitor;
-use crate::slot_future::{PollSlot, SlotFuture};
+use crate::slot_future::{PollOutput, PollSlot, SlotFuture};
 use fi_channels::{ChannelReceiveAccess, ChannelState};
 use fi_parts::buffer::RingBuf;
 use fi_parts::{Fault, Leftover, Slot};
@@ -26,6 +26,7 @@ pub struct ChannelStreaming;
 ///
 /// An item is `Err(NoMemory)` where the poll could make no waker; the stream goes on after it. Keeps `ChannelStream` of
 /// futures-intrusive's `channel`.
+#[derive(Drop)]
 pub struct ChannelStream<'a, T: Drop, B: RingBuf<Item = T>, R: Wait> {
     future: SlotFuture<&'a Monitor<ChannelState<T, B, Waker>, R>, ChannelStreaming>,
     is_ended: bool,
@@ -81,16 +82,6 @@ impl<'a, T: Drop, B: RingBuf<Item = T>, R: Wait> ChannelStream<'a, T, B, R> {
     }
 }
 
-impl<T: Drop, B: RingBuf<Item = T>, R: Wait> Drop for ChannelStream<'_, T, B, R> {
-    fn drop(self) {
-        let ChannelStream {
-            future,
-            is_ended: _,
-        } = self;
-        drop(future);
-    }
-}
-
 impl<T: Drop, B: RingBuf<Item = T>, R: Wait> Stream for ChannelStream<'_, T, B, R> {
     type Item = Result<T, Fault>;
 
@@ -101,6 +92,21 @@ impl<T: Drop, B: RingBuf<Item = T>, R: Wait> Stream for ChannelStream<'_, T, B, 
     }
 }
 
+impl<T> PollOutput for Option<Result<T, Fault>> {
+    // A stream that has ended answers its end again.
+    ghost is_last = { λ _. false };
+
+    ghost refusal = { λ fault. Some (Err fault) };
+
+    fn ends(&self) -> bool {
+        false
+    }
+
+    fn refused(fault: Fault) -> Self {
+        Some(Err(fault))
+    }
+}
+
 impl<T: Drop, B: RingBuf<Item = T>> PollSlot<ChannelStreaming> for ChannelState<T, B, Waker> {
     type Output = Option<Result<T, Fault>>;
 
@@ -108,16 +114,7 @@ impl<T: Drop, B: RingBuf<Item = T>> PollSlot<ChannelStreaming> for ChannelState<
 
     ghost leaves = { λ old name waker answer. leftover_of_next answer (displaced_receive old name) waker };
 
-    // A stream that has ended answers its end again.
-    ghost is_last = { λ _. false };
-
-    ghost refusal = { λ fault. Some (Err fault) };
-
-    fn poll_slot(
-        &mut self,
-        slot: Slot,
-        waker: Waker,
-    ) -> (Poll<Option<Result<T, Fault>>>, Leftover<Waker>) {
+    fn poll_slot(&mut self, slot: Slot, waker: Waker) -> (Poll<Self::Output>, Leftover<Waker>) {
         if !self.can_stream(slot) {
             let answer = Poll::Ready(Some(Err(Fault::NoSlot)));
             return (answer, Leftover::of(None, Some(waker)));
@@ -128,14 +125,6 @@ impl<T: Drop, B: RingBuf<Item = T>> PollSlot<ChannelStreaming> for ChannelState<
             Poll::Ready(None) => (Poll::Ready(None), leftover),
             Poll::Pending => (Poll::Pending, leftover),
         }
-    }
-
-    fn ends(_output: &Option<Result<T, Fault>>) -> bool {
-        false
-    }
-
-    fn refused(fault: Fault) -> Option<Result<T, Fault>> {
-        Some(Err(fault))
     }
 }
 

@@ -1,31 +1,29 @@
-//! What stands behind the lock of a mutex: its state, beside the book of its holds.
-ghost use Rattle.std.specs.Prelude.{◌≡◌, ◌+◌, ℕ, true, false, Ok, Err, IfOk, IfSome, IfNone, IfErr, OnErr, is_ok, is_some, not};
-ghost use Rattle.fi_parts.specs.Machine.{phase_at, displaced_at};
+//! What stands behind the lock of a mutex: its state, beside the tally of its holds.
+ghost use Rattle.std.specs.Prelude.{◌≡◌, false, Some, Ok, IfOk, IfSome, IfNone, IfErr, OnErr, not};
 ghost use Rattle.fi_parts.specs.declared.errors.Fault.{Fault};
 ghost use Rattle.fi_locks.specs.Mutex.{opened, is_free, can_be_polled, Makes, Polls, Cancels, Unlocks};
-ghost use Rattle.fi_sync.specs.Locked.{holds_if, LocksBy};
-ghost use Rattle.fi_sync.specs.Waiting.{PollsWhere, leftover_after, CancelsWhere};
+ghost use Rattle.fi_sync.specs.Waiting.{PollsAt, leftover_at, CancelsAt};
 
 use crate::claim::Cancel;
 use crate::slot_future::PollSlot;
+use crate::tally::{Grant, Tally};
 use crate::wakes::HasOutbox;
 use fi_locks::MutexState;
 use fi_parts::{Fault, Leftover, Slot};
 use futures::task::{Poll, Waker};
 use std::alloc::Global;
 use std::marker::Model;
-use std::sync::ledger::{Blank, Book, Ledger, Share};
+use std::sync::ledger::{Blank, Ledger};
 
-/// A mutex's state, beside the book of its holds, whose total is 1 while the mutex is held and 0 while it is free.
+/// A mutex's state, beside the tally of its holds: 1 while the mutex is held and 0 while it is free.
 #[derive(Drop)]
 pub struct CountedMutex<T, L: Ledger> {
     state: MutexState<T, Waker>,
-    book: Book<L>,
-    rest: Share<L>,
+    tally: Tally<L>,
 }
 
 impl<T, L: Ledger> Model for CountedMutex<T, L> {
-    ghost use Rattle.std.specs.Prelude.{◌≡◌, ◌+◌};
+    ghost use Rattle.std.specs.Prelude.{◌≡◌};
     ghost use Rattle.futures.specs.contracts.task.waker.Waker as waker;
     ghost use Rattle.futures.specs.declared.task.waker.Waker.{Waker};
     ghost use Rattle.fi_locks.specs.Mutex.{MutexMachine, mutex_code, is_free};
@@ -37,51 +35,39 @@ impl<T, L: Ledger> Model for CountedMutex<T, L> {
 
     ghost view = { λ counted. counted.state };
 
-    // The ledger has one part, which stands in the hold of a mutex that is held.
-    ghost invariant = { λ counted. (counted.book.total ≡ holds_if (is_free counted.state)) × (counted.rest.parts + counted.book.total ≡ 1) × (counted.rest.amount ≡ 0) × (L.parts ≡ 1) };
+    ghost invariant = { λ counted. (counted.tally ≡ holds_if (is_free counted.state)) × (L.parts ≡ 1) };
 }
 
-/// What a guard has beside the value. It has no `Drop`: only an unlock takes it, so a guard whose drop keeps its mutex locked
-/// does not compile. At most one hold of a mutex is alive.
-pub struct Hold<L: Ledger> {
-    share: Share<L>,
+/// The value of a mutex that is held, with the hold of it: a grant of the one part of the mutex's ledger. It has no `Drop`: an
+/// unlock takes it.
+pub struct Locked<T, L: Ledger> {
+    pub(crate) value: T,
+    pub(crate) hold: Grant<L>,
 }
 
-impl<L: Ledger> Model for Hold<L> {
+impl<T, L: Ledger> Model for Locked<T, L> {
     ghost use Rattle.std.specs.Prelude.{◌≡◌};
 
-    ghost Value = { Unit {0} };
+    ghost Value = { T };
 
-    ghost view = { λ hold. tt };
+    ghost coded = { T.code };
 
-    ghost invariant = { λ hold. (hold.share.parts ≡ 1) × (hold.share.amount ≡ 1) × (L.parts ≡ 1) };
+    ghost view = { λ locked. locked.value };
+
+    ghost invariant = { λ locked. (locked.hold ≡ 1) × (L.parts ≡ 1) };
 }
 
-impl<L: Ledger> Hold<L> {
+impl<T, L: Ledger> Locked<T, L> {
     /// For proofs: no two holds of one mutex are alive at once.
-    pub fn never_two(&mut self, other: &mut Hold<L>)
+    pub fn never_two(&mut self, other: &mut Locked<T, L>)
         ensures { ⊥ }
     {
-        self.share.give(&mut other.share, 0, 0);
+        self.hold.apart(&mut other.hold);
     }
 }
 
 /// The kind of a mutex's futures.
 pub struct MutexLock;
-
-// The hold of a mutex that was just locked.
-fn hold_of<L: Ledger>(book: &mut Book<L>, rest: &mut Share<L>) -> Hold<L>
-    requires one { L.parts ≡ 1 }
-    requires parts { rest.old.parts ≡ 1 }
-    requires amount { rest.old.amount ≡ 0 }
-    ensures total { book.new.total ≡ book.old.total + 1 }
-    ensures parts { rest.new.parts ≡ 0 }
-    ensures amount { rest.new.amount ≡ 0 }
-{
-    let mut share = rest.split_off(1, 0);
-    book.add(&mut share, 1);
-    Hold { share }
-}
 
 impl<T: Drop, L: Ledger> CountedMutex<T, L> {
     /// A free mutex with this value, fair or not.
@@ -91,11 +77,9 @@ impl<T: Drop, L: Ledger> CountedMutex<T, L> {
         requires one { blank.parts ≡ 1 }
         ensures { result ≡ opened value is_fair }
     {
-        let (book, rest) = blank.open::<L>();
         CountedMutex {
             state: MutexState::new(alloc, value, is_fair),
-            book,
-            rest,
+            tally: Tally::new(blank),
         }
     }
 
@@ -115,77 +99,59 @@ impl<T: Drop, L: Ledger> CountedMutex<T, L> {
         self.state.is_locked()
     }
 
-    /// Locks the mutex at once: its value, and the hold of it. None where it is locked, or is fair and a future is queued for it.
-    pub fn try_lock(&mut self) -> Option<(T, Hold<L>)>
-        ensures given { IfSome result (λ locked. self.old.own.value ≡ Some locked.0) }
-        ensures locked { IfSome result (λ locked. is_free self.new ≡ false) }
+    /// Locks the mutex at once: its value, with the hold of it. None where it is locked, or is fair and a future is queued for it.
+    pub fn try_lock(&mut self) -> Option<Locked<T, L>>
+        ensures given { IfSome result (λ value. self.old.own.value ≡ Some value) }
+        ensures locked { IfSome result (λ _. is_free self.new ≡ false) }
         ensures unchanged { IfNone result (self.new.own ≡ self.old.own) }
     {
-        let CountedMutex { state, book, rest } = self;
-        let Some(value) = state.try_take() else {
-            return None;
-        };
-        Some((value, hold_of(book, rest)))
+        let value = self.state.try_take()?;
+        let hold = self.tally.hand_out(1);
+        Some(Locked { value, hold })
     }
 
     /// Puts the value back and unlocks the mutex, which is locked: its hold is alive.
-    pub fn unlock(&mut self, value: T, hold: Hold<L>)
+    pub fn unlock(&mut self, locked: Locked<T, L>)
         ensures held { is_free self.old ≡ false }
-        ensures unlocked { Unlocks self.old value (Ok tt) self.new }
+        ensures unlocked { Unlocks self.old locked (Ok tt) self.new }
     {
-        let CountedMutex { state, book, rest } = self;
-        let Hold { mut share } = hold;
-        book.audit(&mut share);
-        match state.unlock(value) {
+        let Locked { value, hold } = locked;
+        self.tally.take_in(hold);
+        match self.state.unlock(value) {
             Ok(()) => {}
             Err(_value) => unreachable!(),
         }
-        rest.merge(share);
-        book.sub(rest, 1);
     }
 }
 
 impl<T: Drop, L: Ledger> PollSlot<MutexLock> for CountedMutex<T, L> {
-    type Output = Result<(T, Hold<L>), Fault>;
+    type Output = Result<Locked<T, L>, Fault>;
 
-    ghost polls = { λ old name waker answer new. PollsWhere (can_be_polled (phase_at old name)) (LocksBy (λ polled mutex. Polls old name waker polled mutex)) (Err Fault.NoSlot) old answer new };
+    ghost polls = { PollsAt can_be_polled Polls };
 
-    ghost leaves = { λ old name waker answer. leftover_after answer (displaced_at old name) waker };
+    ghost leaves = { leftover_at };
 
-    ghost is_last = { is_ok };
-
-    ghost refusal = { Err };
-
-    fn poll_slot(
-        &mut self,
-        slot: Slot,
-        waker: Waker,
-    ) -> (Poll<Result<(T, Hold<L>), Fault>>, Leftover<Waker>) {
+    fn poll_slot(&mut self, slot: Slot, waker: Waker) -> (Poll<Self::Output>, Leftover<Waker>) {
         if !self.state.can_poll(slot) {
             let answer = Poll::Ready(Err(Fault::NoSlot));
             return (answer, Leftover::of(None, Some(waker)));
         }
-        let CountedMutex { state, book, rest } = self;
+        let CountedMutex { state, tally } = self;
         let (answer, leftover) = state.try_wait(slot, waker);
         match answer {
-            Poll::Ready(value) => (Poll::Ready(Ok((value, hold_of(book, rest)))), leftover),
+            Poll::Ready(value) => {
+                let hold = tally.hand_out(1);
+                (Poll::Ready(Ok(Locked { value, hold })), leftover)
+            }
             Poll::Pending => (Poll::Pending, leftover),
         }
-    }
-
-    fn ends(output: &Result<(T, Hold<L>), Fault>) -> bool {
-        output.is_ok()
-    }
-
-    fn refused(fault: Fault) -> Result<(T, Hold<L>), Fault> {
-        Err(fault)
     }
 }
 
 impl<T: Drop, L: Ledger> Cancel<MutexLock> for CountedMutex<T, L> {
     type Left = Option<Waker>;
 
-    ghost cancels = { λ old name left new. CancelsWhere (is_some (phase_at old name)) (Cancels old name new) (displaced_at old name) old left new };
+    ghost cancels = { CancelsAt Cancels };
 
     fn cancel(&mut self, slot: Slot) -> Option<Waker> {
         if !self.state.is_live(slot) {

@@ -1,27 +1,25 @@
-//! What stands behind the lock of a semaphore: its state, beside the book of the permits that are held.
-ghost use Rattle.std.specs.Prelude.{◌≡◌, ◌+◌, ◌≤◌, ◌^◌, ◌<◌, ℕ, true, false, Ok, Err, IfOk, IfSome, IfNone, IfErr, OnErr, is_ok, is_some};
-ghost use Rattle.fi_parts.specs.Machine.{phase_at, displaced_at};
+//! What stands behind the lock of a semaphore: its state, beside the tally of the permits that are held.
+ghost use Rattle.std.specs.Prelude.{◌≡◌, ◌+◌, ◌≤◌, ◌^◌, IfOk, IfSome, IfErr, OnErr, is_some};
 ghost use Rattle.fi_parts.specs.declared.errors.Fault.{Fault};
-ghost use Rattle.fi_locks.specs.Semaphore.{opened, Makes, Cancels, TriesAcquire, Releases, GivesBack, Disarms};
-ghost use Rattle.fi_sync.specs.Granted.{PollsAcquire};
-ghost use Rattle.fi_sync.specs.Waiting.{leftover_after, CancelsWhere};
+ghost use Rattle.fi_locks.specs.Semaphore.{opened, can_be_polled, Makes, Polls, Cancels, TriesAcquire, Releases, GivesBack, Disarms};
+ghost use Rattle.fi_sync.specs.Waiting.{PollsAt, leftover_at, CancelsAt};
 
 use crate::claim::Cancel;
 use crate::slot_future::PollSlot;
+use crate::tally::{Grant, Tally};
 use crate::wakes::HasOutbox;
 use fi_locks::SemaphoreState;
 use fi_parts::{Fault, Leftover, Slot};
 use futures::task::{Poll, Waker};
 use std::alloc::Global;
 use std::marker::Model;
-use std::sync::ledger::{Blank, Book, Ledger, Share};
+use std::sync::ledger::{Blank, Ledger};
 
-/// A semaphore's state, beside the book of the permits that are held.
+/// A semaphore's state, beside the tally of the permits that are held.
 #[derive(Drop)]
 pub struct CountedSemaphore<L: Ledger> {
     state: SemaphoreState<Waker>,
-    book: Book<L>,
-    rest: Share<L>,
+    tally: Tally<L>,
 }
 
 impl<L: Ledger> Model for CountedSemaphore<L> {
@@ -37,65 +35,12 @@ impl<L: Ledger> Model for CountedSemaphore<L> {
 
     ghost view = { λ counted. counted.state };
 
-    // Each permit that is held stands in one share, with a part of its own.
-    ghost invariant = { λ counted. (counted.book.total ≡ counted.state.own.held) × (counted.rest.parts + counted.book.total ≡ 18446744073709551615) × (counted.rest.amount ≡ 0) };
-}
-
-/// Permits that were granted. It has no `Drop`: only giving back and disarming take it, so a releaser whose drop keeps its permits
-/// does not compile.
-pub struct Grant<L: Ledger> {
-    permits: usize,
-    share: Share<L>,
-}
-
-impl<L: Ledger> Model for Grant<L> {
-    ghost use Rattle.std.specs.Prelude.{◌≡◌, ℕ};
-
-    ghost Value = { ℕ };
-
-    ghost view = { λ grant. grant.permits };
-
-    ghost invariant = { λ grant. (grant.share.parts ≡ grant.permits) × (grant.share.amount ≡ grant.permits) };
-}
-
-impl<L: Ledger> Grant<L> {
-    /// How many permits these are.
-    pub fn permits(&self) -> usize
-        ensures { result ≡ self.now }
-    {
-        self.permits
-    }
-
-    /// Takes all its permits out.
-    pub fn take(&mut self) -> Grant<L>
-        ensures all { result ≡ self.old }
-        ensures none { self.new ≡ 0 }
-    {
-        let permits = self.permits;
-        let share = self.share.split_off(permits as u64, permits as u64);
-        self.permits = 0;
-        Grant { permits, share }
-    }
+    // The ledger has a part for each permit that can be held: `u64::MAX`.
+    ghost invariant = { λ counted. (counted.tally ≡ counted.state.own.held) × (L.parts ≡ 18446744073709551615) };
 }
 
 /// The kind of a semaphore's futures.
 pub struct SemaphoreAcquire;
-
-// The grant of permits that are now held.
-fn grant_of<L: Ledger>(book: &mut Book<L>, rest: &mut Share<L>, permits: usize) -> Grant<L>
-    requires enough { permits ≤ rest.old.parts }
-    requires none { rest.old.amount ≡ 0 }
-    ensures permits { result ≡ permits }
-    ensures total { book.new.total ≡ book.old.total + permits }
-    ensures parts { rest.new.parts + permits ≡ rest.old.parts }
-    ensures amount { rest.new.amount ≡ 0 }
-{
-    let mut share = rest.split_off(permits as u64, 0);
-    if permits > 0 {
-        book.add(&mut share, permits as u64);
-    }
-    Grant { permits, share }
-}
 
 impl<L: Ledger> CountedSemaphore<L> {
     /// A semaphore with this many free permits, fair or unfair.
@@ -105,11 +50,9 @@ impl<L: Ledger> CountedSemaphore<L> {
         requires all { blank.parts ≡ 18446744073709551615 }
         ensures { result ≡ opened is_fair permits }
     {
-        let (book, rest) = blank.open::<L>();
         CountedSemaphore {
             state: SemaphoreState::new(alloc, is_fair, permits),
-            book,
-            rest,
+            tally: Tally::new(blank),
         }
     }
 
@@ -129,12 +72,11 @@ impl<L: Ledger> CountedSemaphore<L> {
         ensures tried { TriesAcquire self.old permits (is_some result) self.new }
         ensures granted { IfSome result (λ grant. grant ≡ permits) }
     {
-        let CountedSemaphore { state, book, rest } = self;
-        if !state.try_acquire_sync(permits) {
+        if !self.state.try_acquire_sync(permits) {
             return None;
         }
-        state.show();
-        Some(grant_of(book, rest, permits))
+        self.state.show();
+        Some(self.tally.hand_out(permits))
     }
 
     /// Adds free permits. Refused with `Overflow` if the permits, free and held, would be more than `usize::MAX`; then nothing
@@ -159,12 +101,8 @@ impl<L: Ledger> CountedSemaphore<L> {
         ensures held { grant ≤ self.old.own.held }
         ensures given_back { GivesBack self.old grant self.new }
     {
-        let CountedSemaphore { state, book, rest } = self;
-        let Grant { permits, mut share } = grant;
-        book.audit(&mut share);
-        state.give_back(permits);
-        rest.merge(share);
-        book.sub(rest, permits as u64);
+        let permits = self.tally.take_in(grant);
+        self.state.give_back(permits);
     }
 
     /// Forgets the permits, which are held: their grant is alive. They will not be given back.
@@ -172,57 +110,37 @@ impl<L: Ledger> CountedSemaphore<L> {
         ensures held { grant ≤ self.old.own.held }
         ensures disarmed { Disarms self.old grant self.new }
     {
-        let CountedSemaphore { state, book, rest } = self;
-        let Grant { permits, mut share } = grant;
-        book.audit(&mut share);
-        state.disarm(permits);
-        rest.merge(share);
-        book.sub(rest, permits as u64);
+        let permits = self.tally.take_in(grant);
+        self.state.disarm(permits);
     }
 }
 
 impl<L: Ledger> PollSlot<SemaphoreAcquire> for CountedSemaphore<L> {
     type Output = Result<Grant<L>, Fault>;
 
-    ghost polls = { PollsAcquire };
+    ghost polls = { PollsAt can_be_polled Polls };
 
-    ghost leaves = { λ old name waker answer. leftover_after answer (displaced_at old name) waker };
+    ghost leaves = { leftover_at };
 
-    ghost is_last = { is_ok };
-
-    ghost refusal = { Err };
-
-    fn poll_slot(
-        &mut self,
-        slot: Slot,
-        waker: Waker,
-    ) -> (Poll<Result<Grant<L>, Fault>>, Leftover<Waker>) {
+    fn poll_slot(&mut self, slot: Slot, waker: Waker) -> (Poll<Self::Output>, Leftover<Waker>) {
         if !self.state.can_poll(slot) {
             let answer = Poll::Ready(Err(Fault::NoSlot));
             return (answer, Leftover::of(None, Some(waker)));
         }
-        let CountedSemaphore { state, book, rest } = self;
+        let CountedSemaphore { state, tally } = self;
         let (answer, leftover) = state.acquire_or_register(slot, waker);
         state.show();
         match answer {
-            Poll::Ready(permits) => (Poll::Ready(Ok(grant_of(book, rest, permits))), leftover),
+            Poll::Ready(permits) => (Poll::Ready(Ok(tally.hand_out(permits))), leftover),
             Poll::Pending => (Poll::Pending, leftover),
         }
-    }
-
-    fn ends(output: &Result<Grant<L>, Fault>) -> bool {
-        output.is_ok()
-    }
-
-    fn refused(fault: Fault) -> Result<Grant<L>, Fault> {
-        Err(fault)
     }
 }
 
 impl<L: Ledger> Cancel<SemaphoreAcquire> for CountedSemaphore<L> {
     type Left = Option<Waker>;
 
-    ghost cancels = { λ old name left new. CancelsWhere (is_some (phase_at old name)) (Cancels old name new) (displaced_at old name) old left new };
+    ghost cancels = { CancelsAt Cancels };
 
     fn cancel(&mut self, slot: Slot) -> Option<Waker> {
         if !self.state.is_live(slot) {

@@ -3,8 +3,8 @@
 use crate::channel::GenericChannel;
 use crate::channel_stream::ChannelStream;
 use crate::claim::Claim;
-use crate::counted_mutex::{CountedMutex, Hold};
-use crate::counted_semaphore::{CountedSemaphore, Grant};
+use crate::counted_mutex::{CountedMutex, Locked};
+use crate::counted_semaphore::CountedSemaphore;
 use crate::event::ManualResetEvent;
 use crate::event_future::WaitForEventFuture;
 use crate::monitor::Monitor;
@@ -17,6 +17,7 @@ use crate::shared_semaphore::{
     SharedSemaphore, SharedSemaphoreAcquireFuture, SharedSemaphoreReleaser,
 };
 use crate::state_broadcast::StateBroadcastChannel;
+use crate::tally::{Grant, Tally};
 use crate::timer::{Timed, TimerFuture, TimerService};
 use crate::wakes::{HasOutbox, Owed};
 use fi_channels::{ChannelReceiveAccess, ChannelSendAccess};
@@ -183,9 +184,15 @@ impl<C> fmt::Debug for Timed<C> {
     }
 }
 
-impl<L: Ledger> fmt::Debug for Hold<L> {
+impl<T, L: Ledger> fmt::Debug for Locked<T, L> {
     fn fmt<F: fmt::Write>(&self, f: &mut fmt::Formatter<F>) -> fmt::Result {
-        f.debug_struct("Hold").finish()
+        f.debug_struct("Locked").finish()
+    }
+}
+
+impl<L: Ledger> fmt::Debug for Tally<L> {
+    fn fmt<F: fmt::Write>(&self, f: &mut fmt::Formatter<F>) -> fmt::Result {
+        f.debug_struct("Tally").finish()
     }
 }
 

@@ -1,10 +1,6 @@
 //! A wait for an event that threads share.
-ghost use Rattle.std.specs.Prelude.{◌≡◌, Result, Err, is_ok, is_some};
-ghost use Rattle.fi_parts.specs.Machine.{phase_at, displaced_at};
-ghost use Rattle.fi_parts.specs.declared.errors.Fault.{Fault};
 ghost use Rattle.fi_channels.specs.Event.{can_be_polled, Polls, Cancels};
-ghost use Rattle.fi_channels.specs.Polled.{Answered};
-ghost use Rattle.fi_sync.specs.Waiting.{PollsWhere, leftover_after, CancelsWhere};
+ghost use Rattle.fi_sync.specs.Waiting.{PollsAt, leftover_at, CancelsAt};
 
 use crate::claim::Cancel;
 use crate::monitor::Monitor;
@@ -24,20 +20,11 @@ pub type WaitForEventFuture<'a, R> = SlotFuture<&'a Monitor<EventState<Waker>, R
 impl PollSlot<EventWait> for EventState<Waker> {
     type Output = Result<(), Fault>;
 
-    // A poll that the event makes is never refused.
-    ghost polls = { λ old name waker answer new. PollsWhere (can_be_polled (phase_at old name)) (Answered (Polls old name waker) (λ fault state. ⊥)) (Err Fault.NoSlot) old answer new };
+    ghost polls = { PollsAt can_be_polled Polls };
 
-    ghost leaves = { λ old name waker answer. leftover_after answer (displaced_at old name) waker };
+    ghost leaves = { leftover_at };
 
-    ghost is_last = { is_ok };
-
-    ghost refusal = { Err };
-
-    fn poll_slot(
-        &mut self,
-        slot: Slot,
-        waker: Waker,
-    ) -> (Poll<Result<(), Fault>>, Leftover<Waker>) {
+    fn poll_slot(&mut self, slot: Slot, waker: Waker) -> (Poll<Self::Output>, Leftover<Waker>) {
         if !self.can_poll(slot) {
             let answer = Poll::Ready(Err(Fault::NoSlot));
             return (answer, Leftover::of(None, Some(waker)));
@@ -47,20 +34,12 @@ impl PollSlot<EventWait> for EventState<Waker> {
             (Poll::Pending, leftover) => (Poll::Pending, leftover),
         }
     }
-
-    fn ends(output: &Result<(), Fault>) -> bool {
-        output.is_ok()
-    }
-
-    fn refused(fault: Fault) -> Result<(), Fault> {
-        Err(fault)
-    }
 }
 
 impl Cancel<EventWait> for EventState<Waker> {
     type Left = Option<Waker>;
 
-    ghost cancels = { λ old name left new. CancelsWhere (is_some (phase_at old name)) (Cancels old name new) (displaced_at old name) old left new };
+    ghost cancels = { CancelsAt Cancels };
 
     fn cancel(&mut self, slot: Slot) -> Option<Waker> {
         if !self.is_live(slot) {

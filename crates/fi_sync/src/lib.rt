@@ -20,6 +20,7 @@ mod send_future;
 mod shared_semaphore;
 mod slot_future;
 mod state_broadcast;
+mod tally;
 #[cfg(test)]
 mod tests;
 mod timer;
@@ -30,8 +31,8 @@ mod wakes;
 pub use channel::{Channel, GenericChannel, UnbufferedChannel};
 pub use channel_stream::{ChannelStream, ChannelStreaming};
 pub use claim::{Cancel, Claim};
-pub use counted_mutex::{CountedMutex, Hold, MutexLock};
-pub use counted_semaphore::{CountedSemaphore, Grant, SemaphoreAcquire};
+pub use counted_mutex::{CountedMutex, Locked, MutexLock};
+pub use counted_semaphore::{CountedSemaphore, SemaphoreAcquire};
 pub use event::ManualResetEvent;
 pub use event_future::{EventWait, WaitForEventFuture};
 pub use monitor::{HasMonitor, Monitor};
@@ -45,7 +46,8 @@ pub use send_future::{ChannelSend, ChannelSendFuture};
 pub use shared_semaphore::{
     SharedSemaphore, SharedSemaphoreAcquireFuture, SharedSemaphoreReleaser,
 };
-pub use slot_future::{PollSlot, SlotFuture};
+pub use slot_future::{PollOutput, PollSlot, SlotFuture};
 pub use state_broadcast::{StateBroadcastChannel, StateReceiveFuture};
+pub use tally::{Grant, Tally};
 pub use timer::{Timed, TimerFuture, TimerService, TimerWait};
 pub use wakes::{HasOutbox, Owed};

@@ -9,9 +9,10 @@ ghost use Rattle.fi_sync.specs.Locked.{IsLockAnswer};
 ghost use Rattle.fi_sync.specs.Waiting.{polled};
 
 use crate::claim::Claim;
-use crate::counted_mutex::{CountedMutex, Hold, MutexLock};
+use crate::counted_mutex::{CountedMutex, Locked, MutexLock};
 use crate::monitor::Monitor;
 use crate::slot_future::SlotFuture;
+use crate::tally::Grant;
 use fi_parts::Fault;
 use futures::Future;
 use futures::task::{Context, Poll};
@@ -69,7 +70,7 @@ impl<T: Drop, R: Wait, L: Ledger> Mutex<T, R, L> {
     /// Locks the mutex at once: its guard. None where it is locked, or is fair and a future is queued for it. Keeps
     /// `GenericMutex::try_lock`.
     pub fn try_lock(&self) -> Option<MutexGuard<'_, T, R, L>> {
-        let (value, hold) = self.monitor.call((), |mutex, ()| mutex.try_lock())?;
+        let Locked { value, hold } = self.monitor.call((), |mutex, ()| mutex.try_lock())?;
         Some(MutexGuard {
             monitor: &self.monitor,
             value,
@@ -89,15 +90,19 @@ impl<T: Drop, R: Wait, L: Ledger> Mutex<T, R, L> {
 pub struct MutexGuard<'a, T: Drop, R: Wait, L: Ledger> {
     monitor: &'a Monitor<CountedMutex<T, L>, R>,
     value: T,
-    hold: Hold<L>,
+    hold: Grant<L>,
 }
 
 impl<'a, T: Drop, R: Wait, L: Ledger> Model for MutexGuard<'a, T, R, L> {
+    ghost use Rattle.std.specs.Prelude.{◌≡◌};
+
     ghost Value = { T };
 
     ghost coded = { T.code };
 
     ghost view = { λ guard. guard.value };
+
+    ghost invariant = { λ guard. (guard.hold ≡ 1) × (L.parts ≡ 1) };
 }
 
 impl<T: Drop, R: Wait, L: Ledger> MutexGuard<'_, T, R, L> {
@@ -105,7 +110,7 @@ impl<T: Drop, R: Wait, L: Ledger> MutexGuard<'_, T, R, L> {
     pub fn never_two(&mut self, other: &mut MutexGuard<'_, T, R, L>)
         ensures { ⊥ }
     {
-        self.hold.never_two(&mut other.hold);
+        self.hold.apart(&mut other.hold);
     }
 }
 
@@ -116,10 +121,7 @@ impl<T: Drop, R: Wait, L: Ledger> Drop for MutexGuard<'_, T, R, L> {
             value,
             hold,
         } = self;
-        monitor.call((value, hold), |mutex, held| {
-            let (value, hold) = held;
-            mutex.unlock(value, hold)
-        });
+        monitor.call(Locked { value, hold }, CountedMutex::unlock);
     }
 }
 
@@ -152,6 +154,7 @@ impl<T: Drop, R: Wait, L: Ledger> DerefMut for MutexGuard<'_, T, R, L> {
 /// Locks a mutex. Its drop unregisters it; if it was told, the oldest queued future is told and woken in its place.
 ///
 /// Its output is the guard, once the mutex is free for it. Keeps `GenericMutexLockFuture` of futures-intrusive's `sync`.
+#[derive(Drop)]
 pub struct MutexLockFuture<'a, T: Drop, R: Wait, L: Ledger> {
     monitor: &'a Monitor<CountedMutex<T, L>, R>,
     future: SlotFuture<&'a Monitor<CountedMutex<T, L>, R>, MutexLock>,
@@ -190,7 +193,7 @@ impl<'a, T: Drop, R: Wait, L: Ledger> Future for MutexLockFuture<'a, T, R, L> {
         ensures answered { IsLockAnswer self.old.has_ended cx.new.lacks_waker result }
     {
         match self.future.poll(cx) {
-            Poll::Ready(Ok((value, hold))) => Poll::Ready(Ok(MutexGuard {
+            Poll::Ready(Ok(Locked { value, hold })) => Poll::Ready(Ok(MutexGuard {
                 monitor: self.monitor,
                 value,
                 hold,
@@ -198,12 +201,5 @@ impl<'a, T: Drop, R: Wait, L: Ledger> Future for MutexLockFuture<'a, T, R, L> {
             Poll::Ready(Err(fault)) => Poll::Ready(Err(fault)),
             Poll::Pending => Poll::Pending,
         }
-    }
-}
-
-impl<T: Drop, R: Wait, L: Ledger> Drop for MutexLockFuture<'_, T, R, L> {
-    fn drop(self) {
-        let MutexLockFuture { monitor: _, future } = self;
-        drop(future);
     }
 }

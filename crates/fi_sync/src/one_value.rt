@@ -53,13 +53,7 @@ impl<T: Drop, G: GivesValue<T>, R: Wait> OneValueChannel<T, G, R> {
     pub fn send(&self, value: T) -> Result<(), ChannelSendError<T>>
         ensures { IfErr result (λ refused. refused.0 ≡ value) }
     {
-        let send = |channel: &mut OneValueState<T, Waker, G>, value: T| -> Result<
-            (),
-            ChannelSendError<T>,
-        >
-            ensures { IfErr result (λ refused. refused.0 ≡ value) }
-        { channel.send(value) };
-        self.monitor.call(value, send)
+        self.monitor.call(value, OneValueState::send)
     }
 
     /// Closes the channel and wakes all receives that wait, the oldest first. Keeps `OneshotChannel::close`.

@@ -1,5 +1,5 @@
 //! Receives from the channels that threads share.
-ghost use Rattle.std.specs.Prelude.{◌≡◌, Err, is_ok};
+ghost use Rattle.std.specs.Prelude.{Err};
 ghost use Rattle.fi_parts.specs.declared.errors.Fault.{Fault};
 ghost use Rattle.fi_sync.specs.Waiting.{PollsWhere, leftover_after, CancelsWhere};
 
@@ -27,28 +27,12 @@ impl<C: ChannelReceiveAccess<Waker = Waker>> PollSlot<ChannelReceive> for C {
 
     ghost leaves = { λ old name waker answer. leftover_after answer (C.waker_of old name) waker };
 
-    ghost is_last = { is_ok };
-
-    ghost refusal = { Err };
-
-    fn poll_slot(
-        &mut self,
-        slot: Slot,
-        waker: Waker,
-    ) -> (Poll<Result<Option<C::Item>, Fault>>, Leftover<Waker>) {
+    fn poll_slot(&mut self, slot: Slot, waker: Waker) -> (Poll<Self::Output>, Leftover<Waker>) {
         if !self.can_receive(slot) {
             let answer = Poll::Ready(Err(Fault::NoSlot));
             return (answer, Leftover::of(None, Some(waker)));
         }
         self.receive_or_register(slot, waker)
-    }
-
-    fn ends(output: &Result<Option<C::Item>, Fault>) -> bool {
-        output.is_ok()
-    }
-
-    fn refused(fault: Fault) -> Result<Option<C::Item>, Fault> {
-        Err(fault)
     }
 }
 

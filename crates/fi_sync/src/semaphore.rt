@@ -2,11 +2,11 @@
 ghost use Rattle.std.specs.Prelude.{◌≡◌, false, IfOk, IfErr, IfSome};
 ghost use Rattle.fi_parts.specs.declared.errors.Fault.{Fault};
 
-use crate::counted_semaphore::{CountedSemaphore, Grant};
+use crate::counted_semaphore::CountedSemaphore;
 use crate::monitor::Monitor;
 use crate::semaphore_future::SemaphoreAcquireFutureOf;
 use crate::semaphore_releaser::SemaphoreReleaserOf;
-use fi_parts::{Fault, Slot};
+use fi_parts::Fault;
 use std::alloc::Global;
 use std::marker::Model;
 use std::sync::Wait;
@@ -60,7 +60,7 @@ impl<R: Wait, L: Ledger> Semaphore<R, L> {
         ensures made { IfOk result (λ future. future ≡ record { source = self.now; has_ended = false }) }
         ensures fault { IfErr result (λ fault. fault ≡ Fault.NoMemory) }
     {
-        let slot = self.monitor.claim_acquire(permits)?;
+        let slot = self.monitor.call(permits, CountedSemaphore::claim_acquire)?;
         Ok(SemaphoreAcquireFutureOf::of(&self.monitor, &self.monitor, slot))
     }
 
@@ -69,7 +69,7 @@ impl<R: Wait, L: Ledger> Semaphore<R, L> {
     pub fn try_acquire(&self, permits: usize) -> Option<SemaphoreReleaser<'_, R, L>>
         ensures { IfSome result (λ releaser. releaser ≡ permits) }
     {
-        let grant = self.monitor.try_acquire(permits)?;
+        let grant = self.monitor.call(permits, CountedSemaphore::try_acquire)?;
         Some(SemaphoreReleaserOf::of(&self.monitor, grant))
     }
 
@@ -80,45 +80,11 @@ impl<R: Wait, L: Ledger> Semaphore<R, L> {
     pub fn release(&self, permits: usize) -> Result<(), Fault>
         ensures { IfErr result (λ fault. fault ≡ Fault.Overflow) }
     {
-        self.monitor.release(permits)
+        self.monitor.call(permits, CountedSemaphore::release)
     }
 
     /// How many permits were free when it was looked at. Keeps `GenericSemaphore::permits`.
     pub fn permits(&self) -> usize {
-        self.monitor.permits()
-    }
-}
-
-// The calls of a semaphore, however it is reached.
-impl<R: Wait, L: Ledger> Monitor<CountedSemaphore<L>, R> {
-    pub(crate) fn claim_acquire(&self, permits: usize) -> Result<Slot, Fault>
-        ensures { IfErr result (λ fault. fault ≡ Fault.NoMemory) }
-    {
-        let claim = |semaphore: &mut CountedSemaphore<L>, permits: usize| -> Result<Slot, Fault>
-            ensures { IfErr result (λ fault. fault ≡ Fault.NoMemory) }
-        { semaphore.claim_acquire(permits) };
-        self.call(permits, claim)
-    }
-
-    pub(crate) fn try_acquire(&self, permits: usize) -> Option<Grant<L>>
-        ensures { IfSome result (λ grant. grant ≡ permits) }
-    {
-        let try_acquire = |semaphore: &mut CountedSemaphore<L>, permits: usize| -> Option<Grant<L>>
-            ensures { IfSome result (λ grant. grant ≡ permits) }
-        { semaphore.try_acquire(permits) };
-        self.call(permits, try_acquire)
-    }
-
-    pub(crate) fn release(&self, permits: usize) -> Result<(), Fault>
-        ensures { IfErr result (λ fault. fault ≡ Fault.Overflow) }
-    {
-        let release = |semaphore: &mut CountedSemaphore<L>, permits: usize| -> Result<(), Fault>
-            ensures { IfErr result (λ fault. fault ≡ Fault.Overflow) }
-        { semaphore.release(permits) };
-        self.call(permits, release)
-    }
-
-    pub(crate) fn permits(&self) -> usize {
-        self.call((), |semaphore, ()| semaphore.permits())
+        self.monitor.call((), |semaphore, ()| semaphore.permits())
     }
 }

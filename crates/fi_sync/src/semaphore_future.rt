@@ -21,10 +21,11 @@ use std::sync::ledger::Ledger;
 /// Acquires permits of a semaphore. Its drop unregisters it; a notice that it had not used is passed on to those who wait.
 ///
 /// Its output is the releaser of the permits, once they are granted. It reaches the semaphore by a reference or an `Arc`.
+#[derive(Drop)]
 pub struct SemaphoreAcquireFutureOf<M: HasMonitor<State = CountedSemaphore<L>>, L: Ledger> {
+    future: SlotFuture<M, SemaphoreAcquire>,
     // The releaser's way to the semaphore, which is made with the future: so a grant is never refused for want of memory.
     releaser_monitor: Option<M>,
-    future: SlotFuture<M, SemaphoreAcquire>,
 }
 
 impl<M: HasMonitor<State = CountedSemaphore<L>>, L: Ledger> Model
@@ -46,8 +47,8 @@ impl<M: HasMonitor<State = CountedSemaphore<L>>, L: Ledger> SemaphoreAcquireFutu
         ensures { result ≡ record { source = M.source monitor; has_ended = false } }
     {
         SemaphoreAcquireFutureOf {
-            releaser_monitor: Some(releaser_monitor),
             future: SlotFuture::new(monitor, Claim::of(slot)),
+            releaser_monitor: Some(releaser_monitor),
         }
     }
 
@@ -83,17 +84,5 @@ impl<M: HasMonitor<State = CountedSemaphore<L>>, L: Ledger> Future
             Poll::Ready(Err(fault)) => Poll::Ready(Err(fault)),
             Poll::Pending => Poll::Pending,
         }
-    }
-}
-
-impl<M: HasMonitor<State = CountedSemaphore<L>>, L: Ledger> Drop
-    for SemaphoreAcquireFutureOf<M, L> {
-    fn drop(self) {
-        let SemaphoreAcquireFutureOf {
-            releaser_monitor,
-            future,
-        } = self;
-        drop(future);
-        drop(releaser_monitor);
     }
 }

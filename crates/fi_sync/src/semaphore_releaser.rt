@@ -1,8 +1,9 @@
 //! The releaser of permits of a semaphore that threads share.
 ghost use Rattle.std.specs.Prelude.{◌≡◌, ℕ};
 
-use crate::counted_semaphore::{CountedSemaphore, Grant};
+use crate::counted_semaphore::CountedSemaphore;
 use crate::monitor::HasMonitor;
+use crate::tally::Grant;
 use std::marker::Model;
 use std::sync::ledger::Ledger;
 
@@ -36,11 +37,9 @@ impl<M: HasMonitor<State = CountedSemaphore<L>>, L: Ledger> SemaphoreReleaserOf<
         ensures permits { result ≡ self.old }
         ensures none { self.new ≡ 0 }
     {
-        let permits = self.grant.permits();
+        let permits = self.grant.units();
         let grant = self.grant.take();
-        self.monitor
-            .monitor()
-            .call(grant, |semaphore, grant| semaphore.disarm(grant));
+        self.monitor.monitor().call(grant, CountedSemaphore::disarm);
         permits
     }
 }
@@ -48,9 +47,7 @@ impl<M: HasMonitor<State = CountedSemaphore<L>>, L: Ledger> SemaphoreReleaserOf<
 impl<M: HasMonitor<State = CountedSemaphore<L>>, L: Ledger> Drop for SemaphoreReleaserOf<M, L> {
     fn drop(self) {
         let SemaphoreReleaserOf { monitor, grant } = self;
-        monitor
-            .monitor()
-            .call(grant, |semaphore, grant| semaphore.give_back(grant));
+        monitor.monitor().call(grant, CountedSemaphore::give_back);
         drop(monitor);
     }
 }

@@ -7,7 +7,7 @@ ghost use Rattle.fi_sync.specs.Waiting.{PollsWhere};
 
 use crate::claim::Cancel;
 use crate::monitor::Monitor;
-use crate::slot_future::{PollSlot, SlotFuture};
+use crate::slot_future::{PollOutput, PollSlot, SlotFuture};
 use crate::wakes::HasOutbox;
 use fi_channels::{ChannelSendAccess, SendFault};
 use fi_parts::{Fault, Leftover, Slot};
@@ -22,6 +22,23 @@ pub struct ChannelSend;
 /// A refusal (`SendFault::Fault`) leaves the send with its value. Keeps `ChannelSendFuture` of futures-intrusive's `channel`.
 pub type ChannelSendFuture<'a, C, R> = SlotFuture<&'a Monitor<C, R>, ChannelSend>;
 
+impl<T> PollOutput for Result<(), SendFault<T>> {
+    ghost is_last = { is_sent };
+
+    ghost refusal = { λ fault. Err (send_fault.Fault fault) };
+
+    fn ends(&self) -> bool {
+        match self {
+            Ok(()) | Err(SendFault::Closed(_)) => true,
+            Err(SendFault::Fault(_)) => false,
+        }
+    }
+
+    fn refused(fault: Fault) -> Self {
+        Err(SendFault::Fault(fault))
+    }
+}
+
 impl<C: ChannelSendAccess<Waker = Waker>> PollSlot<ChannelSend> for C
 where
     C::Item: Drop,
@@ -32,31 +49,12 @@ where
 
     ghost leaves = { λ old name waker answer. leftover_of_send answer (C.waker_of old name) waker };
 
-    ghost is_last = { is_sent };
-
-    ghost refusal = { λ fault. Err (send_fault.Fault fault) };
-
-    fn poll_slot(
-        &mut self,
-        slot: Slot,
-        waker: Waker,
-    ) -> (Poll<Result<(), SendFault<C::Item>>>, Leftover<Waker>) {
+    fn poll_slot(&mut self, slot: Slot, waker: Waker) -> (Poll<Self::Output>, Leftover<Waker>) {
         if !self.can_send(slot) {
             let answer = Poll::Ready(Err(SendFault::Fault(Fault::NoSlot)));
             return (answer, Leftover::of(None, Some(waker)));
         }
         self.send_or_register(slot, waker)
-    }
-
-    fn ends(output: &Result<(), SendFault<C::Item>>) -> bool {
-        match output {
-            Ok(()) | Err(SendFault::Closed(_)) => true,
-            Err(SendFault::Fault(_)) => false,
-        }
-    }
-
-    fn refused(fault: Fault) -> Result<(), SendFault<C::Item>> {
-        Err(SendFault::Fault(fault))
     }
 }
 

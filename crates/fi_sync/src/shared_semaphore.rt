@@ -84,7 +84,7 @@ impl<R: Wait + Drop, L: Ledger> SharedSemaphore<R, L> {
     {
         let monitor = self.share()?;
         let releaser_monitor = self.share()?;
-        let slot = self.monitor.claim_acquire(permits)?;
+        let slot = self.monitor.call(permits, CountedSemaphore::claim_acquire)?;
         Ok(SemaphoreAcquireFutureOf::of(monitor, releaser_monitor, slot))
     }
 
@@ -99,7 +99,7 @@ impl<R: Wait + Drop, L: Ledger> SharedSemaphore<R, L> {
         ensures fault { IfErr result (λ fault. fault ≡ Fault.NoMemory) }
     {
         let monitor = self.share()?;
-        match self.monitor.try_acquire(permits) {
+        match self.monitor.call(permits, CountedSemaphore::try_acquire) {
             Some(grant) => Ok(Some(SemaphoreReleaserOf::of(monitor, grant))),
             None => Ok(None),
         }
@@ -109,12 +109,12 @@ impl<R: Wait + Drop, L: Ledger> SharedSemaphore<R, L> {
     pub fn release(&self, permits: usize) -> Result<(), Fault>
         ensures { IfErr result (λ fault. fault ≡ Fault.Overflow) }
     {
-        self.monitor.release(permits)
+        self.monitor.call(permits, CountedSemaphore::release)
     }
 
     /// How many permits were free when it was looked at. Keeps `GenericSharedSemaphore::permits`.
     pub fn permits(&self) -> usize {
-        self.monitor.permits()
+        self.monitor.call((), |semaphore, ()| semaphore.permits())
     }
 
     fn share(&self) -> Result<Arc<Monitor<CountedSemaphore<L>, R>, Global>, Fault>

@@ -1,5 +1,5 @@
 //! The future of every primitive that threads share.
-ghost use Rattle.std.specs.Prelude.{◌≡◌, ℕ, Bool, true, false, IfSome, is_some};
+ghost use Rattle.std.specs.Prelude.{◌≡◌, ℕ, Bool, Err, true, false, IfSome, is_ok, is_some};
 ghost use Rattle.futures.specs.declared.task.Poll.{Poll};
 ghost use Rattle.futures.specs.declared.task.waker.Waker.{Waker};
 ghost use Rattle.futures.specs.Poll.{OnPending};
@@ -15,10 +15,42 @@ use futures::Future;
 use futures::task::{Context, Poll, Waker};
 use std::marker::Model;
 
+/// What a poll gives that is ready: an output that ends its future, or that the poll was refused.
+pub trait PollOutput {
+    /// The output ends its future; a refusal doesn't.
+    ghost is_last: { Self → Bool };
+
+    /// The output of a poll that is refused for this.
+    ghost refusal: { Fault → Self };
+
+    /// Whether this output ends its future.
+    fn ends(&self) -> bool
+        ensures { result ≡ is_last self.now };
+
+    /// The output of a poll that is refused for this, which doesn't end its future.
+    fn refused(fault: Fault) -> Self
+        ensures output { result ≡ refusal fault }
+        ensures goes_on { is_last result ≡ false };
+}
+
+impl<T> PollOutput for Result<T, Fault> {
+    ghost is_last = { is_ok };
+
+    ghost refusal = { Err };
+
+    fn ends(&self) -> bool {
+        self.is_ok()
+    }
+
+    fn refused(fault: Fault) -> Self {
+        Err(fault)
+    }
+}
+
 /// A state whose futures of the kind `K` are polled under their slots.
 pub trait PollSlot<K>: Cancel<K> {
     /// What a poll gives that is ready.
-    type Output;
+    type Output: PollOutput;
 
     /// A poll under this name with this waker may answer this and go on from old to new.
     ghost polls: { Self → ℕ → Waker → Poll Self.Output → Self → Type 0 };
@@ -26,26 +58,11 @@ pub trait PollSlot<K>: Cancel<K> {
     /// The wakers of no more use after such a poll.
     ghost leaves: { Self → ℕ → Waker → Poll Self.Output → Leftover Waker };
 
-    /// The output ends its future; a refusal doesn't.
-    ghost is_last: { Self.Output → Bool };
-
-    /// The output of a poll that is refused for this.
-    ghost refusal: { Fault → Self.Output };
-
     /// Polls the future of this kind under this slot. It is refused with `NoSlot` where none lives there that can be polled; then
     /// the waker comes back and nothing has changed.
     fn poll_slot(&mut self, slot: Slot, waker: Waker) -> (Poll<Self::Output>, Leftover<Waker>)
         ensures polled { polls self.old slot.0 waker result.0 self.new }
         ensures leftover { result.1 ≡ leaves self.old slot.0 waker result.0 };
-
-    /// Whether this output ends its future.
-    fn ends(output: &Self::Output) -> bool
-        ensures { result ≡ is_last output.now };
-
-    /// The output of a poll that is refused for this, which doesn't end its future.
-    fn refused(fault: Fault) -> Self::Output
-        ensures output { result ≡ refusal fault }
-        ensures goes_on { is_last result ≡ false };
 }
 
 /// A future of the kind `K` of a primitive that threads share, which it reaches by a reference or an `Arc`. Its drop cancels it.
@@ -123,9 +140,9 @@ where
     fn poll(&mut self, cx: &mut Context<'_>) -> Poll<<M::State as PollSlot<K>>::Output>
         ensures registered { OnPending result (Covers cx.new (λ source. source ≡ self.new.source)) }
         ensures kept { Keeps cx.old cx.new }
-        ensures stands { self.new ≡ polled M.State.is_last self.old result }
+        ensures stands { self.new ≡ polled M.State.Output.is_last self.old result }
         ensures spent { self.old.has_ended ≡ true → result ≡ Poll.Pending }
-        ensures answered { IsAnswer M.State.polls (M.State.refusal Fault.NoMemory) self.old.has_ended cx.new.lacks_waker result }
+        ensures answered { IsAnswer M.State.polls (M.State.Output.refusal Fault.NoMemory) self.old.has_ended cx.new.lacks_waker result }
     {
         let monitor = self.monitor.monitor();
         let _: Poll<()> = cx.register(monitor.source(), &mut self.spare);
@@ -136,12 +153,12 @@ where
             return Poll::Pending;
         };
         let Some(waker) = self.spare.take() else {
-            return Poll::Ready(<M::State as PollSlot<K>>::refused(Fault::NoMemory));
+            return Poll::Ready(<M::State as PollSlot<K>>::Output::refused(Fault::NoMemory));
         };
         let (answer, leftover) = monitor.poll::<K>(claim.slot(), waker);
         self.spare = leftover.displaced.or(leftover.unused);
         if let Poll::Ready(output) = &answer {
-            self.is_ended = <M::State as PollSlot<K>>::ends(output);
+            self.is_ended = output.ends();
         }
         answer
     }

@@ -51,13 +51,7 @@ impl<T: Clone, R: Wait> StateBroadcastChannel<T, R> {
     pub fn send(&self, value: T) -> Result<(), ChannelSendError<T>>
         ensures { IfErr result (λ refused. refused.0 ≡ value) }
     {
-        let replace = |channel: &mut StateBroadcastState<T, Waker>, value: T| -> Result<
-            Option<T>,
-            ChannelSendError<T>,
-        >
-            ensures { IfErr result (λ refused. refused.0 ≡ value) }
-        { channel.replace(value) };
-        match self.monitor.call(value, replace) {
+        match self.monitor.call(value, StateBroadcastState::replace) {
             Ok(_replaced) => Ok(()),
             Err(refused) => Err(refused),
         }
@@ -81,9 +75,7 @@ impl<T: Clone, R: Wait> StateBroadcastChannel<T, R> {
         ensures made { IfOk result (λ future. future ≡ record { source = self.now; has_ended = false }) }
         ensures fault { IfErr result (λ fault. fault ≡ Fault.NoMemory) }
     {
-        let slot = self
-            .monitor
-            .call(seen, |channel, seen| channel.claim_receive(seen))?;
+        let slot = self.monitor.call(seen, StateBroadcastState::claim_receive)?;
         Ok(SlotFuture::new(&self.monitor, Claim::of(slot)))
     }
 }

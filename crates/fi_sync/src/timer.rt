@@ -1,5 +1,5 @@
 //! The timer that threads share.
-ghost use Rattle.std.specs.Prelude.{◌≡◌, ℕ, false, Err, IfOk, IfErr, is_ok, is_some};
+ghost use Rattle.std.specs.Prelude.{◌≡◌, ℕ, false, Err, IfOk, IfErr, is_some};
 ghost use Rattle.fi_parts.specs.Machine.{phase_at, displaced_at};
 ghost use Rattle.fi_parts.specs.declared.errors.Fault.{Fault};
 ghost use Rattle.fi_locks.specs.Timer.{can_be_polled, Cancels};
@@ -77,9 +77,7 @@ impl<C: Clock + Drop, R: Wait> TimerService<C, R> {
         ensures made { IfOk result (λ future. future ≡ record { source = self.now; has_ended = false }) }
         ensures fault { IfErr result (λ fault. fault ≡ Fault.NoMemory) }
     {
-        let slot = self
-            .monitor
-            .call(delay, |timed, delay| timed.claim_delay(delay))?;
+        let slot = self.monitor.call(delay, Timed::claim_delay)?;
         Ok(SlotFuture::new(&self.monitor, Claim::of(slot)))
     }
 
@@ -118,15 +116,7 @@ impl<C: Clock> PollSlot<TimerWait> for Timed<C> {
 
     ghost leaves = { λ old name waker answer. leftover_after answer (displaced_at old.timer name) waker };
 
-    ghost is_last = { is_ok };
-
-    ghost refusal = { Err };
-
-    fn poll_slot(
-        &mut self,
-        slot: Slot,
-        waker: Waker,
-    ) -> (Poll<Result<(), Fault>>, Leftover<Waker>) {
+    fn poll_slot(&mut self, slot: Slot, waker: Waker) -> (Poll<Self::Output>, Leftover<Waker>) {
         if !self.timer.can_poll(slot) {
             let answer = Poll::Ready(Err(Fault::NoSlot));
             return (answer, Leftover::of(None, Some(waker)));
@@ -136,14 +126,6 @@ impl<C: Clock> PollSlot<TimerWait> for Timed<C> {
             (Poll::Ready(()), leftover) => (Poll::Ready(Ok(())), leftover),
             (Poll::Pending, leftover) => (Poll::Pending, leftover),
         }
-    }
-
-    fn ends(output: &Result<(), Fault>) -> bool {
-        output.is_ok()
-    }
-
-    fn refused(fault: Fault) -> Result<(), Fault> {
-        Err(fault)
     }
 }
 
