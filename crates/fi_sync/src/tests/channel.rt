@@ -1,8 +1,9 @@
 //! The thread-safe channel of many values.
 
 use super::{are_woken, poll_once, receives, sends, shares, waits};
-use crate::{Channel, UnbufferedChannel};
-use fi_channels::{SendFault, TryReceiveError};
+use crate::{Channel, GenericChannel, UnbufferedChannel};
+use fi_channels::{SendFault, TryReceiveError, TrySendError};
+use fi_parts::buffer::FixedHeapBuf;
 use futures::Future;
 use futures::executor::block_on;
 use futures::task::{Doorbell, Poll, Queue};
@@ -38,6 +39,14 @@ fn is_sent_back<R: Wait + Abort, F: Future<Output = Result<(), SendFault<u64>>>>
         Poll::Ready(Err(SendFault::Closed(back))) => back == value,
         _ => false,
     }
+}
+
+#[test]
+fn a_channel_has_the_capacity_asked_for(rt: HostRuntime) {
+    let channel: GenericChannel<u64, FixedHeapBuf<u64>, HostRuntime> =
+        GenericChannel::with_capacity(rt.alloc(), rt, 2).expect(&rt, "memory");
+    assert!(rt; channel.try_send(1).is_ok() && channel.try_send(2).is_ok());
+    assert!(rt; matches!(channel.try_send(3), Err(TrySendError::Full(3))));
 }
 
 #[test]

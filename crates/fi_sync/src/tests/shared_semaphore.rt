@@ -47,6 +47,21 @@ fn outlives<R: Wait + Abort + Drop + Copy, L: Ledger>(
     is_refused && is_pending && is_woken && is_one_free && other.permits() == 2
 }
 
+// Whether who asks for one permit passes a future that waits for three, of which two are free.
+fn passes<R: Wait + Abort + Drop + Copy, L: Ledger>(
+    rt: &R,
+    tasks: &Queue,
+    semaphore: &SharedSemaphore<R, L>,
+) -> bool {
+    let mut waiting = semaphore.acquire(3).expect(rt, "memory");
+    let (polled, task) = poll_once(rt, tasks, &mut waiting);
+    assert!(*rt; polled.is_pending());
+    let has_passed = matches!(semaphore.try_acquire(1), Ok(Some(_)));
+    drop(waiting);
+    assert!(*rt; are_woken(rt, tasks, &[task]));
+    has_passed
+}
+
 fn shared<R: Wait + Abort + Drop + Copy + AllocGlobal, L: Ledger>(
     rt: R,
     tasks: &Queue,
@@ -59,7 +74,9 @@ fn shared<R: Wait + Abort + Drop + Copy + AllocGlobal, L: Ledger>(
     let semaphore = SharedSemaphore::<R, L>::new(rt.alloc(), rt, blank, true, 1);
     let semaphore = semaphore.expect(&rt, "memory");
     let is_added = semaphore.release(1).is_ok() && semaphore.release(usize::MAX).is_err();
-    is_added && outlives(&rt, tasks, semaphore)
+    // It is fair: nobody passes who waits.
+    let has_passed = passes(&rt, tasks, &semaphore);
+    is_added && !has_passed && outlives(&rt, tasks, semaphore)
 }
 
 #[test]
