@@ -25,8 +25,8 @@ use std::marker::Model;
 ///
 /// A send that finds the buffer full waits with its value; so with capacity 0 every send waits until a receive takes its
 /// value. The channel names the wakers to be woken and wakes nobody itself: whoever calls it takes them out by `next_wake`.
-/// Each call takes constant time (`close` for each future that waits) and, but for the makings and a send into a buffer that
-/// has to grow, no memory. Keeps `GenericChannel` of futures-intrusive's `channel`.
+/// But for the makings and a send into a buffer that has to grow, each call takes constant time (`close` for each future that
+/// waits) and no memory. Keeps `GenericChannel` of futures-intrusive's `channel`.
 #[derive(Drop)]
 pub struct ChannelState<T: Drop, B: RingBuf<Item = T>, W> {
     fields: ChannelFields<T, B, W>,
@@ -94,7 +94,8 @@ impl<T: Drop, B: RingBuf<Item = T>, W: Drop> ChannelState<T, B, W> {
         self.fields.try_send(value)
     }
 
-    /// Receives the oldest value at once, if there is one; then the oldest send that waits hands its own on, and is named.
+    /// Receives the oldest value at once, if there is one. The oldest send that waits then moves its value into the free place, and
+    /// is named to be woken.
     ///
     /// Else nothing has changed: `Closed` if the channel is closed, else `Empty`. Keeps `GenericChannel::try_receive`.
     pub fn try_receive(&mut self) -> Result<T, TryReceiveError>

@@ -260,7 +260,7 @@ impl<T: Drop, B: RingBuf<Item = T>, W: Drop> ChannelFields<T, B, W> {
     }
 
     /// Polls a send: its value is stored or waits with it, and the oldest receive is told; a closed channel hands it back.
-    /// Refused where memory to store it was: then nothing has changed, and the send still owns its value.
+    /// Refused if there is no memory to store it; then nothing has changed, and the send still owns its value.
     pub fn send_or_register(&mut self, slot: Slot, waker: W) -> Sent<T, W>
         requires sound { IsSound (machine_of B.bounded self.old) }
         requires live { can_send (phase_of self.old.waiters.sends slot.0) ≡ true }

@@ -33,7 +33,7 @@ impl<K> LocalFutureOf<K> {
         }
     }
 
-    /// The name of this future in its primitive.
+    /// The slot of this future in its primitive.
     pub fn slot(&self) -> Slot
         ensures { result.0 ≡ self.now.name }
     {

@@ -10,7 +10,7 @@ use futures::task::Poll;
 /// What a send's future waits for: that its value is stored or taken.
 pub struct ChannelSend;
 
-/// Sends a value on a local channel. It is spent by `cancel`, with its channel; it cannot just be let go.
+/// Sends a value on a local channel. It is spent by `cancel`, with its channel; it cannot be dropped.
 ///
 /// Keeps `ChannelSendFuture` of futures-intrusive's `channel`.
 pub type LocalSendFuture = LocalFutureOf<ChannelSend>;

@@ -26,7 +26,7 @@ struct Fields<T, W> {
 ///
 /// A fair mutex is granted in the order of the futures' first polls. An unfair one is granted to whoever comes while it is free,
 /// also before those who were told. It names the wakers to be woken and wakes nobody itself: whoever calls it takes them out by
-/// `next_wake`. Each call takes constant time, and only the makings of futures take memory. Keeps `GenericMutex` of
+/// `next_wake`. Each call but a making takes constant time, and only the makings of futures take memory. Keeps `GenericMutex` of
 /// futures-intrusive's `sync`.
 #[derive(Drop)]
 pub struct MutexState<T, W> {

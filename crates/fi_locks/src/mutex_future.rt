@@ -10,7 +10,7 @@ use fi_parts::Slot;
 use futures::task::Poll;
 use std::marker::Model;
 
-/// Locks a local mutex. It is spent by `cancel`, with its mutex; it cannot just be let go.
+/// Locks a local mutex. It is spent by `cancel`, with its mutex; it cannot be dropped.
 ///
 /// Keeps `GenericMutexLockFuture` of futures-intrusive's `sync`.
 pub struct LocalMutexLockFuture {
@@ -38,7 +38,7 @@ impl LocalMutexLockFuture {
         }
     }
 
-    /// The name of this future in its mutex.
+    /// The slot of this future in its mutex.
     pub fn slot(&self) -> Slot
         ensures { result.0 ≡ self.now.name }
     {

@@ -43,8 +43,8 @@ struct Fields<W> {
 /// free. An unfair one lets a caller that finds permits free pass those that wait; if its futures need different numbers of
 /// permits, one whose need is free can be left without a notice.
 ///
-/// It names the wakers to be woken and wakes nobody itself: whoever calls it takes them out by `next_wake`. Each call takes
-/// constant time, and constant time more for each future that it tells; only the makings of futures take memory. Keeps
+/// It names the wakers to be woken and wakes nobody itself: whoever calls it takes them out by `next_wake`. Each call but a making
+/// takes constant time, and constant time more for each future that it tells; only the makings of futures take memory. Keeps
 /// `GenericSemaphore` of futures-intrusive's `sync`.
 #[derive(Drop)]
 pub struct SemaphoreState<W> {

@@ -11,7 +11,7 @@ use futures::task::Poll;
 use std::marker::Model;
 use std::mem;
 
-/// Acquires permits of a local semaphore. It is spent by `cancel`, with its semaphore; it cannot just be let go.
+/// Acquires permits of a local semaphore. It is spent by `cancel`, with its semaphore; it cannot be dropped.
 ///
 /// Keeps `GenericSemaphoreAcquireFuture` of futures-intrusive's `sync`.
 pub struct LocalSemaphoreAcquireFuture {
@@ -27,7 +27,7 @@ impl Model for LocalSemaphoreAcquireFuture {
     ghost view = { λ f. record { name = f.slot.0; has_ended = f.is_ended } };
 }
 
-/// Permits of a local semaphore that are held. They are spent by `give_back`, with their semaphore; they cannot just be let go.
+/// Permits of a local semaphore that are held. They are spent by `give_back`, with their semaphore; they cannot be dropped.
 ///
 /// Keeps `GenericSemaphoreReleaser` of futures-intrusive's `sync`.
 pub struct LocalSemaphoreReleaser {
@@ -54,7 +54,7 @@ impl LocalSemaphoreAcquireFuture {
         }
     }
 
-    /// The name of this future in its semaphore.
+    /// The slot of this future in its semaphore.
     pub fn slot(&self) -> Slot
         ensures { result.0 ≡ self.now.name }
     {

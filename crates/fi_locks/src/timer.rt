@@ -22,7 +22,8 @@ struct Fields<W> {
     deadlines: Deadlines<W>,
 }
 
-/// A timer: a future of it ends at the first check at or after its expiry, or at its first poll if that is not before it.
+/// A timer: a future of it is ready at its first poll if its expiry has come by then, and else at a poll after a check at or past its
+/// expiry.
 ///
 /// It has no clock: whoever polls or checks says which moment it is, in milliseconds. It names the wakers to be woken and wakes
 /// nobody itself: whoever calls it takes them out by `next_wake`. Only the makings of futures take memory. Keeps
@@ -69,7 +70,7 @@ impl<W: Drop> TimerState<W> {
         let _ = &self.fields;
     }
 
-    /// A future that ends at this moment. Refused only with `NoMemory`; then nothing has changed.
+    /// A future for this moment, in milliseconds. Refused only with `NoMemory`; then nothing has changed.
     ///
     /// Keeps `LocalTimer::deadline`.
     pub fn deadline(&mut self, expiry: u64) -> Result<LocalTimerFuture, Fault>
@@ -83,8 +84,8 @@ impl<W: Drop> TimerState<W> {
         Ok(LocalTimerFuture::at(slot))
     }
 
-    /// A future that ends so long after this moment, in whole milliseconds, rounded down. Refused only with `NoMemory`; then
-    /// nothing has changed.
+    /// A future whose expiry is `now`, in milliseconds, and the delay's whole milliseconds, rounded down, and at most `u64::MAX`.
+    /// Refused only with `NoMemory`; then nothing has changed.
     ///
     /// Keeps `LocalTimer::delay`.
     pub fn delay(&mut self, now: u64, delay: Duration) -> Result<LocalTimerFuture, Fault>
@@ -98,15 +99,15 @@ impl<W: Drop> TimerState<W> {
         Ok(LocalTimerFuture::at(slot))
     }
 
-    /// The least expiry of those that wait; None where none does. Keeps `GenericTimerService::next_expiration`.
+    /// The least expiry of those that wait, in milliseconds; None where none does. Keeps `GenericTimerService::next_expiration`.
     pub fn next_expiration(&self) -> Option<u64>
         ensures { IsNextExpiry self.now.waiting.side result }
     {
         self.fields.next_expiration()
     }
 
-    /// Tells exactly those that wait and whose expiry is not after this moment, and names them to be woken in rising order of
-    /// expiry, equal ones in any order.
+    /// Tells exactly those that wait and whose expiry is not after this moment, in milliseconds, and names them to be woken in
+    /// rising order of expiry, equal ones in any order.
     ///
     /// Keeps `GenericTimerService::check_expirations`.
     pub fn check_expirations(&mut self, now: u64)
@@ -131,7 +132,8 @@ impl<W: Drop> TimerState<W> {
         self.fields.deadlines.wake_count()
     }
 
-    /// Makes a future with this expiry under a slot that was not live. Refused only with `NoMemory`; then nothing has changed.
+    /// Makes a future with this expiry, in milliseconds, under a slot that was not live. Refused only with `NoMemory`; then
+    /// nothing has changed.
     pub fn claim_deadline(&mut self, expiry: u64) -> Result<Slot, Fault>
         ensures made { IfOk result (λ slot. Makes self.old expiry slot.0 self.new) }
         ensures refused { OnErr result (self.new ≡ self.old) }

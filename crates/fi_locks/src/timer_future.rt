@@ -9,7 +9,7 @@ use fi_parts::Slot;
 use futures::task::Poll;
 use std::marker::Model;
 
-/// Waits for a moment of a local timer. It is spent by `cancel`, with its timer; it cannot just be let go.
+/// Waits for a moment of a local timer. It is spent by `cancel`, with its timer; it cannot be dropped.
 ///
 /// Keeps `LocalTimerFuture` of futures-intrusive's `timer`.
 pub struct LocalTimerFuture {
@@ -37,7 +37,7 @@ impl LocalTimerFuture {
         }
     }
 
-    /// The name of this future in its timer.
+    /// The slot of this future in its timer.
     pub fn slot(&self) -> Slot
         ensures { result.0 ≡ self.now.name }
     {

@@ -34,7 +34,7 @@ module _ {W : Type 0} where
   waker_in (Registered waker) = Some waker
   waker_in phase = None
 
-  -- the waker of one that stands so, or else this
+  -- the waker of one in this phase, or else this
   abbrev pub waker_or : Phase W → Option W → Option W
   waker_or (Registered waker) pending = Some waker
   waker_or phase pending = pending
@@ -58,7 +58,7 @@ module _ {D W : Type 0} where
   phase_in None = None
   phase_in (Some future) = Some future.phase
 
-  -- how this name stands; None: it is not live
+  -- the phase of this name; None: it is not live
   abbrev pub phase_of : Waiters D W → ℕ → Option (Phase W)
   phase_of side name = phase_in (map.get side.live name)
 
@@ -121,7 +121,7 @@ module _ {D W : Type 0} where
   abbrev pub without_future : Waiters D W → ℕ → Waiters D W
   without_future side name = record { live = map.remove side.live name; queue = without name side.queue }
 
-  -- it stands so, and the others stay in the queue
+  -- it gets this phase, and the others stay in the queue
   abbrev pub noticed : Phase W → Waiters D W → ℕ → List ℕ → Waiters D W
   noticed phase side name others = record { live = with_phase side.live name phase; queue = others }
 
@@ -130,7 +130,7 @@ module _ {D W : Type 0} where
   with_phases live [] phase = live
   with_phases live (name ∷ names) phase = with_phases (with_phase live name phase) names phase
 
-  -- each of the queue stands so, and nothing is left of it
+  -- each of the queue gets this phase, and nothing is left of it
   abbrev pub clear_queue : Phase W → Waiters D W → Waiters D W
   clear_queue phase side = record { live = with_phases side.live side.queue phase; queue = [] }
 
@@ -147,7 +147,7 @@ module _ {D W : Type 0} where
   abbrev pub named_all : Waiters D W → List (ℕ × W)
   named_all side = named side.live side.queue
 
-  -- the whole queue is named, in order, and each then stands so
+  -- the whole queue is named, in order, and each gets this phase
   abbrev pub notify_all : Phase W → Waiting D W → Waiting D W
   notify_all phase waiting = record { side = clear_queue phase waiting.side; out = waiting.out ++ named_all waiting.side }
 

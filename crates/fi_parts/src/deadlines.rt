@@ -163,7 +163,7 @@ impl<W: Drop> Deadlines<W> {
 
     /// Makes a fresh future with this expiry under a name that was not live.
     ///
-    /// Refused with `NoMemory` where memory for it, its seat or its ticket was; then nothing has changed.
+    /// Refused with `NoMemory` if there is no memory for it, its seat or its ticket; then nothing has changed.
     pub fn insert(&mut self, expiry: u64) -> Result<Slot, Fault>
         ensures was_free { IfOk result (λ slot. phase_of self.old.side slot.0 ≡ None) }
         ensures made { IfOk result (λ slot. self.new ≡ record self.old { side = insert_fresh self.old.side slot.0 expiry }) }

@@ -110,7 +110,7 @@ impl<T: Ord> PairingHeap<T> {
         self.nodes.root().is_none()
     }
 
-    /// A slot in the heap is live.
+    /// For proofs: the slots in the heap are live.
     pub fn members_are_live(&self)
         ensures { MembersAreLive self.now }
     {

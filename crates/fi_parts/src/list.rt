@@ -15,7 +15,7 @@ use std::marker::Model;
 /// A doubly linked list with its own store of blocks, named by slots.
 ///
 /// A slot is claimed for a value, may then be put in front and taken out any number of times, and is freed with its
-/// value. Every call takes constant time; only `claim` takes memory. Keeps `LinkedList` of futures-intrusive's
+/// value. Every call but `claim` takes constant time, and only `claim` takes memory. Keeps `LinkedList` of futures-intrusive's
 /// `intrusive_double_linked_list`, whose nodes are pinned by their owners.
 #[derive(Drop)]
 pub struct LinkedList<T> {
@@ -243,7 +243,7 @@ impl<T> LinkedList<T> {
         }
     }
 
-    /// An iterator that takes the slots out, the youngest first. What it has not come to stays in the list.
+    /// An iterator that takes the slots out, the youngest first. Slots that it has not yielded stay in the list.
     ///
     /// Keeps `LinkedList::drain`, which takes a callback.
     pub fn drain(&mut self) -> Drain<'_, T>
@@ -253,7 +253,7 @@ impl<T> LinkedList<T> {
         Drain { list: self }
     }
 
-    /// An iterator that takes the slots out, the oldest first. What it has not come to stays in the list.
+    /// An iterator that takes the slots out, the oldest first. Slots that it has not yielded stay in the list.
     ///
     /// Keeps `LinkedList::reverse_drain`, which takes a callback.
     pub fn reverse_drain(&mut self) -> ReverseDrain<'_, T>

@@ -49,7 +49,7 @@ impl<D: Drop, W: Drop> Waits<D, W> {
         }
     }
 
-    /// How a name stands; None where no future lives under it.
+    /// The phase of a future; None where none lives under this name.
     pub fn phase(&self, slot: Slot) -> Option<&Phase<W>>
         ensures { option_copied result ≡ phase_of self.now.side slot.0 }
     {
@@ -65,7 +65,7 @@ impl<D: Drop, W: Drop> Waits<D, W> {
 
     /// Makes a fresh future under a name that was not live.
     ///
-    /// Refused where memory for it or its ticket was; then what it asks for comes back, and nothing has changed.
+    /// Refused if there is no memory for it or its ticket; then what it asks for comes back, and nothing has changed.
     pub fn insert(&mut self, asks: D) -> Result<Slot, NoRoom<D>>
         ensures was_free { IfOk result (λ slot. phase_of self.old.side slot.0 ≡ None) }
         ensures made { IfOk result (λ slot. self.new ≡ record self.old { side = insert_fresh self.old.side slot.0 asks }) }
@@ -79,7 +79,7 @@ impl<D: Drop, W: Drop> Waits<D, W> {
         Err(back)
     }
 
-    /// Takes out a future's own pair, and gives its waker; None where it was not named, or is not live.
+    /// Takes a live future's own pair out of the outbox, and gives its waker; None where it was not named.
     pub fn take_out(&mut self, slot: Slot) -> Option<W>
         requires { IsLive self.old.side slot.0 }
         ensures waker { result ≡ waker_of slot.0 self.old.out }
@@ -121,7 +121,7 @@ impl<D: Drop, W: Drop> Waits<D, W> {
         self.line.register(slot, waker);
     }
 
-    /// Lets a live future stand so, and keep its place. Gives the waker that it was registered with.
+    /// Sets the phase of a live future; its place in the queue stays. Gives the waker that it was registered with.
     pub fn set_phase(&mut self, slot: Slot, phase: Phase<W>) -> Option<W>
         requires { IsLive self.old.side slot.0 }
         ensures waker { MatchOption (phase_of self.old.side slot.0) ⊥ (λ before. result ≡ waker_in before) }
@@ -186,7 +186,7 @@ impl<D: Drop, W: Drop> Waits<D, W> {
         self.line.leave(slot);
     }
 
-    /// Names a registered future that is not named yet; it then stands so.
+    /// Names a registered future that is not named yet, and gives it this phase.
     pub fn notice(&mut self, slot: Slot, phase: Phase<W>)
         requires registered { is_registered (phase_of self.old.side slot.0) ≡ true }
         requires no_pair { has slot.0 self.old.out ≡ false }

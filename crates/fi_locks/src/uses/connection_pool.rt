@@ -1,4 +1,4 @@
-//! A connection pool: a few connections serve many tasks, in the order in which they asked.
+//! A connection pool: a few connections serve many tasks, which are told in the order of their first polls.
 
 use crate::LocalSemaphore;
 use fi_parts::{Fault, Slot};
@@ -25,7 +25,7 @@ impl Pool {
         }
     }
 
-    /// Stands in line for a connection.
+    /// Makes a turn, which stands in line from its first `take` on.
     fn ask(&mut self) -> Result<Slot, Fault> {
         self.permits.claim_acquire(1)
     }

@@ -1,4 +1,5 @@
-//! A rate limiter: in each period only so many requests go through, in the order in which they came; the others wait.
+//! A rate limiter: in each period only so many requests go through; the others wait, and are told in
+//! the order in which they came.
 
 use crate::{LocalSemaphore, LocalTimerService};
 use fi_parts::{Fault, Slot};
