@@ -1,5 +1,5 @@
 -- The channel's machine as a table of calls and answers.
-use Rattle.std.specs.Prelude.{◌≡◌, ℕ, true, false, None, Some, Ok, Err}
+use Rattle.std.specs.Prelude.{◌≡◌, ℕ, List, true, false, None, Some, Ok, Err}
 use Rattle.futures.specs.declared.task.Poll.TheVariants as polled
 use Rattle.fi_parts.specs.declared.errors.CloseStatus.TheVariants.{NewlyClosed, AlreadyClosed}
 use Rattle.fi_parts.specs.declared.errors.Fault.{Fault}
@@ -12,7 +12,8 @@ use Rattle.fi_channels.specs.declared.channel_fields.ReceiveKind.TheVariants as 
 use Rattle.fi_channels.specs.Channel.{ChannelMachine, opened, can_send, can_receive, can_stream, IsGrowing}
 use Rattle.fi_channels.specs.Channel.{send_phase, receive_phase, kind_of, next_of, MakesSend, MakesReceive, PollsSend}
 use Rattle.fi_channels.specs.Channel.{PollsReceive, PollsNext, CancelsSend, CancelsReceive, TriesSend, TriesReceive, Closes}
-use Rattle.fi_channels.specs.Channel.{Wakes}
+use Rattle.fi_channels.specs.Channel.{Wakes, IsSound, OwesNoWake}
+use Rattle.fi_run.specs.Run.{AfterEveryRun}
 use Rattle.fi_run.specs.declared.answer.Answer.{Answer}
 use Rattle.fi_run.specs.declared.answer.Answer.TheVariants.{Made, Pending, Item, Nothing, End, Done, Newly, Already, Woken}
 use Rattle.fi_run.specs.declared.answer.Answer.TheVariants.{Back, Refused}
@@ -81,3 +82,8 @@ module _ {T W : Type 0} where
   abbrev pub Opens : (ℕ → ℕ) → ℕ → ChannelMachine T W → Type 0
   Opens capacity_for capacity state =
       (state ≡ opened (empty (capacity_for capacity) state.own.buffer.reserved)) × Fits state.own.buffer
+
+  -- This holds after every run of a channel from a state that is sound and owes no wake: of that state, the history since, and the
+  -- state at the end.
+  abbrev pub InEveryRun : (ChannelMachine T W → List (ChannelCall T W × Answer T W) → ChannelMachine T W → Type 0) → Type 0
+  InEveryRun holds = AfterEveryRun IsSound OwesNoWake Step holds

@@ -1,5 +1,5 @@
 -- The event's machine as a table of calls and answers.
-use Rattle.std.specs.Prelude.{◌≡◌, ℕ, Bool, false, None}
+use Rattle.std.specs.Prelude.{◌≡◌, ℕ, Bool, List, false, None}
 use Rattle.futures.specs.declared.task.Poll.TheVariants as polled
 use Rattle.fi_parts.specs.declared.errors.Fault.{Fault}
 use Rattle.fi_parts.specs.declared.errors.Fault.TheVariants.{NoMemory, NoSlot}
@@ -8,7 +8,8 @@ use Rattle.fi_run.specs.declared.answer.Answer.{Answer}
 use Rattle.fi_run.specs.declared.answer.Answer.TheVariants.{Made, Pending, Ready, Done, Flag, Woken, Refused}
 use Rattle.fi_run.specs.declared.event.EventCall.{EventCall}
 use Rattle.fi_run.specs.declared.event.EventCall.TheVariants.{Wait, Poll, Cancel, Set, Reset, IsSet, NextWake}
-use Rattle.fi_channels.specs.Event.{EventMachine, opened, can_be_polled, Makes, Polls, Cancels, Sets, Resets, Wakes}
+use Rattle.fi_run.specs.Run.{AfterEveryRun}
+use Rattle.fi_channels.specs.Event.{EventMachine, opened, can_be_polled, Makes, Polls, Cancels, Sets, Resets, Wakes, IsSound, OwesNoWake}
 
 module _ {W : Type 0} where
   -- when a call may be refused with this fault
@@ -33,3 +34,8 @@ module _ {W : Type 0} where
 
   abbrev pub Opens : Bool → EventMachine W → Type 0
   Opens flag state = state ≡ opened flag
+
+  -- This holds after every run of an event from a state that is sound and owes no wake: of that state, the history since, and the
+  -- state at the end.
+  abbrev pub InEveryRun : (EventMachine W → List (EventCall W × Answer ℕ W) → EventMachine W → Type 0) → Type 0
+  InEveryRun holds = AfterEveryRun IsSound OwesNoWake Step holds

@@ -1,10 +1,12 @@
 -- The mutex's machine as a table of calls and answers.
-use Rattle.std.specs.Prelude.{◌≡◌, Bool, false, not, None, Some, Ok, Err}
+use Rattle.std.specs.Prelude.{◌≡◌, Bool, List, false, not, None, Some, Ok, Err}
 use Rattle.futures.specs.declared.task.Poll.TheVariants as polled
 use Rattle.fi_parts.specs.declared.errors.Fault.{Fault}
 use Rattle.fi_parts.specs.declared.errors.Fault.TheVariants.{NoMemory, NoSlot, NotHeld}
 use Rattle.fi_parts.specs.Machine.{phase_at}
 use Rattle.fi_locks.specs.Mutex.{MutexMachine, opened, is_free, can_be_polled, Makes, Polls, Cancels, TriesLock, Unlocks, Wakes}
+use Rattle.fi_locks.specs.Mutex.{IsSound, OwesNoWake}
+use Rattle.fi_run.specs.Run.{AfterEveryRun}
 use Rattle.fi_run.specs.declared.answer.Answer.{Answer}
 use Rattle.fi_run.specs.declared.answer.Answer.TheVariants.{Made, Pending, Item, Nothing, Done, Flag, Woken, Back, Refused}
 use Rattle.fi_run.specs.declared.mutex.MutexCall.{MutexCall}
@@ -36,3 +38,8 @@ module _ {T W : Type 0} where
   -- the value, and whether it is fair
   abbrev pub Opens : T × Bool → MutexMachine T W → Type 0
   Opens opening state = state ≡ opened opening.0 opening.1
+
+  -- This holds after every run of a mutex from a state that is sound and owes no wake: of that state, the history since, and the
+  -- state at the end.
+  abbrev pub InEveryRun : (MutexMachine T W → List (MutexCall T W × Answer T W) → MutexMachine T W → Type 0) → Type 0
+  InEveryRun holds = AfterEveryRun IsSound OwesNoWake Step holds

@@ -1,11 +1,13 @@
 -- The machine of the two channels of one value as a table of calls and answers.
-use Rattle.std.specs.Prelude.{◌≡◌, ⊤, false, None, Some, Ok, Err}
+use Rattle.std.specs.Prelude.{◌≡◌, ⊤, List, false, None, Some, Ok, Err}
 use Rattle.futures.specs.declared.task.Poll.TheVariants as polled
 use Rattle.fi_parts.specs.declared.errors.CloseStatus.TheVariants.{NewlyClosed, AlreadyClosed}
 use Rattle.fi_parts.specs.declared.errors.Fault.{Fault}
 use Rattle.fi_parts.specs.declared.errors.Fault.TheVariants.{NoMemory, NoSlot, Closed}
 use Rattle.fi_parts.specs.Machine.{phase_at}
 use Rattle.fi_channels.specs.Oneshot.{OneshotMachine, Giving, opened, can_receive, MayLack, Makes, Polls, Cancels, Sends, Closes, Wakes}
+use Rattle.fi_channels.specs.Oneshot.{IsSound, OwesNoWake}
+use Rattle.fi_run.specs.Run.{AfterEveryRun}
 use Rattle.fi_run.specs.declared.answer.Answer.{Answer}
 use Rattle.fi_run.specs.declared.answer.Answer.TheVariants.{Made, Pending, Item, Nothing, Done, Newly, Already, Woken, Back, Refused}
 use Rattle.fi_run.specs.declared.oneshot.OneshotCall.{OneshotCall}
@@ -37,3 +39,8 @@ module _ {T W : Type 0} where
 
   abbrev pub Opens : Unit {0} → OneshotMachine T W → Type 0
   Opens opening state = state ≡ opened
+
+  -- This holds after every run of a channel that gives its value so, from a state that is sound and owes no wake: of that state, the
+  -- history since, and the state at the end.
+  abbrev pub InEveryRun : Giving T → (OneshotMachine T W → List (OneshotCall T W × Answer T W) → OneshotMachine T W → Type 0) → Type 0
+  InEveryRun giving holds = AfterEveryRun IsSound OwesNoWake (Step giving) holds

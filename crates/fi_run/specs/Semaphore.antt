@@ -1,12 +1,13 @@
 -- The semaphore's machine as a table of calls and answers.
-use Rattle.std.specs.Prelude.{◌≡◌, ◌+◌, ◌^◌, ◌<◌, ◌≤◌, ℕ, Bool, true, false, None}
+use Rattle.std.specs.Prelude.{◌≡◌, ◌+◌, ◌^◌, ◌<◌, ◌≤◌, ℕ, Bool, List, true, false, None}
 use Rattle.futures.specs.declared.task.Poll.TheVariants as polled
 use Rattle.fi_parts.specs.declared.errors.Fault.{Fault}
 use Rattle.fi_parts.specs.declared.errors.Fault.TheVariants.{NoMemory, NoSlot, Overflow, NotHeld}
 use Rattle.fi_parts.specs.Machine.{phase_at}
 use Rattle.fi_locks.specs.Semaphore.{SemaphoreMachine, opened, can_be_polled, need_of, Makes, Polls, Cancels}
 use Rattle.fi_locks.specs.Semaphore.{TriesAcquire, Releases}
-use Rattle.fi_locks.specs.Semaphore.{GivesBack, Disarms, Wakes}
+use Rattle.fi_locks.specs.Semaphore.{GivesBack, Disarms, Wakes, IsSound, OwesNoWake}
+use Rattle.fi_run.specs.Run.{AfterEveryRun}
 use Rattle.fi_run.specs.declared.answer.Answer.{Answer}
 use Rattle.fi_run.specs.declared.answer.Answer.TheVariants.{Made, Pending, Ready, Nothing, Done, Number, Woken, Refused}
 use Rattle.fi_run.specs.declared.semaphore.SemaphoreCall.{SemaphoreCall}
@@ -46,3 +47,8 @@ module _ {W : Type 0} where
   -- the permits, as many as a usize counts, and whether it is fair
   abbrev pub Opens : ℕ × Bool → SemaphoreMachine W → Type 0
   Opens opening state = (opening.0 < 2 ^ 64) × (state ≡ opened opening.1 opening.0)
+
+  -- This holds after every run of a semaphore from a state that is sound and owes no wake: of that state, the history since, and the
+  -- state at the end.
+  abbrev pub InEveryRun : (SemaphoreMachine W → List (SemaphoreCall W × Answer ℕ W) → SemaphoreMachine W → Type 0) → Type 0
+  InEveryRun holds = AfterEveryRun IsSound OwesNoWake Step holds

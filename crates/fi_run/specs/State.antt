@@ -1,5 +1,5 @@
 -- The state broadcast's machine as a table of calls and answers.
-use Rattle.std.specs.Prelude.{◌≡◌, ⊤, false, None, Some, Ok, Err}
+use Rattle.std.specs.Prelude.{◌≡◌, ⊤, List, false, None, Some, Ok, Err}
 use Rattle.futures.specs.declared.task.Poll.TheVariants as polled
 use Rattle.fi_parts.specs.declared.errors.CloseStatus.TheVariants.{NewlyClosed, AlreadyClosed}
 use Rattle.fi_parts.specs.declared.errors.Fault.{Fault}
@@ -7,7 +7,8 @@ use Rattle.fi_parts.specs.declared.errors.Fault.TheVariants.{NoMemory, NoSlot, C
 use Rattle.fi_parts.specs.Machine.{phase_at}
 use Rattle.fi_channels.specs.Oneshot.{can_receive}
 use Rattle.fi_channels.specs.StateBroadcast.{StateMachine, opened, newer_than, newer_at, MayLackClone, MayLackNewer, Makes, Polls}
-use Rattle.fi_channels.specs.StateBroadcast.{TriesReceive, Cancels, Sends, Closes, Wakes}
+use Rattle.fi_channels.specs.StateBroadcast.{TriesReceive, Cancels, Sends, Closes, Wakes, IsSound, OwesNoWake}
+use Rattle.fi_run.specs.Run.{AfterEveryRun}
 use Rattle.fi_run.specs.declared.answer.Answer.{Answer}
 use Rattle.fi_run.specs.declared.answer.Answer.TheVariants.{Made, Pending, State, Nothing, Done, Newly, Already, Woken, Back, Refused}
 use Rattle.fi_run.specs.declared.state.StateCall.{StateCall}
@@ -43,3 +44,9 @@ module _ {T W : Type 0} where
 
   abbrev pub Opens : Unit {0} → StateMachine T W → Type 0
   Opens opening state = state ≡ opened
+
+  -- This holds after every run of a state broadcast whose values are cloned so, from a state that is sound and owes no wake: of that
+  -- state, the history since, and the state at the end.
+  abbrev pub InEveryRun : (T → T → Type 0) → (T → Type 0)
+      → (StateMachine T W → List (StateCall T W × Answer T W) → StateMachine T W → Type 0) → Type 0
+  InEveryRun is_clone is_infallible holds = AfterEveryRun IsSound OwesNoWake (Step is_clone is_infallible) holds

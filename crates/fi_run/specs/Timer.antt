@@ -1,5 +1,5 @@
 -- The timer's machine as a table of calls and answers.
-use Rattle.std.specs.Prelude.{◌≡◌, ℕ, false, None}
+use Rattle.std.specs.Prelude.{◌≡◌, ℕ, List, false, None}
 use Rattle.std.specs.Duration.{as_nanos}
 use Rattle.futures.specs.declared.task.Poll.TheVariants as polled
 use Rattle.fi_parts.specs.declared.errors.Fault.{Fault}
@@ -11,6 +11,8 @@ use Rattle.fi_run.specs.declared.answer.Answer.TheVariants.{Made, Pending, Ready
 use Rattle.fi_run.specs.declared.timer.TimerCall.{TimerCall}
 use Rattle.fi_run.specs.declared.timer.TimerCall.TheVariants.{Deadline, Delay, Poll, Cancel, Check, Next, NextWake}
 use Rattle.fi_locks.specs.Timer.{TimerMachine, opened, expiry_after, can_be_polled, Makes, Polls, Cancels, Checks, Wakes}
+use Rattle.fi_locks.specs.Timer.{IsSound, OwesNoWake}
+use Rattle.fi_run.specs.Run.{AfterEveryRun}
 
 module _ {W : Type 0} where
   -- when a call may be refused with this fault
@@ -36,3 +38,8 @@ module _ {W : Type 0} where
 
   abbrev pub Opens : Unit {0} → TimerMachine W → Type 0
   Opens opening state = state ≡ opened
+
+  -- This holds after every run of a timer from a state that is sound and owes no wake: of that state, the history since, and the
+  -- state at the end.
+  abbrev pub InEveryRun : (TimerMachine W → List (TimerCall W × Answer ℕ W) → TimerMachine W → Type 0) → Type 0
+  InEveryRun holds = AfterEveryRun IsSound OwesNoWake Step holds

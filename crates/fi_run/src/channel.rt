@@ -1,11 +1,10 @@
 //! The channel of many values as a primitive.
 ghost use Rattle.std.specs.Prelude.{◌≡◌, ℕ, IfOk, IfErr};
 ghost use Rattle.fi_channels.specs.Channel.{ChannelMachine, IsSound, OwesNoWake};
-ghost use Rattle.fi_run.specs.Channel.{Opens, Step};
+ghost use Rattle.fi_run.specs.Channel.{Opens, Step, InEveryRun};
 ghost use Rattle.fi_run.specs.ChannelValues.{ComeInOrder};
 ghost use Rattle.fi_run.specs.ChannelHistory.{ClosesOnce, StreamsStayEnded, StreamsStand};
 ghost use Rattle.fi_run.specs.ChannelHistory.{SendWakersAreKept, ReceiveWakersAreKept};
-ghost use Rattle.fi_run.specs.Run.{AfterEveryRun};
 ghost use Rattle.fi_run.specs.declared.answer.Answer.{Answer};
 ghost use Rattle.fi_run.specs.declared.channel.ChannelCall.{ChannelCall};
 ghost use Rattle.fi_run.specs.declared.channel.ChannelCall.TheVariants as calls;
@@ -22,16 +21,19 @@ use std::alloc::Global;
 
 /// A call on a channel.
 ///
-/// Sends have their own slots; receives and streams share theirs, and each is polled by its own call.
+/// Sends have their own slots; receives and streams share theirs, and each is polled by its own call. Making one may answer
+/// `Refused(NoMemory)`, of a send `Back(value, NoMemory)`. A poll or a cancel where none lives, or a poll of one that has ended,
+/// answers `Refused(NoSlot)`.
 #[derive(Clone, Copy, Debug, PartialEq, Eq, Drop)]
 pub enum ChannelCall<T, W> {
-    /// Makes a future that sends this value. Answers `Made`; `Back`, with `NoMemory`.
+    /// Makes a future that sends this value. Answers `Made`, `Back(value, NoMemory)`.
     Send(T),
     /// Makes a future that receives one value. Answers `Made`.
     Receive,
     /// Makes a stream of the values. Answers `Made`.
     Stream,
-    /// Polls a send. Answers `Pending`, `Done`; `Back`, with `Closed`, which ends the send; `NoMemory` if the buffer could not grow.
+    /// Polls a send. Answers `Pending`, `Done`; `Back(value, Closed)`, which ends the send; `Refused(NoMemory)` if the buffer could
+    /// not grow.
     PollSend(Slot, W),
     /// Polls a receive. Answers `Pending`, `Item`; `Nothing` once the channel is closed and empty.
     PollReceive(Slot, W),
@@ -41,9 +43,9 @@ pub enum ChannelCall<T, W> {
     CancelSend(Slot),
     /// Cancels a receive or a stream. Answers `Done`.
     CancelReceive(Slot),
-    /// Sends a value at once. Answers `Done`, or `Back`, with `Closed`, `Full` or `NoMemory`.
+    /// Sends a value at once. Answers `Done`, or `Back` with `Closed`, `Full` or `NoMemory`.
     TrySend(T),
-    /// Receives a value at once. Answers `Item`; `Closed` or `Empty`.
+    /// Receives a value at once. Answers `Item`, `Refused(Closed)` or `Refused(Empty)`.
     TryReceive,
     /// Closes the channel. Answers `Newly`, `Already`.
     Close,
@@ -248,20 +250,13 @@ fn cancel_receive<T: Drop, B: RingBuf<Item = T>, W: Drop>(
 pub fn every_run_of_a_channel<T: Drop, B: RingBuf<Item = T>, W: Drop>()
     ensures opened { (capacity : ℕ) (first : ChannelMachine T W) → Opens B.capacity_for capacity first
         → IsSound first × OwesNoWake first }
-    ensures order { AfterEveryRun {S = ChannelMachine T W} IsSound OwesNoWake Step
-        (λ first history now. ComeInOrder first history now) }
-    ensures closes { AfterEveryRun {S = ChannelMachine T W} IsSound OwesNoWake Step
-        (λ first history now. ClosesOnce first history now) }
-    ensures ended { AfterEveryRun {S = ChannelMachine T W} IsSound OwesNoWake Step
-        (λ first history now. StreamsStayEnded first history) }
-    ensures streams { AfterEveryRun {S = ChannelMachine T W} IsSound OwesNoWake Step
-        (λ first history now. StreamsStand first history now) }
-    ensures sends { AfterEveryRun {S = ChannelMachine T W} IsSound OwesNoWake Step
-        (λ first history now. SendWakersAreKept first history now) }
-    ensures receives { AfterEveryRun {S = ChannelMachine T W} IsSound OwesNoWake Step
-        (λ first history now. ReceiveWakersAreKept first history now) }
-    ensures no_wake { AfterEveryRun {S = ChannelMachine T W} IsSound OwesNoWake Step
-        (λ first history now. IsSound now × OwesNoWake now) }
+    ensures order { InEveryRun {T = T} {W = W} (λ first history now. ComeInOrder first history now) }
+    ensures closes { InEveryRun {T = T} {W = W} (λ first history now. ClosesOnce first history now) }
+    ensures ended { InEveryRun {T = T} {W = W} (λ first history now. StreamsStayEnded first history) }
+    ensures streams { InEveryRun {T = T} {W = W} (λ first history now. StreamsStand first history now) }
+    ensures sends { InEveryRun {T = T} {W = W} (λ first history now. SendWakersAreKept first history now) }
+    ensures receives { InEveryRun {T = T} {W = W} (λ first history now. ReceiveWakersAreKept first history now) }
+    ensures no_wake { InEveryRun {T = T} {W = W} (λ first history now. IsSound now × OwesNoWake now) }
 {
     every_run::<ChannelState<T, B, W>>();
 }

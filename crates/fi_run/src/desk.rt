@@ -1,8 +1,10 @@
 //! A journal that threads share, and the settling of its history with their receipts.
-ghost use Rattle.std.specs.Prelude.{◌≡◌, ◌≤◌, ◌+◌, ◌++◌, [], ◌∷◌, true, false, All, IsPermutation, length, vec_len, IfOk, IfErr, IfSome, IfNone, OnErr};
+ghost use Rattle.std.specs.Prelude.{◌≡◌, ◌≤◌, ◌+◌, ◌++◌, [], ◌∷◌, true, false, All, IsPermutation};
+ghost use Rattle.std.specs.Prelude.{length, vec_len, IfOk, IfErr, IfSome, IfNone, OnErr};
 ghost use Rattle.std.specs.List.Sorted.{IsNonDecreasingBy};
 ghost use Rattle.fi_run.specs.Journal.{next_receipt, receipt_of, Records, Replays};
-ghost use Rattle.fi_run.specs.Desk.{AreNumbered, AreOf, IsDue, IsMissing, LacksLast, Matches, Settles, Unsettled, receipt_count, with_receipt};
+ghost use Rattle.fi_run.specs.Desk.{AreNumbered, AreOf, IsDue, IsMissing, LacksLast, Matches, Settles, Unsettled};
+ghost use Rattle.fi_run.specs.Desk.{receipt_count, with_receipt};
 
 use crate::exact::ExactEq;
 use crate::journal::{Entry, Journal, Receipt, Settled};
@@ -16,9 +18,9 @@ use std::sync::{Mutex, Wait};
 /// Why a desk could not be settled.
 #[derive(Clone, Copy, Debug, PartialEq, Eq, Drop)]
 pub enum Mismatch {
-    /// Fewer seats were given than were made.
+    /// Fewer seats were given than were made, or their numbers are not those from 0 on.
     Seats,
-    /// The entry of this number, and no later one, has no receipt where its seat should have it.
+    /// The receipts of all later entries were found; that of the entry with this number is not the next one at its seat.
     Entry(usize),
 }
 
@@ -340,6 +342,8 @@ where
     P::Answer: ExactEq,
 {
     /// Makes the opening's state, for at most this many seats. Refused with `NoMemory` as `Journal::new`.
+    ///
+    /// The runtime `rt` waits for the lock. The blank is of the desk's own ledger `L`, and has one part for each seat.
     pub fn new(
         alloc: Global,
         rt: R,
@@ -399,8 +403,8 @@ where
         self.ruled.lock(&self.rt).seat(self.alloc)
     }
 
-    /// Makes a call for one of this desk's seats, which keeps the receipt. Refused with `NoMemory` where there is no room for the receipt or
-    /// for the entry: then the call was not made, and the seat is as it was.
+    /// Makes a call for one of this desk's seats, which keeps the receipt. Refused with `NoMemory` where there is no room for the
+    /// receipt or for the entry: then the call was not made, and the seat is as it was.
     pub fn call(&self, seat: &mut Seat<P, L>, call: P::Call) -> Result<Receipt<P>, Fault>
         ensures kept { IfOk result (λ receipt. seat.new ≡ with_receipt seat.old receipt) }
         ensures call { IfOk result (λ receipt. receipt.call ≡ call) }

@@ -1,9 +1,8 @@
 //! The event as a primitive.
 ghost use Rattle.std.specs.Prelude.{◌≡◌, Bool, ℕ, List, [], IsOk, IfOk, IfErr};
 ghost use Rattle.fi_channels.specs.Event.{EventMachine, IsSound, OwesNoWake};
-ghost use Rattle.fi_run.specs.Event.{Opens, Step};
+ghost use Rattle.fi_run.specs.Event.{Opens, Step, InEveryRun};
 ghost use Rattle.fi_run.specs.EventHistory.{PollsAreRight, WakersAreKept};
-ghost use Rattle.fi_run.specs.Run.{AfterEveryRun};
 ghost use Rattle.fi_run.specs.declared.answer.Answer.{Answer};
 ghost use Rattle.fi_run.specs.declared.event.EventCall.{EventCall};
 
@@ -15,6 +14,9 @@ use futures::task::Poll;
 use std::alloc::Global;
 
 /// A call on an event.
+///
+/// Making a wait may answer `Refused(NoMemory)`. A poll or a cancel where none lives, or a poll of one that has ended, answers
+/// `Refused(NoSlot)`.
 #[derive(Clone, Copy, Debug, PartialEq, Eq, Drop)]
 pub enum EventCall<W> {
     /// Makes a wait. Answers `Made`.
@@ -40,7 +42,8 @@ impl<W: Drop> Primitive for EventState<W> {
     ghost use Rattle.fi_run.specs.declared.answer.Answer.TheVariants.{Woken};
     ghost use Rattle.fi_run.specs.declared.event.EventCall.TheVariants.{NextWake};
     ghost use Rattle.fi_run.specs.Outgoing.{machine_outgoing};
-    ghost use Rattle.fi_run.specs.EventLaws.{event_starts, event_keeps, event_takes_oldest, event_history_initial, event_history_preserved};
+    ghost use Rattle.fi_run.specs.EventLaws.{event_starts, event_keeps, event_takes_oldest};
+    ghost use Rattle.fi_run.specs.EventLaws.{event_history_initial, event_history_preserved};
 
     type Opening = bool;
 
@@ -136,9 +139,9 @@ impl<W: Drop> Primitive for EventState<W> {
 /// is registered, stands in the outbox, or was handed out since; and no wake is owed.
 pub fn every_run_of_an_event<W: Drop>()
     ensures opened { (opening : Bool) (first : EventMachine W) → Opens opening first → IsSound first × OwesNoWake first }
-    ensures polls { AfterEveryRun {S = EventMachine W} IsSound OwesNoWake Step (λ first history now. PollsAreRight first history) }
-    ensures wakers { AfterEveryRun {S = EventMachine W} IsSound OwesNoWake Step (λ first history now. WakersAreKept first history now) }
-    ensures no_wake { AfterEveryRun {S = EventMachine W} IsSound OwesNoWake Step (λ first history now. IsSound now × OwesNoWake now) }
+    ensures polls { InEveryRun {W = W} (λ first history now. PollsAreRight first history) }
+    ensures wakers { InEveryRun {W = W} (λ first history now. WakersAreKept first history now) }
+    ensures no_wake { InEveryRun {W = W} (λ first history now. IsSound now × OwesNoWake now) }
 {
     every_run::<EventState<W>>();
 }

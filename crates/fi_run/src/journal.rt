@@ -33,7 +33,8 @@ impl<P: Primitive> Model for Receipt<P> {
     ghost view = { λ r. record { opening = r.opening; number = r.number; call = r.call; answer = r.answer } };
 
     // A run of that many entries and this one leads from the opening's state to some state.
-    ghost invariant = { λ r. ∥ (ReceiptReplays P.opens P.step (record { opening = r.opening; number = r.number; call = r.call; answer = r.answer })) ∥₁ };
+    ghost invariant = { λ r. ∥ (ReceiptReplays P.opens P.step
+        (record { opening = r.opening; number = r.number; call = r.call; answer = r.answer })) ∥₁ };
 }
 
 impl<P: Primitive> Receipt<P>

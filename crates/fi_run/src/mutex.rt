@@ -1,9 +1,8 @@
 //! The mutex as a primitive.
 ghost use Rattle.std.specs.Prelude.{◌≡◌, Bool, IsOk, IfOk, IfErr};
 ghost use Rattle.fi_locks.specs.Mutex.{MutexMachine, IsSound, OwesNoWake};
-ghost use Rattle.fi_run.specs.Mutex.{Opens, Step};
+ghost use Rattle.fi_run.specs.Mutex.{Opens, Step, InEveryRun};
 ghost use Rattle.fi_run.specs.MutexHistory.{GrantsAlternate, GrantsAreInTurn, IsFair, WakersAreKept};
-ghost use Rattle.fi_run.specs.Run.{AfterEveryRun};
 ghost use Rattle.fi_run.specs.declared.answer.Answer.{Answer};
 ghost use Rattle.fi_run.specs.declared.mutex.MutexCall.{MutexCall};
 
@@ -15,6 +14,9 @@ use futures::task::Poll;
 use std::alloc::Global;
 
 /// A call on a mutex.
+///
+/// Making a future may answer `Refused(NoMemory)`. A poll or a cancel where none lives, or a poll of one that has ended, answers
+/// `Refused(NoSlot)`.
 #[derive(Clone, Copy, Debug, PartialEq, Eq, Drop)]
 pub enum MutexCall<T, W> {
     /// Makes a future that locks the mutex. Answers `Made`.
@@ -25,7 +27,7 @@ pub enum MutexCall<T, W> {
     Cancel(Slot),
     /// Locks the mutex if it is free for the caller. Answers `Item`, `Nothing`.
     TryLock,
-    /// Puts the value back. Answers `Done`; of a mutex that isn't locked `Back`, with `NotHeld`.
+    /// Puts the value back. Answers `Done`; of a mutex that isn't locked `Back(value, NotHeld)`.
     Unlock(T),
     /// Asks whether the mutex is locked. Answers `Flag`.
     IsLocked,
@@ -40,7 +42,8 @@ impl<T: Drop, W: Drop> Primitive for MutexState<T, W> {
     ghost use Rattle.fi_run.specs.declared.answer.Answer.TheVariants.{Woken};
     ghost use Rattle.fi_run.specs.declared.mutex.MutexCall.TheVariants.{NextWake};
     ghost use Rattle.fi_run.specs.Outgoing.{machine_outgoing};
-    ghost use Rattle.fi_run.specs.MutexLaws.{mutex_starts, mutex_keeps, mutex_takes_oldest, mutex_history_initial, mutex_history_preserved};
+    ghost use Rattle.fi_run.specs.MutexLaws.{mutex_starts, mutex_keeps, mutex_takes_oldest};
+    ghost use Rattle.fi_run.specs.MutexLaws.{mutex_history_initial, mutex_history_preserved};
 
     type Opening = (T, bool);
 
@@ -136,11 +139,12 @@ impl<T: Drop, W: Drop> Primitive for MutexState<T, W> {
 /// the value that was put back by the last unlock, and between two grants there is an unlock; a fair mutex is granted in the order
 /// of first polls; a pending future's last waker is registered, stands in the outbox, or was handed out since; and no wake is owed.
 pub fn every_run_of_a_mutex<T: Drop, W: Drop>()
-    ensures opened { (value : T) (is_fair : Bool) (first : MutexMachine T W) → Opens (value, is_fair) first → IsSound first × OwesNoWake first }
-    ensures grants { AfterEveryRun {S = MutexMachine T W} IsSound OwesNoWake Step (λ first history now. GrantsAlternate first history) }
-    ensures in_turn { AfterEveryRun {S = MutexMachine T W} IsSound OwesNoWake Step (λ first history now. IsFair first → GrantsAreInTurn first history) }
-    ensures wakers { AfterEveryRun {S = MutexMachine T W} IsSound OwesNoWake Step (λ first history now. WakersAreKept first history now) }
-    ensures no_wake { AfterEveryRun {S = MutexMachine T W} IsSound OwesNoWake Step (λ first history now. IsSound now × OwesNoWake now) }
+    ensures opened { (value : T) (is_fair : Bool) (first : MutexMachine T W) → Opens (value, is_fair) first
+        → IsSound first × OwesNoWake first }
+    ensures grants { InEveryRun {T = T} {W = W} (λ first history now. GrantsAlternate first history) }
+    ensures in_turn { InEveryRun {T = T} {W = W} (λ first history now. IsFair first → GrantsAreInTurn first history) }
+    ensures wakers { InEveryRun {T = T} {W = W} (λ first history now. WakersAreKept first history now) }
+    ensures no_wake { InEveryRun {T = T} {W = W} (λ first history now. IsSound now × OwesNoWake now) }
 {
     every_run::<MutexState<T, W>>();
 }

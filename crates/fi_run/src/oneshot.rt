@@ -3,9 +3,9 @@ ghost use Rattle.std.specs.Prelude.{◌≡◌, true, IsOk, IfOk, IfErr};
 ghost use Rattle.fi_parts.specs.Machine.{phase_at};
 ghost use Rattle.fi_parts.specs.declared.errors.Slot.{Slot};
 ghost use Rattle.fi_channels.specs.Oneshot.{OneshotMachine, taking, cloning, can_receive, IsSound, OwesNoWake};
-ghost use Rattle.fi_run.specs.Oneshot.{Opens, Step};
-ghost use Rattle.fi_run.specs.OneshotHistory.{ContentFits, NeverEmptyAgain, KeepsContent, GivesOnce, IsSettledOnce, Delivers, WasPutIn, GivesOf, WakersAreKept};
-ghost use Rattle.fi_run.specs.Run.{AfterEveryRun};
+ghost use Rattle.fi_run.specs.Oneshot.{Opens, Step, InEveryRun};
+ghost use Rattle.fi_run.specs.OneshotHistory.{ContentFits, NeverEmptyAgain, KeepsContent, GivesOnce, IsSettledOnce};
+ghost use Rattle.fi_run.specs.OneshotHistory.{Delivers, WasPutIn, GivesOf, WakersAreKept};
 ghost use Rattle.fi_run.specs.declared.answer.Answer.{Answer};
 ghost use Rattle.fi_run.specs.declared.answer.Answer.TheVariants as answers;
 ghost use Rattle.fi_run.specs.declared.oneshot.OneshotCall.{OneshotCall};
@@ -21,6 +21,9 @@ use futures::task::Poll;
 use std::alloc::Global;
 
 /// A call on a oneshot channel or a oneshot broadcast channel.
+///
+/// Making a receive may answer `Refused(NoMemory)`. A poll or a cancel where none lives, or a poll of one that has ended, answers
+/// `Refused(NoSlot)`.
 #[derive(Clone, Copy, Debug, PartialEq, Eq, Drop)]
 pub enum OneshotCall<T, W> {
     /// Makes a receive. Answers `Made`.
@@ -29,7 +32,7 @@ pub enum OneshotCall<T, W> {
     Poll(Slot, W),
     /// Cancels a receive. Answers `Done`.
     Cancel(Slot),
-    /// Sends the value. Answers `Done`, `Back(Closed)`.
+    /// Sends the value. Answers `Done`, `Back(value, Closed)`.
     Send(T),
     /// Closes the channel. Answers `Newly`, `Already`.
     Close,
@@ -44,7 +47,8 @@ impl<T: Drop, W: Drop, G: GivesValue<T>> Primitive for OneValueState<T, W, G> {
     ghost use Rattle.fi_run.specs.declared.answer.Answer.TheVariants.{Woken};
     ghost use Rattle.fi_run.specs.declared.oneshot.OneshotCall.TheVariants.{NextWake};
     ghost use Rattle.fi_run.specs.Outgoing.{machine_outgoing};
-    ghost use Rattle.fi_run.specs.OneshotLaws.{oneshot_starts, oneshot_keeps, oneshot_takes_oldest, oneshot_history_initial, oneshot_history_preserved};
+    ghost use Rattle.fi_run.specs.OneshotLaws.{oneshot_starts, oneshot_keeps, oneshot_takes_oldest};
+    ghost use Rattle.fi_run.specs.OneshotLaws.{oneshot_history_initial, oneshot_history_preserved};
 
     type Opening = ();
 
@@ -137,18 +141,20 @@ impl<T: Drop, W: Drop, G: GivesValue<T>> Primitive for OneValueState<T, W, G> {
 }
 
 /// Every oneshot channel follows its promises, in every run from a sound state that owes no wake, so from its opening: at most
-/// one receive gets the value that was put in, and no poll is refused `NoMemory`; at most one value is put in or close answered `Newly`; what left empty never
-/// returns; a pending receive's last waker is registered, stands in the outbox, or was handed out since; and no wake is owed.
-/// A value that the channel held at first counts as put in, and a channel that was spent at first as closed.
+/// one receive gets the value that was put in, and no poll is refused `NoMemory`; at most one value is put in or close answered
+/// `Newly`; what left empty never returns; a pending receive's last waker is registered, stands in the outbox, or was handed out
+/// since; and no wake is owed. A value that the channel held at first counts as put in, and a channel that was spent at first as
+/// closed.
 pub fn every_run_of_a_oneshot<T: Drop, W: Drop>()
     ensures opened { (first : OneshotMachine T W) → Opens tt first → IsSound first × OwesNoWake first }
-    ensures once { AfterEveryRun {S = OneshotMachine T W} IsSound OwesNoWake (Step taking) (λ first history now. GivesOnce first history) }
-    ensures memory { (old new : OneshotMachine T W) (slot : Slot) (waker : W) → Step taking old (calls.Poll slot waker) (answers.Refused Fault.NoMemory) new → ⊥ }
-    ensures settled { AfterEveryRun {S = OneshotMachine T W} IsSound OwesNoWake (Step taking) (λ first history now. IsSettledOnce first history) }
-    ensures content { AfterEveryRun {S = OneshotMachine T W} IsSound OwesNoWake (Step taking) (λ first history now. ContentFits taking first history now.own) }
-    ensures left { AfterEveryRun {S = OneshotMachine T W} IsSound OwesNoWake (Step taking) (λ first history now. NeverEmptyAgain first now) }
-    ensures wakers { AfterEveryRun {S = OneshotMachine T W} IsSound OwesNoWake (Step taking) (λ first history now. WakersAreKept first history now) }
-    ensures no_wake { AfterEveryRun {S = OneshotMachine T W} IsSound OwesNoWake (Step taking) (λ first history now. IsSound now × OwesNoWake now) }
+    ensures once { InEveryRun {T = T} {W = W} taking (λ first history now. GivesOnce first history) }
+    ensures memory { (old new : OneshotMachine T W) (slot : Slot) (waker : W)
+        → Step taking old (calls.Poll slot waker) (answers.Refused Fault.NoMemory) new → ⊥ }
+    ensures settled { InEveryRun {T = T} {W = W} taking (λ first history now. IsSettledOnce first history) }
+    ensures content { InEveryRun {T = T} {W = W} taking (λ first history now. ContentFits taking first history now.own) }
+    ensures left { InEveryRun {T = T} {W = W} taking (λ first history now. NeverEmptyAgain first now) }
+    ensures wakers { InEveryRun {T = T} {W = W} taking (λ first history now. WakersAreKept first history now) }
+    ensures no_wake { InEveryRun {T = T} {W = W} taking (λ first history now. IsSound now × OwesNoWake now) }
 {
     every_run::<OneshotState<T, W>>();
 }
@@ -160,16 +166,23 @@ pub fn every_run_of_a_oneshot<T: Drop, W: Drop>()
 /// handed out since; and no wake is owed. A value that the channel held at first counts as put in.
 pub fn every_run_of_a_oneshot_broadcast<T: Clone, W: Drop>()
     ensures opened { (first : OneshotMachine T W) → Opens tt first → IsSound first × OwesNoWake first }
-    ensures deliveries { AfterEveryRun {S = OneshotMachine T W} IsSound OwesNoWake (Step (cloning T.is_clone T.is_infallible)) (λ first history now. Delivers (cloning T.is_clone T.is_infallible) first history) }
-    ensures copies { AfterEveryRun {S = OneshotMachine T W} IsSound OwesNoWake (Step (cloning T.is_clone T.is_infallible)) (λ first history now.
-        (value : T) (slot : Slot) (waker : W) (answer : Answer T W) (new : OneshotMachine T W) → WasPutIn first history value →
-        can_receive (phase_at now slot.0) ≡ true → Step (cloning T.is_clone T.is_infallible) now (calls.Poll slot waker) answer new →
+    ensures deliveries { InEveryRun {T = T} {W = W} (cloning T.is_clone T.is_infallible)
+        (λ first history now. Delivers (cloning T.is_clone T.is_infallible) first history) }
+    ensures copies { InEveryRun {T = T} {W = W} (cloning T.is_clone T.is_infallible) (λ first history now.
+        (value : T) (slot : Slot) (waker : W) (answer : Answer T W) (new : OneshotMachine T W) →
+        WasPutIn first history value → can_receive (phase_at now slot.0) ≡ true →
+        Step (cloning T.is_clone T.is_infallible) now (calls.Poll slot waker) answer new →
         GivesOf (cloning T.is_clone T.is_infallible) value answer) }
-    ensures settled { AfterEveryRun {S = OneshotMachine T W} IsSound OwesNoWake (Step (cloning T.is_clone T.is_infallible)) (λ first history now. IsSettledOnce first history) }
-    ensures content { AfterEveryRun {S = OneshotMachine T W} IsSound OwesNoWake (Step (cloning T.is_clone T.is_infallible)) (λ first history now. ContentFits (cloning T.is_clone T.is_infallible) first history now.own) }
-    ensures kept { AfterEveryRun {S = OneshotMachine T W} IsSound OwesNoWake (Step (cloning T.is_clone T.is_infallible)) (λ first history now. KeepsContent first now) }
-    ensures wakers { AfterEveryRun {S = OneshotMachine T W} IsSound OwesNoWake (Step (cloning T.is_clone T.is_infallible)) (λ first history now. WakersAreKept first history now) }
-    ensures no_wake { AfterEveryRun {S = OneshotMachine T W} IsSound OwesNoWake (Step (cloning T.is_clone T.is_infallible)) (λ first history now. IsSound now × OwesNoWake now) }
+    ensures settled { InEveryRun {T = T} {W = W} (cloning T.is_clone T.is_infallible)
+        (λ first history now. IsSettledOnce first history) }
+    ensures content { InEveryRun {T = T} {W = W} (cloning T.is_clone T.is_infallible)
+        (λ first history now. ContentFits (cloning T.is_clone T.is_infallible) first history now.own) }
+    ensures kept { InEveryRun {T = T} {W = W} (cloning T.is_clone T.is_infallible)
+        (λ first history now. KeepsContent first now) }
+    ensures wakers { InEveryRun {T = T} {W = W} (cloning T.is_clone T.is_infallible)
+        (λ first history now. WakersAreKept first history now) }
+    ensures no_wake { InEveryRun {T = T} {W = W} (cloning T.is_clone T.is_infallible)
+        (λ first history now. IsSound now × OwesNoWake now) }
 {
     every_run::<OneshotBroadcastState<T, W>>();
 }

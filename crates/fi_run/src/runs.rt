@@ -14,12 +14,16 @@ use std::alloc::Global;
 /// out the oldest (`take_waker`). Its laws: initial states satisfy the invariants, steps preserve them, and that call takes out the
 /// oldest waker and changes nothing else.
 pub trait Primitive {
+    /// What a machine is opened with, such as an event's flag.
     type Opening: Drop;
 
+    /// What is called.
     type Call: Drop;
 
+    /// What a call is answered.
     type Answer: Drop;
 
+    /// Who is to be woken.
     type Waker: Drop;
 
     /// The machine may give this answer to the call and go on from old to new.
@@ -79,8 +83,10 @@ pub trait Primitive {
         TakesOldest outgoing hands_out old answer new };
 
     /// Steps preserve the history's invariant.
-    ghost history_preserved: { (first : Self) (history : List (Self.Call × Self.Answer)) (old : Self) (call : Self.Call) (answer : Self.Answer) (new : Self) →
-        is_sound old → owes_no_wake old → history_invariant first history old → step old call answer new → history_invariant first ((call, answer) ∷ history) new };
+    ghost history_preserved: { (first : Self) (history : List (Self.Call × Self.Answer))
+        (old : Self) (call : Self.Call) (answer : Self.Answer) (new : Self) →
+        is_sound old → owes_no_wake old → history_invariant first history old → step old call answer new →
+        history_invariant first ((call, answer) ∷ history) new };
 }
 
 /// Makes the calls in order, and appends each one's answer to `out`.
@@ -95,7 +101,8 @@ pub fn run<P: Primitive>(
     // The answers are those of a run of the machine.
     ensures ok { OnOk result (Answers P.step P.history_invariant primitive.old calls.items out.old.items out.new.items primitive.new) }
     // The same of the calls that were made.
-    ensures err { OnErr result (AnswersFront P.step P.history_invariant primitive.old calls.items out.old.items out.new.items primitive.new) }
+    ensures err { OnErr result
+        (AnswersFront P.step P.history_invariant primitive.old calls.items out.old.items out.new.items primitive.new) }
     ensures fault { IfErr result (λ fault. fault ≡ Fault.NoMemory) }
     ensures full { OnErr result (vec_capacity out.new ≤ vec_len out.new) }
     ensures no_wake { P.owes_no_wake primitive.new }
@@ -116,5 +123,6 @@ pub fn run<P: Primitive>(
 /// words of its own, as `every_run_of_an_event` does.
 pub fn every_run<P: Primitive>()
     ensures opened { (opening : P.Opening) (first : P) → P.opens opening first → P.is_sound first × P.owes_no_wake first }
-    ensures runs { AfterEveryRun P.is_sound P.owes_no_wake P.step (λ first history now. P.is_sound now × P.owes_no_wake now × P.history_invariant first history now) }
+    ensures runs { AfterEveryRun P.is_sound P.owes_no_wake P.step
+        (λ first history now. P.is_sound now × P.owes_no_wake now × P.history_invariant first history now) }
 {}

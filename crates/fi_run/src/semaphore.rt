@@ -1,9 +1,8 @@
 //! The semaphore as a primitive.
 ghost use Rattle.std.specs.Prelude.{◌≡◌, ℕ, Bool, IsOk, IfOk, IfErr};
 ghost use Rattle.fi_locks.specs.Semaphore.{SemaphoreMachine, IsSound, OwesNoWake};
-ghost use Rattle.fi_run.specs.Semaphore.{Opens, Step};
+ghost use Rattle.fi_run.specs.Semaphore.{Opens, Step, InEveryRun};
 ghost use Rattle.fi_run.specs.SemaphoreHistory.{PermitsAddUp, AreToldInOrder, NewcomersComeLast, IsFair, WakersAreKept};
-ghost use Rattle.fi_run.specs.Run.{AfterEveryRun};
 ghost use Rattle.fi_run.specs.declared.answer.Answer.{Answer};
 ghost use Rattle.fi_run.specs.declared.semaphore.SemaphoreCall.{SemaphoreCall};
 ghost use Rattle.fi_run.specs.declared.semaphore.SemaphoreCall.TheVariants as calls;
@@ -16,6 +15,9 @@ use futures::task::Poll;
 use std::alloc::Global;
 
 /// A call on a semaphore.
+///
+/// Making a future may answer `Refused(NoMemory)`. A poll or a cancel where none lives, or a poll of one that has ended, answers
+/// `Refused(NoSlot)`.
 #[derive(Clone, Copy, Debug, PartialEq, Eq, Drop)]
 pub enum SemaphoreCall<W> {
     /// Makes a future that acquires this many permits. Answers `Made`.
@@ -26,11 +28,11 @@ pub enum SemaphoreCall<W> {
     Cancel(Slot),
     /// Acquires this many permits if they are there for the caller. Answers `Done`, `Nothing`.
     TryAcquire(usize),
-    /// Adds this many free permits. Answers `Done`; `Overflow` if a `usize` could not count them all.
+    /// Adds this many free permits. Answers `Done`; `Refused(Overflow)` if a `usize` could not count them all.
     Release(usize),
-    /// Makes this many held permits free again. Answers `Done`; `NotHeld` if fewer are held.
+    /// Makes this many held permits free again. Answers `Done`; `Refused(NotHeld)` if fewer are held.
     GiveBack(usize),
-    /// Forgets this many held permits. Answers `Done`; `NotHeld` if fewer are held.
+    /// Forgets this many held permits. Answers `Done`; `Refused(NotHeld)` if fewer are held.
     Disarm(usize),
     /// Asks how many permits are free. Answers `Number`.
     Permits,
@@ -47,7 +49,8 @@ impl<W: Drop> Primitive for SemaphoreState<W> {
     ghost use Rattle.fi_run.specs.declared.answer.Answer.TheVariants.{Woken};
     ghost use Rattle.fi_run.specs.declared.semaphore.SemaphoreCall.TheVariants.{NextWake};
     ghost use Rattle.fi_run.specs.Outgoing.{machine_outgoing};
-    ghost use Rattle.fi_run.specs.SemaphoreLaws.{semaphore_starts, semaphore_keeps, semaphore_takes_oldest, semaphore_history_initial, semaphore_history_preserved};
+    ghost use Rattle.fi_run.specs.SemaphoreLaws.{semaphore_starts, semaphore_keeps, semaphore_takes_oldest};
+    ghost use Rattle.fi_run.specs.SemaphoreLaws.{semaphore_history_initial, semaphore_history_preserved};
 
     type Opening = (usize, bool);
 
@@ -175,12 +178,13 @@ fn disarm<W: Drop>(semaphore: &mut SemaphoreState<W>, permits: usize) -> Answer<
 ///
 /// A future that needs no permits never waits, and no permits at all are always granted.
 pub fn every_run_of_a_semaphore<W: Drop>()
-    ensures opened { (permits : ℕ) (is_fair : Bool) (first : SemaphoreMachine W) → Opens (permits, is_fair) first → IsSound first × OwesNoWake first }
-    ensures permits { AfterEveryRun {S = SemaphoreMachine W} IsSound OwesNoWake Step (λ first history now. PermitsAddUp first history now) }
-    ensures in_order { AfterEveryRun {S = SemaphoreMachine W} IsSound OwesNoWake Step (λ first history now. IsFair first → AreToldInOrder first history now) }
-    ensures newcomers { AfterEveryRun {S = SemaphoreMachine W} IsSound OwesNoWake Step (λ first history now. IsFair first → NewcomersComeLast first history now) }
-    ensures wakers { AfterEveryRun {S = SemaphoreMachine W} IsSound OwesNoWake Step (λ first history now. WakersAreKept first history now) }
-    ensures no_wake { AfterEveryRun {S = SemaphoreMachine W} IsSound OwesNoWake Step (λ first history now. IsSound now × OwesNoWake now) }
+    ensures opened { (permits : ℕ) (is_fair : Bool) (first : SemaphoreMachine W) → Opens (permits, is_fair) first
+        → IsSound first × OwesNoWake first }
+    ensures permits { InEveryRun {W = W} (λ first history now. PermitsAddUp first history now) }
+    ensures in_order { InEveryRun {W = W} (λ first history now. IsFair first → AreToldInOrder first history now) }
+    ensures newcomers { InEveryRun {W = W} (λ first history now. IsFair first → NewcomersComeLast first history now) }
+    ensures wakers { InEveryRun {W = W} (λ first history now. WakersAreKept first history now) }
+    ensures no_wake { InEveryRun {W = W} (λ first history now. IsSound now × OwesNoWake now) }
 {
     every_run::<SemaphoreState<W>>();
 }

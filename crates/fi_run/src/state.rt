@@ -1,10 +1,9 @@
 //! The state broadcast as a primitive.
 ghost use Rattle.std.specs.Prelude.{◌≡◌, ◌<◌, ◌^◌, IsOk, IfOk, IfErr};
 ghost use Rattle.fi_channels.specs.StateBroadcast.{StateMachine, IsSound, OwesNoWake};
-ghost use Rattle.fi_run.specs.State.{Opens, Step};
+ghost use Rattle.fi_run.specs.State.{Opens, Step, InEveryRun};
 ghost use Rattle.fi_run.specs.StateHistory.{sends, asked_by, new_closes, Counts, AsksAs, OpenFits, StatesAreNewest, WakersAreKept};
 ghost use Rattle.fi_run.specs.StateAnswer.{answer_of};
-ghost use Rattle.fi_run.specs.Run.{AfterEveryRun};
 ghost use Rattle.fi_run.specs.declared.answer.Answer.{Answer};
 ghost use Rattle.fi_run.specs.declared.state.StateCall.{StateCall};
 
@@ -16,6 +15,9 @@ use futures::task::Poll;
 use std::alloc::Global;
 
 /// A call on a state broadcast.
+///
+/// Making a receive may answer `Refused(NoMemory)`. A poll or a cancel where none lives, or a poll of one that has ended, answers
+/// `Refused(NoSlot)`.
 #[derive(Clone, Copy, Debug, PartialEq, Eq, Drop)]
 pub enum StateCall<T, W> {
     /// Makes a receive that has seen this state. Answers `Made`.
@@ -26,7 +28,7 @@ pub enum StateCall<T, W> {
     Cancel(Slot),
     /// Receives at once, having seen this state. Answers `State`, `Nothing`, `Refused(NoMemory)`.
     TryReceive(StateId),
-    /// Sends the next state. Answers `Done`, `Back(Closed)`.
+    /// Sends the next state. Answers `Done`, `Back(value, Closed)`.
     Send(T),
     /// Closes the channel. Answers `Newly`, `Already`.
     Close,
@@ -41,7 +43,8 @@ impl<T: Clone, W: Drop> Primitive for StateBroadcastState<T, W> {
     ghost use Rattle.fi_run.specs.declared.answer.Answer.TheVariants.{Woken};
     ghost use Rattle.fi_run.specs.declared.state.StateCall.TheVariants.{NextWake};
     ghost use Rattle.fi_run.specs.Outgoing.{machine_outgoing};
-    ghost use Rattle.fi_run.specs.StateLaws.{state_starts, state_keeps, state_takes_oldest, state_history_initial, state_history_preserved};
+    ghost use Rattle.fi_run.specs.StateLaws.{state_starts, state_keeps, state_takes_oldest};
+    ghost use Rattle.fi_run.specs.StateLaws.{state_history_initial, state_history_preserved};
 
     type Opening = ();
 
@@ -150,13 +153,20 @@ fn received<T, W>(state: Result<Option<(StateId, T)>, Fault>) -> Answer<T, W>
 /// was handed out since; and no wake is owed.
 pub fn every_run_of_a_state_broadcast<T: Clone, W: Drop>()
     ensures opened { (first : StateMachine T W) → Opens tt first → IsSound first × OwesNoWake first }
-    ensures states { AfterEveryRun {S = StateMachine T W} IsSound OwesNoWake (Step T.is_clone T.is_infallible) (λ first history now. StatesAreNewest T.is_clone first history) }
-    ensures asked { AfterEveryRun {S = StateMachine T W} IsSound OwesNoWake (Step T.is_clone T.is_infallible) (λ first history now. AsksAs (λ name. asked_by first name history) now) }
-    ensures number { AfterEveryRun {S = StateMachine T W} IsSound OwesNoWake (Step T.is_clone T.is_infallible) (λ first history now. Counts first (sends history) now) }
-    ensures fits { AfterEveryRun {S = StateMachine T W} IsSound OwesNoWake (Step T.is_clone T.is_infallible) (λ first history now. now.own.number < 2 ^ 64) }
-    ensures closed { AfterEveryRun {S = StateMachine T W} IsSound OwesNoWake (Step T.is_clone T.is_infallible) (λ first history now. OpenFits first.own.is_open now.own.is_open (new_closes history)) }
-    ensures wakers { AfterEveryRun {S = StateMachine T W} IsSound OwesNoWake (Step T.is_clone T.is_infallible) (λ first history now. WakersAreKept first history now) }
-    ensures no_wake { AfterEveryRun {S = StateMachine T W} IsSound OwesNoWake (Step T.is_clone T.is_infallible) (λ first history now. IsSound now × OwesNoWake now) }
+    ensures states { InEveryRun {T = T} {W = W} T.is_clone T.is_infallible
+        (λ first history now. StatesAreNewest T.is_clone first history) }
+    ensures asked { InEveryRun {T = T} {W = W} T.is_clone T.is_infallible
+        (λ first history now. AsksAs (λ name. asked_by first name history) now) }
+    ensures number { InEveryRun {T = T} {W = W} T.is_clone T.is_infallible
+        (λ first history now. Counts first (sends history) now) }
+    ensures fits { InEveryRun {T = T} {W = W} T.is_clone T.is_infallible
+        (λ first history now. now.own.number < 2 ^ 64) }
+    ensures closed { InEveryRun {T = T} {W = W} T.is_clone T.is_infallible
+        (λ first history now. OpenFits first.own.is_open now.own.is_open (new_closes history)) }
+    ensures wakers { InEveryRun {T = T} {W = W} T.is_clone T.is_infallible
+        (λ first history now. WakersAreKept first history now) }
+    ensures no_wake { InEveryRun {T = T} {W = W} T.is_clone T.is_infallible
+        (λ first history now. IsSound now × OwesNoWake now) }
 {
     every_run::<StateBroadcastState<T, W>>();
 }

@@ -1,9 +1,8 @@
 //! The timer as a primitive.
 ghost use Rattle.std.specs.Prelude.{◌≡◌, IsOk, IfOk, IfErr};
 ghost use Rattle.fi_locks.specs.Timer.{TimerMachine, IsSound, OwesNoWake};
-ghost use Rattle.fi_run.specs.Timer.{Opens, Step};
+ghost use Rattle.fi_run.specs.Timer.{Opens, Step, InEveryRun};
 ghost use Rattle.fi_run.specs.TimerHistory.{ExpiriesAreLater, WakersAreKept};
-ghost use Rattle.fi_run.specs.Run.{AfterEveryRun};
 ghost use Rattle.fi_run.specs.declared.answer.Answer.{Answer};
 ghost use Rattle.fi_run.specs.declared.timer.TimerCall.{TimerCall};
 
@@ -16,11 +15,14 @@ use std::alloc::Global;
 use std::time::Duration;
 
 /// A call on a timer. Moments and expiries are in milliseconds.
+///
+/// Making a future may answer `Refused(NoMemory)`. A poll or a cancel where none lives, or a poll of one that has ended, answers
+/// `Refused(NoSlot)`.
 #[derive(Clone, Copy, Debug, PartialEq, Eq, Drop)]
 pub enum TimerCall<W> {
     /// Makes a future with this expiry. Answers `Made`.
     Deadline(u64),
-    /// Makes a future whose expiry is so long after this moment. Answers `Made`.
+    /// Makes a future whose expiry is this long after this moment, in whole milliseconds, and at most `u64::MAX`. Answers `Made`.
     Delay(u64, Duration),
     /// Polls a future at this moment. Answers `Pending`, `Ready`.
     Poll(Slot, u64, W),
@@ -41,7 +43,8 @@ impl<W: Drop> Primitive for TimerState<W> {
     ghost use Rattle.fi_run.specs.declared.answer.Answer.TheVariants.{Woken};
     ghost use Rattle.fi_run.specs.declared.timer.TimerCall.TheVariants.{NextWake};
     ghost use Rattle.fi_run.specs.Outgoing.{machine_outgoing};
-    ghost use Rattle.fi_run.specs.TimerLaws.{timer_starts, timer_keeps, timer_takes_oldest, timer_history_initial, timer_history_preserved};
+    ghost use Rattle.fi_run.specs.TimerLaws.{timer_starts, timer_keeps, timer_takes_oldest};
+    ghost use Rattle.fi_run.specs.TimerLaws.{timer_history_initial, timer_history_preserved};
 
     type Opening = ();
 
@@ -138,9 +141,9 @@ impl<W: Drop> Primitive for TimerState<W> {
 /// registered, stands in the outbox, or was handed out since; and no wake is owed.
 pub fn every_run_of_a_timer<W: Drop>()
     ensures opened { (first : TimerMachine W) → Opens tt first → IsSound first × OwesNoWake first }
-    ensures expiries { AfterEveryRun {S = TimerMachine W} IsSound OwesNoWake Step (λ first history now. ExpiriesAreLater first history now) }
-    ensures wakers { AfterEveryRun {S = TimerMachine W} IsSound OwesNoWake Step (λ first history now. WakersAreKept first history now) }
-    ensures no_wake { AfterEveryRun {S = TimerMachine W} IsSound OwesNoWake Step (λ first history now. IsSound now × OwesNoWake now) }
+    ensures expiries { InEveryRun {W = W} (λ first history now. ExpiriesAreLater first history now) }
+    ensures wakers { InEveryRun {W = W} (λ first history now. WakersAreKept first history now) }
+    ensures no_wake { InEveryRun {W = W} (λ first history now. IsSound now × OwesNoWake now) }
 {
     every_run::<TimerState<W>>();
 }

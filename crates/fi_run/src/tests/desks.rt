@@ -103,25 +103,28 @@ fn desk_seats(rt: HostRuntime) -> Result<(), Fail> {
     Ok(())
 }
 
-/// Makes five seats at a desk for five, and a call with each: whether a sixth is refused, and each entry is of its seat.
-fn seats_five<R: Wait + Copy + AllocGlobal, L: Ledger>(rt: R, blank: Blank) -> Result<bool, Fail>
+/// Makes forty seats at a desk for forty, and a call with each: whether one more is refused, and each entry is of its seat.
+fn seats_forty<R: Wait + Copy + AllocGlobal, L: Ledger>(rt: R, blank: Blank) -> Result<bool, Fail>
     requires name { blank.name ≡ L.name }
     requires parts { blank.parts ≡ L.parts }
-    requires count { blank.parts ≡ 5 }
+    requires count { blank.parts ≡ 40 }
 {
-    let desk: Desk<EventState<u64>, R, L> = Desk::new(rt.alloc(), rt, blank, false, 5)?;
+    let desk: Desk<EventState<u64>, R, L> = Desk::new(rt.alloc(), rt, blank, false, 40)?;
     let mut seats = Vec::new(rt.alloc());
-    for _ in 0..5u64 {
+    for _ in 0..40u64 {
         let mut seat = desk.seat()?;
         desk.call(&mut seat, EventCall::Set)?;
         seats.push(seat)?;
     }
-    let is_sixth_refused = desk.seat().is_err();
-    let mut places = Vec::new(rt.alloc());
+    let is_one_more_refused = desk.seat().is_err();
+    let mut next = 0u64;
     for entry in &desk.settle(seats)?.history {
-        places.push(entry.seat)?;
+        if entry.seat != next {
+            return Ok(false);
+        }
+        next = next.wrapping_add(1);
     }
-    Ok(is_sixth_refused && places.as_slice() == [0, 1, 2, 3, 4].as_slice())
+    Ok(is_one_more_refused && next == 40)
 }
 
 /// Settles a desk of two seats without the second, which made a call.
@@ -143,7 +146,7 @@ fn lacks_a_caller<R: Wait + Copy + AllocGlobal, L: Ledger>(
 
 #[test]
 fn each_seat_has_its_entries(rt: HostRuntime) -> Result<(), Fail> {
-    assert!(rt; seats_five::<HostRuntime, Brand>(rt, Blank::new(5))?);
+    assert!(rt; seats_forty::<HostRuntime, Brand>(rt, Blank::new(40))?);
     assert!(rt; lacks_a_caller::<HostRuntime, Brand>(rt, Blank::new(2))? == Some(Mismatch::Seats));
     Ok(())
 }
