@@ -11,7 +11,7 @@ use crate::send_future::ChannelSendFuture;
 use crate::slot_future::SlotFuture;
 use crate::wakes::HasOutbox;
 use fi_channels::{ChannelState, TryReceiveError, TrySendError};
-use fi_parts::buffer::{ArrayBuf, GrowingHeapBuf, RingBuf};
+use fi_parts::buffer::{ArrayBuf, RingBuf};
 use fi_parts::{CloseStatus, Fault, NoRoom};
 use futures::task::Waker;
 use std::alloc::Global;
@@ -64,19 +64,21 @@ impl<T: Drop, B: RingBuf<Item = T>, R: Drop> GenericChannel<T, B, R> {
 
 impl<T: Drop, B: RingBuf<Item = T>, R: Wait> GenericChannel<T, B, R> {
     /// Sends a value at once, if the channel is open and its buffer has room, and wakes the oldest receive that waits. Else the
-    /// value comes back. Keeps `GenericChannel::try_send`.
+    /// value comes back: with `Closed`, with `Full`, or with `NoMemory` where the buffer could not grow. Keeps `GenericChannel::try_send`.
     pub fn try_send(&self, value: T) -> Result<(), TrySendError<T>>
         ensures handed_back { IfErr result (λ refused. value_in refused ≡ value) }
     {
         self.monitor.call(value, ChannelState::try_send)
     }
 
-    /// Receives the oldest value at once, if there is one. Keeps `GenericChannel::try_receive`.
+    /// Receives the oldest value at once, if there is one. Else `Closed` where the channel is closed, or `Empty`. Keeps
+    /// `GenericChannel::try_receive`.
     pub fn try_receive(&self) -> Result<T, TryReceiveError> {
         self.monitor.call((), |channel, ()| channel.try_receive())
     }
 
-    /// Closes the channel and wakes all receives that wait and then all sends. Keeps `GenericChannel::close`.
+    /// Closes the channel and wakes all receives that wait and then all sends. `AlreadyClosed` where it was closed; then nothing has
+    /// changed. Keeps `GenericChannel::close`.
     pub fn close(&self) -> CloseStatus {
         self.monitor.call((), |channel, ()| channel.close())
     }

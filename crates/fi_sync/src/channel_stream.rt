@@ -131,7 +131,8 @@ impl<T: Drop, B: RingBuf<Item = T>> PollSlot<ChannelStreaming> for ChannelState<
 impl<T: Drop, B: RingBuf<Item = T>> Cancel<ChannelStreaming> for ChannelState<T, B, Waker> {
     type Left = Option<Waker>;
 
-    ghost cancels = { λ old name left new. CancelsWhere (is_some (receive_phase old name)) (CancelsReceive old name new) (displaced_receive old name) old left new };
+    ghost cancels = { λ old name left new. CancelsWhere (is_some (receive_phase old name)) (CancelsReceive old name new)
+        (displaced_receive old name) old left new };
 
     fn cancel(&mut self, slot: Slot) -> Option<Waker> {
         if !self.has_receive(slot) {

@@ -1,10 +1,10 @@
-//! The slot of a future, which its drop owes back.
+//! The slot of a future, which the future's drop has to give back.
 ghost use Rattle.std.specs.Prelude.{◌≡◌, ℕ};
 
 use fi_parts::Slot;
 use std::marker::{Model, PhantomData};
 
-/// A state in which futures of the kind `K` have slots.
+/// A state whose futures of the kind `K` can be cancelled by slot.
 pub trait Cancel<K> {
     /// What a cancelled future leaves: the waker that it had, or a value that was to be sent.
     type Left: Drop;

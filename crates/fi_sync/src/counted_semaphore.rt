@@ -96,6 +96,13 @@ impl<L: Ledger> CountedSemaphore<L> {
         self.state.permits()
     }
 
+    /// How many permits are held: those of all grants that are alive.
+    pub fn held(&self) -> usize
+        ensures { result ≡ self.now.own.held }
+    {
+        self.state.held()
+    }
+
     /// Makes the permits free again, which are held: their grant is alive.
     pub fn give_back(&mut self, grant: Grant<L>)
         ensures held { grant ≤ self.old.own.held }

@@ -14,7 +14,8 @@ pub struct EventWait;
 
 /// Waits for an event. Its drop unregisters it, and tells nobody.
 ///
-/// Its output is Ok once the event was set since its first poll. Keeps `WaitForEventFuture` of futures-intrusive's `sync`.
+/// Its output is Ok once the event was set since its first poll, and refused as every `SlotFuture`'s. Keeps `WaitForEventFuture` of
+/// futures-intrusive's `sync`.
 pub type WaitForEventFuture<'a, R> = SlotFuture<&'a Monitor<EventState<Waker>, R>, EventWait>;
 
 impl PollSlot<EventWait> for EventState<Waker> {

@@ -1,4 +1,6 @@
-//! The primitives that threads share: each state stands behind a lock, and its futures are the kit's.
+//! The primitives that threads share: each state stands behind a lock, and its futures implement the kit's `Future`.
+//!
+//! "Keeps `X`" says which item of futures-intrusive an item stands for.
 #![tactic(auto)]
 
 mod channel;

@@ -49,7 +49,8 @@ impl<S, R> Monitor<S, R> {
 impl<S: HasOutbox, R: Wait> Monitor<S, R> {
     /// Makes a call on the state in one hold of the lock, lets go, and then wakes those that the state had named.
     ///
-    /// The call has an input, since no closure can hold what cannot just be let go. What it answers is let go after the lock is.
+    /// The call takes an input, since a closure can capture only values that are `Drop`. What it answers is dropped after the
+    /// lock is released.
     pub fn call<I, A, F: FnOnce(&mut S, I) -> A>(&self, input: I, call: F) -> A
         requires { F.IsAlwaysCallable call }
         ensures { (shown : MutBor S) × (left : MutBor S) × F.post call shown input result left }

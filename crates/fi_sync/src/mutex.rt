@@ -144,7 +144,8 @@ impl<T: Drop, R: Wait, L: Ledger> DerefMut for MutexGuard<'_, T, R, L> {
 
     /// The value of the mutex, to be changed: what is written there is what the guard's drop puts back.
     fn deref_mut(&mut self) -> &mut T
-        ensures* writes_back { sem 𝓛 (Lends (the_row (record { mir = named 1; lft = [] }) T.row R.row L.row L.Ledger) T.row self.entry result (λ value. value)) }
+        ensures* writes_back { sem 𝓛 (Lends (the_row (record { mir = named 1; lft = [] }) T.row R.row L.row L.Ledger)
+            T.row self.entry result (λ value. value)) }
         ensures shows { result.now ≡ self.old }
     {
         &mut self.value
@@ -153,7 +154,8 @@ impl<T: Drop, R: Wait, L: Ledger> DerefMut for MutexGuard<'_, T, R, L> {
 
 /// Locks a mutex. Its drop unregisters it; if it was told, the oldest queued future is told and woken in its place.
 ///
-/// Its output is the guard, once the mutex is free for it. Keeps `GenericMutexLockFuture` of futures-intrusive's `sync`.
+/// Its output is the guard, once the mutex is free for it. Refused with `NoMemory` where no waker could be made; it may then be
+/// polled again. Keeps `GenericMutexLockFuture` of futures-intrusive's `sync`.
 #[derive(Drop)]
 pub struct MutexLockFuture<'a, T: Drop, R: Wait, L: Ledger> {
     monitor: &'a Monitor<CountedMutex<T, L>, R>,

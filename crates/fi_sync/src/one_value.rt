@@ -48,7 +48,7 @@ impl<T: Drop, G: GivesValue<T>, R> OneValueChannel<T, G, R> {
 }
 
 impl<T: Drop, G: GivesValue<T>, R: Wait> OneValueChannel<T, G, R> {
-    /// Sends the one value, and wakes the receives that it is for. Refused, with the value, where one was sent before or the
+    /// Sends the one value, and wakes all receives that wait, the oldest first. Refused, with the value, where one was sent before or the
     /// channel is closed. Keeps `OneshotChannel::send`.
     pub fn send(&self, value: T) -> Result<(), ChannelSendError<T>>
         ensures { IfErr result (λ refused. refused.0 ≡ value) }
@@ -56,13 +56,14 @@ impl<T: Drop, G: GivesValue<T>, R: Wait> OneValueChannel<T, G, R> {
         self.monitor.call(value, OneValueState::send)
     }
 
-    /// Closes the channel and wakes all receives that wait, the oldest first. Keeps `OneshotChannel::close`.
+    /// Closes the channel and wakes all receives that wait, the oldest first. `AlreadyClosed` where it took no value any more;
+    /// then nothing has changed. Keeps `OneshotChannel::close`.
     pub fn close(&self) -> CloseStatus {
         self.monitor.call((), |channel, ()| channel.close())
     }
 
-    /// A future that receives the value, or None once the channel is closed. Refused only with `NoMemory`; then nothing has
-    /// changed. Keeps `OneshotChannel::receive`.
+    /// A future that receives the value, or None if none will come: the channel was closed without one, or (of a oneshot)
+    /// another receive took it. Refused only with `NoMemory`; then nothing has changed. Keeps `OneshotChannel::receive`.
     pub fn receive(&self) -> Result<ChannelReceiveFuture<'_, OneValueState<T, Waker, G>, R>, Fault>
         ensures made { IfOk result (λ future. future ≡ record { source = self.now; has_ended = false }) }
         ensures fault { IfErr result (λ fault. fault ≡ Fault.NoMemory) }

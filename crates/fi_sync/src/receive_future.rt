@@ -16,14 +16,15 @@ pub struct ChannelReceive;
 /// Receives one value from a channel, or None once it is closed and empty. Its drop gives back what it had not used: a receive
 /// that was told of a value passes that on.
 ///
-/// Its output is refused with `NoMemory` also where memory for a clone of the value was. Keeps `ChannelReceiveFuture` of
+/// Its output is refused with `NoMemory` also where a clone of the value could not be allocated. Keeps `ChannelReceiveFuture` of
 /// futures-intrusive's `channel`.
 pub type ChannelReceiveFuture<'a, C, R> = SlotFuture<&'a Monitor<C, R>, ChannelReceive>;
 
 impl<C: ChannelReceiveAccess<Waker = Waker>> PollSlot<ChannelReceive> for C {
     type Output = Result<Option<C::Item>, Fault>;
 
-    ghost polls = { λ old name waker answer new. PollsWhere (C.is_pollable old name) (C.receives old name waker) (Err Fault.NoSlot) old answer new };
+    ghost polls = { λ old name waker answer new. PollsWhere (C.is_pollable old name) (C.receives old name waker)
+        (Err Fault.NoSlot) old answer new };
 
     ghost leaves = { λ old name waker answer. leftover_after answer (C.waker_of old name) waker };
 
@@ -39,7 +40,8 @@ impl<C: ChannelReceiveAccess<Waker = Waker>> PollSlot<ChannelReceive> for C {
 impl<C: ChannelReceiveAccess<Waker = Waker>> Cancel<ChannelReceive> for C {
     type Left = Option<Waker>;
 
-    ghost cancels = { λ old name left new. CancelsWhere (C.is_receiving old name) (C.cancels old name new) (C.waker_of old name) old left new };
+    ghost cancels = { λ old name left new. CancelsWhere (C.is_receiving old name) (C.cancels old name new)
+        (C.waker_of old name) old left new };
 
     fn cancel(&mut self, slot: Slot) -> Option<Waker> {
         if !self.has_receive(slot) {

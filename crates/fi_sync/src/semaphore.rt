@@ -14,8 +14,9 @@ use std::sync::ledger::{Blank, Ledger};
 
 /// A semaphore: futures acquire permits, several at once, and releasers give them back. Threads share it by reference.
 ///
-/// A fair semaphore grants in the order of the futures' first polls. An unfair one lets a caller that finds permits free pass
-/// those that wait. Each call but `new` takes the lock. Keeps `GenericSemaphore` of futures-intrusive's `sync`.
+/// A fair semaphore tells its futures in the order of their first polls; of those told together, the one polled first is granted
+/// first. An unfair one lets a caller that finds permits free pass those that wait. Each call but `new` takes the lock. Keeps
+/// `GenericSemaphore` of futures-intrusive's `sync`.
 #[derive(Drop)]
 pub struct Semaphore<R, L: Ledger> {
     monitor: Monitor<CountedSemaphore<L>, R>,
@@ -86,5 +87,10 @@ impl<R: Wait, L: Ledger> Semaphore<R, L> {
     /// How many permits were free when it was looked at. Keeps `GenericSemaphore::permits`.
     pub fn permits(&self) -> usize {
         self.monitor.call((), |semaphore, ()| semaphore.permits())
+    }
+
+    /// How many permits were held when it was looked at. The Rust crate does not count them.
+    pub fn held(&self) -> usize {
+        self.monitor.call((), |semaphore, ()| semaphore.held())
     }
 }

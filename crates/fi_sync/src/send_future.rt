@@ -19,7 +19,8 @@ pub struct ChannelSend;
 
 /// Sends a value on a channel: ready once it is stored or taken, or with the value where the channel is closed.
 ///
-/// A refusal (`SendFault::Fault`) leaves the send with its value. Keeps `ChannelSendFuture` of futures-intrusive's `channel`.
+/// A refusal (`SendFault::Fault`: `NoMemory` where no waker could be made or the buffer could not grow) leaves the send with its
+/// value, and it may be polled again. Keeps `ChannelSendFuture` of futures-intrusive's `channel`.
 pub type ChannelSendFuture<'a, C, R> = SlotFuture<&'a Monitor<C, R>, ChannelSend>;
 
 impl<T> PollOutput for Result<(), SendFault<T>> {
@@ -45,7 +46,8 @@ where
 {
     type Output = Result<(), SendFault<C::Item>>;
 
-    ghost polls = { λ old name waker answer new. PollsWhere (C.is_sendable old name) (C.sends old name waker) (Err (send_fault.Fault Fault.NoSlot)) old answer new };
+    ghost polls = { λ old name waker answer new. PollsWhere (C.is_sendable old name) (C.sends old name waker)
+        (Err (send_fault.Fault Fault.NoSlot)) old answer new };
 
     ghost leaves = { λ old name waker answer. leftover_of_send answer (C.waker_of old name) waker };
 

@@ -105,7 +105,8 @@ impl<R: Wait + Drop, L: Ledger> SharedSemaphore<R, L> {
         }
     }
 
-    /// Adds free permits, as `Semaphore::release`. Keeps `GenericSharedSemaphore::release`, which does not check.
+    /// Adds free permits, as `Semaphore::release`, and is refused with `Overflow` as there. Keeps
+    /// `GenericSharedSemaphore::release`, which does not check.
     pub fn release(&self, permits: usize) -> Result<(), Fault>
         ensures { IfErr result (λ fault. fault ≡ Fault.Overflow) }
     {
@@ -115,6 +116,11 @@ impl<R: Wait + Drop, L: Ledger> SharedSemaphore<R, L> {
     /// How many permits were free when it was looked at. Keeps `GenericSharedSemaphore::permits`.
     pub fn permits(&self) -> usize {
         self.monitor.call((), |semaphore, ()| semaphore.permits())
+    }
+
+    /// How many permits were held when it was looked at. The Rust crate does not count them.
+    pub fn held(&self) -> usize {
+        self.monitor.call((), |semaphore, ()| semaphore.held())
     }
 
     fn share(&self) -> Result<Arc<Monitor<CountedSemaphore<L>, R>, Global>, Fault>

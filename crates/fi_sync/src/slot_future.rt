@@ -179,7 +179,7 @@ where
             Some(claim) => Some(monitor.monitor().cancel::<K>(claim)),
             None => None,
         };
-        // Their drops run the code of their owners, with no lock held.
+        // With no lock held: the drop of a value may run any code.
         drop(left);
         drop(spare);
     }

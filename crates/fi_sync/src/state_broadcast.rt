@@ -22,7 +22,8 @@ pub struct StateBroadcastChannel<T: Clone, R> {
     monitor: Monitor<StateBroadcastState<T, Waker>, R>,
 }
 
-/// Receives a state newer than the one that it names, with its number, or None once the channel is closed and has none.
+/// Receives the newest state with its number, once that is greater than the one seen; None once the channel is closed and has no
+/// such state.
 ///
 /// Keeps `StateReceiveFuture` of futures-intrusive's `channel`.
 pub type StateReceiveFuture<'a, T, R> = ChannelReceiveFuture<'a, StateBroadcastState<T, Waker>, R>;
@@ -57,13 +58,14 @@ impl<T: Clone, R: Wait> StateBroadcastChannel<T, R> {
         }
     }
 
-    /// Closes the channel and wakes all receives that wait, the oldest first. Keeps `StateBroadcastChannel::close`.
+    /// Closes the channel and wakes all receives that wait, the oldest first. `AlreadyClosed` where it was closed; then nothing has
+    /// changed. Keeps `StateBroadcastChannel::close`.
     pub fn close(&self) -> CloseStatus {
         self.monitor.call((), |channel, ()| channel.close())
     }
 
-    /// A clone of the newest state with its number, if that is greater than `seen`. Refused with `NoMemory` where memory
-    /// for the clone was. Keeps `StateBroadcastChannel::try_receive`.
+    /// A clone of the newest state with its number, if that is greater than `seen`. Refused with `NoMemory` where the clone could
+    /// not be allocated. Keeps `StateBroadcastChannel::try_receive`.
     pub fn try_receive(&self, seen: StateId) -> Result<Option<(StateId, T)>, Fault> {
         self.monitor
             .call(seen, |channel, seen| channel.try_receive(seen))

@@ -61,7 +61,7 @@ impl<L: Ledger> Tally<L> {
     }
 }
 
-/// So many units were handed out. It has no `Drop`: only taking them in again ends it, so a guard or a releaser whose drop keeps
+/// This many units were handed out. It has no `Drop`: only taking them in again ends it, so a guard or a releaser whose drop keeps
 /// what it holds does not compile.
 pub struct Grant<L: Ledger> {
     units: usize,

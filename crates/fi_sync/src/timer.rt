@@ -27,8 +27,8 @@ pub struct Timed<C> {
 
 /// A timer whose futures end when their time has come. Threads share it by reference.
 ///
-/// Nobody is woken but by a call of `check_expirations`. Each call but `new` takes the lock. Keeps `GenericTimerService` of
-/// futures-intrusive's `timer`.
+/// Only a check tells futures. Each call but `new` takes the lock, and wakes those who were told and not woken yet. Keeps
+/// `GenericTimerService` of futures-intrusive's `timer`.
 #[derive(Drop)]
 pub struct TimerService<C, R> {
     monitor: Monitor<Timed<C>, R>,
@@ -37,7 +37,8 @@ pub struct TimerService<C, R> {
 /// The kind of a timer's futures.
 pub struct TimerWait;
 
-/// Waits for a moment of a timer's clock. Its drop unregisters it. Keeps `TimerFuture` of futures-intrusive's `timer`.
+/// Waits for a moment of a timer's clock. Its drop unregisters it. Ready at its first poll if the clock has reached the moment, else
+/// once a check has told it. Keeps `TimerFuture` of futures-intrusive's `timer`.
 pub type TimerFuture<'a, C, R> = SlotFuture<&'a Monitor<Timed<C>, R>, TimerWait>;
 
 impl<C, R> Model for TimerService<C, R> {
@@ -59,8 +60,8 @@ impl<C: Clock + Drop, R> TimerService<C, R> {
 }
 
 impl<C: Clock + Drop, R: Wait> TimerService<C, R> {
-    /// A future that ends once the clock shows this moment, in milliseconds. Refused only with `NoMemory`; then nothing has
-    /// changed. Keeps `Timer::deadline`.
+    /// A future for this moment, in milliseconds: ready at its first poll if the clock has reached it, else once
+    /// `check_expirations` has told it. Refused only with `NoMemory`; then nothing has changed. Keeps `Timer::deadline`.
     pub fn deadline(&self, expiry: u64) -> Result<TimerFuture<'_, C, R>, Fault>
         ensures made { IfOk result (λ future. future ≡ record { source = self.now; has_ended = false }) }
         ensures fault { IfErr result (λ fault. fault ≡ Fault.NoMemory) }
@@ -71,8 +72,8 @@ impl<C: Clock + Drop, R: Wait> TimerService<C, R> {
         Ok(SlotFuture::new(&self.monitor, Claim::of(slot)))
     }
 
-    /// A future that ends so long after the clock's time now, in whole milliseconds, rounded down. Refused only with `NoMemory`;
-    /// then nothing has changed. Keeps `Timer::delay`.
+    /// A future for the moment this long after the clock's time now, in whole milliseconds, rounded down, and at most `u64::MAX`.
+    /// Refused only with `NoMemory`; then nothing has changed. Keeps `Timer::delay`.
     pub fn delay(&self, delay: Duration) -> Result<TimerFuture<'_, C, R>, Fault>
         ensures made { IfOk result (λ future. future ≡ record { source = self.now; has_ended = false }) }
         ensures fault { IfErr result (λ fault. fault ≡ Fault.NoMemory) }
@@ -81,7 +82,7 @@ impl<C: Clock + Drop, R: Wait> TimerService<C, R> {
         Ok(SlotFuture::new(&self.monitor, Claim::of(slot)))
     }
 
-    /// The least expiry of those that wait; None where none does. Keeps `GenericTimerService::next_expiration`.
+    /// The least expiry of those that wait, in milliseconds; None where none does. Keeps `GenericTimerService::next_expiration`.
     pub fn next_expiration(&self) -> Option<u64> {
         self.monitor
             .call((), |timed, ()| timed.timer.next_expiration())
@@ -112,7 +113,8 @@ impl<C: Clock> PollSlot<TimerWait> for Timed<C> {
     type Output = Result<(), Fault>;
 
     // At some moment. A poll that the timer makes is never refused.
-    ghost polls = { λ old name waker answer new. PollsWhere (can_be_polled (phase_at old.timer name)) (PollsTimed (λ timed. timed.timer) old.timer name waker) (Err Fault.NoSlot) old answer new };
+    ghost polls = { λ old name waker answer new. PollsWhere (can_be_polled (phase_at old.timer name))
+        (PollsTimed (λ timed. timed.timer) old.timer name waker) (Err Fault.NoSlot) old answer new };
 
     ghost leaves = { λ old name waker answer. leftover_after answer (displaced_at old.timer name) waker };
 
@@ -132,7 +134,8 @@ impl<C: Clock> PollSlot<TimerWait> for Timed<C> {
 impl<C: Clock> Cancel<TimerWait> for Timed<C> {
     type Left = Option<Waker>;
 
-    ghost cancels = { λ old name left new. CancelsWhere (is_some (phase_at old.timer name)) (Cancels old.timer name new.timer) (displaced_at old.timer name) old left new };
+    ghost cancels = { λ old name left new. CancelsWhere (is_some (phase_at old.timer name)) (Cancels old.timer name new.timer)
+        (displaced_at old.timer name) old left new };
 
     fn cancel(&mut self, slot: Slot) -> Option<Waker> {
         if !self.timer.is_live(slot) {

@@ -22,7 +22,8 @@ pub trait HasOutbox {
         ensures { result ≡ length (wakers self.now) };
 }
 
-/// So many wakes are owed. It has no `Drop`: only `pay` takes it, so a call that forgets to wake does not compile.
+/// The duty to wake the wakers that a call left named. It has no `Drop`: only `pay` takes it, so a call that forgets to wake does
+/// not compile.
 pub struct Owed {
     count: usize,
 }
@@ -39,7 +40,8 @@ impl Owed {
     where
         F: FnOnce(&mut S, I) -> A,
         requires { F.IsAlwaysCallable call }
-        ensures answered { (shown : MutBor S) × (left : MutBor S) × (shown.now ≡ state.old) × (left.now ≡ state.new) × F.post call shown input result.0 left }
+        ensures answered { (shown : MutBor S) × (left : MutBor S) × (shown.now ≡ state.old) × (left.now ≡ state.new)
+            × F.post call shown input result.0 left }
         ensures owed { result.1 ≡ length (S.wakers state.new) }
     {
         let answer = call(state, input);
@@ -70,8 +72,8 @@ impl Owed {
     }
 }
 
-// Takes out the oldest waker, in a hold of the lock that is over when it comes back: a waker's wake and its drop are its
-// owner's code, and may take the same lock.
+// Takes out the oldest waker, in a hold of the lock that is over when it comes back: a waker's wake and its drop could run its
+// owner's code (the kit's do not), which may take the same lock.
 fn take_oldest<S: HasOutbox, R: Wait>(rt: &R, state: &Mutex<S>) -> Option<Waker> {
     state.lock(rt).next_wake()
 }

@@ -3,7 +3,7 @@
 use super::{are_woken, poll_once, receives, sends, shares, waits};
 use crate::{Channel, GenericChannel, UnbufferedChannel};
 use fi_channels::{SendFault, TryReceiveError, TrySendError};
-use fi_parts::buffer::FixedHeapBuf;
+use fi_parts::buffer::{FixedHeapBuf, GrowingHeapBuf, RingBuf};
 use futures::Future;
 use futures::executor::block_on;
 use futures::task::{Doorbell, Poll, Queue};
@@ -41,12 +41,36 @@ fn is_sent_back<R: Wait + Abort, F: Future<Output = Result<(), SendFault<u64>>>>
     }
 }
 
+// Whether a channel has room for so many values, and no more. Once it is closed it says so.
+fn holds<R: Wait, B: RingBuf<Item = u64>>(
+    channel: &GenericChannel<u64, B, R>,
+    capacity: u64,
+) -> bool {
+    for value in 0..capacity {
+        if channel.try_send(value).is_err() {
+            return false;
+        }
+    }
+    if !matches!(channel.try_send(9), Err(TrySendError::Full(9))) {
+        return false;
+    }
+    let is_closed = channel.close().is_newly_closed() && !channel.close().is_newly_closed();
+    is_closed && matches!(channel.try_send(8), Err(TrySendError::Closed(8)))
+}
+
 #[test]
 fn a_channel_has_the_capacity_asked_for(rt: HostRuntime) {
-    let channel: GenericChannel<u64, FixedHeapBuf<u64>, HostRuntime> =
-        GenericChannel::with_capacity(rt.alloc(), rt, 2).expect(&rt, "memory");
-    assert!(rt; channel.try_send(1).is_ok() && channel.try_send(2).is_ok());
-    assert!(rt; matches!(channel.try_send(3), Err(TrySendError::Full(3))));
+    let fixed: GenericChannel<u64, FixedHeapBuf<u64>, HostRuntime> = GenericChannel::with_capacity(
+        rt.alloc(),
+        rt,
+        700,
+    ).expect(&rt, "memory");
+    assert!(rt; holds(&fixed, 700));
+    let growing: GenericChannel<u64, GrowingHeapBuf<u64>, HostRuntime> =
+        GenericChannel::with_capacity(rt.alloc(), rt, 300).expect(&rt, "memory");
+    assert!(rt; holds(&growing, 300));
+    let array = Channel::<u64, 1000, HostRuntime>::new(rt.alloc(), rt);
+    assert!(rt; holds(&array, 1000));
 }
 
 #[test]
@@ -94,6 +118,8 @@ fn channel_close(rt: HostRuntime) {
     assert!(rt; channel.close().is_newly_closed() && are_woken(&rt, tasks, &[second, third]));
     assert!(rt; is_sent_back(&rt, tasks, &mut b, 2) && b.cancel().is_none());
     assert!(rt; c.cancel() == Some(3) && !channel.close().is_newly_closed());
+    assert!(rt; channel.try_receive() == Ok(1));
+    assert!(rt; channel.try_receive() == Err(TryReceiveError::Closed));
 }
 
 #[test]
@@ -111,7 +137,8 @@ fn channel_close_leaves_what_is_stored(rt: HostRuntime) {
 #[test]
 fn channel_cancelled_send(rt: HostRuntime) {
     let tasks = &Queue::new(&rt, Doorbell::spinning()).expect(&rt, "memory");
-    let channel = Channel::<u64, 1, HostRuntime>::new(rt.alloc(), rt);
+    let channel: GenericChannel<u64, GrowingHeapBuf<u64>, HostRuntime> =
+        GenericChannel::with_capacity(rt.alloc(), rt, 1).expect(&rt, "memory");
     assert!(rt; channel.try_send(1).is_ok());
     let mut b = channel.send(2).ok().expect(&rt, "memory");
     let second = waits(&rt, tasks, &mut b);
@@ -141,7 +168,19 @@ where
     assert!(*rt; is_sent && received == Some(Ok(Some(7))));
 }
 
+// A stream is moved to another thread.
+fn stream_crosses<R>(rt: R)
+where
+    R: Wait + Threads + Abort + Copy + RandomSource + AllocGlobal + Send + Sync,
+{
+    let channel = Channel::<u64, 1, R>::new(rt.alloc(), rt);
+    let stream = sends(channel.stream().expect(&rt, "memory"));
+    let (is_open, ()) = thread::join(&rt, move || !stream.is_terminated(), || ());
+    assert!(rt; is_open);
+}
+
 #[test]
 fn channel_crosses_threads(rt: HostRuntime) {
-    crosses(rt)
+    crosses(rt);
+    stream_crosses(rt)
 }

@@ -2,6 +2,7 @@
 
 use super::{are_woken, poll_once, waits};
 use crate::{Channel, ChannelStream, UnbufferedChannel};
+use fi_channels::TryReceiveError;
 use fi_parts::Fault;
 use fi_parts::buffer::ArrayBuf;
 use futures::Stream;
@@ -36,6 +37,8 @@ fn stream_ends(rt: HostRuntime) {
     assert!(rt; polled == Poll::Ready(None) && stream.is_terminated());
     let (polled, _) = poll_next_once(&rt, tasks, &mut stream);
     assert!(rt; polled == Poll::Ready(None));
+    drop(stream);
+    assert!(rt; channel.try_receive() == Err(TryReceiveError::Closed));
 }
 
 #[test]

@@ -5,6 +5,7 @@ use crate::{
     Channel, ManualResetEvent, Mutex, OneshotBroadcastChannel, OneshotChannel, Semaphore,
     SharedSemaphore, StateBroadcastChannel, TimerService,
 };
+use fi_locks::LocalMutex;
 use fi_parts::{MockClock, StateId};
 use std::alloc::{AllocGlobal, Global};
 use std::fmt;
@@ -53,8 +54,18 @@ fn channels_of_one_value_show_their_names(rt: HostRuntime) {
 fn a_channel_shows_its_name(rt: HostRuntime) {
     let channel: Channel<u64, 2, HostRuntime> = Channel::new(rt.alloc(), rt);
     assert!(rt; shows(rt.alloc(), &channel, "Channel"));
+}
+
+#[test]
+fn a_send_shows_its_name(rt: HostRuntime) {
+    let channel: Channel<u64, 2, HostRuntime> = Channel::new(rt.alloc(), rt);
     let send = channel.send(5).ok().expect(&rt, "room");
     assert!(rt; shows(rt.alloc(), &send, "ChannelSendFuture"));
+}
+
+#[test]
+fn a_stream_shows_its_name(rt: HostRuntime) {
+    let channel: Channel<u64, 2, HostRuntime> = Channel::new(rt.alloc(), rt);
     let stream = channel.stream().expect(&rt, "memory");
     assert!(rt; shows(rt.alloc(), &stream, "ChannelStream"));
 }
@@ -73,6 +84,13 @@ fn mutex_shows<R: Wait + AllocGlobal + Copy, L: Ledger>(rt: R, blank: Blank) -> 
     let names = shows(alloc, &guard, "GenericMutexGuard")
         && shows(alloc, &lock, "GenericMutexLockFuture");
     Some(free && locked && names)
+}
+
+#[test]
+fn a_local_mutex_shows_whether_it_is_locked(rt: HostRuntime) {
+    let mut mutex: LocalMutex<u64, u64> = LocalMutex::new(rt.alloc(), 7, true);
+    let value = mutex.try_take();
+    assert!(rt; value.is_some() && shows(rt.alloc(), &mutex, "Mutex { is_locked: true }"));
 }
 
 #[test]

@@ -44,6 +44,18 @@ fn broadcast_clones(rt: HostRuntime) {
     assert!(rt; channel.send(6) == Err(ChannelSendError(6)));
 }
 
+// A close wakes the receive that waits, which is told that nothing will come.
+#[test]
+fn oneshot_close(rt: HostRuntime) {
+    let tasks = &Queue::new(&rt, Doorbell::spinning()).expect(&rt, "memory");
+    let channel = OneshotChannel::<u64, HostRuntime>::new(rt.alloc(), rt);
+    let mut a = channel.receive().expect(&rt, "memory");
+    let first = waits(&rt, tasks, &mut a);
+    assert!(rt; channel.close() == CloseStatus::NewlyClosed && are_woken(&rt, tasks, &[first]));
+    assert!(rt; receives(&rt, tasks, &mut a, None));
+    assert!(rt; channel.close() == CloseStatus::AlreadyClosed);
+}
+
 // The channel is moved, shared by reference, and its future is moved to another thread.
 fn crosses<R>(rt: R)
 where
@@ -61,7 +73,25 @@ where
     assert!(*rt; is_sent && received == Some(Ok(Some(7))));
 }
 
+// The same of a broadcast, of which each receive is given the value.
+fn broadcast_crosses<R>(rt: R)
+where
+    R: Wait + Threads + Abort + Copy + RandomSource + AllocGlobal + Send + Sync,
+{
+    let channel = sends(OneshotBroadcastChannel::<u64, R>::new(rt.alloc(), rt));
+    let channel = shares(&channel);
+    let receive = sends(channel.receive().expect(&rt, "memory"));
+    let rt = &rt;
+    let (received, is_sent) = thread::join(
+        rt,
+        move || block_on(rt, receive).ok(),
+        move || channel.send(7).is_ok(),
+    );
+    assert!(*rt; is_sent && received == Some(Ok(Some(7))));
+}
+
 #[test]
 fn oneshot_crosses_threads(rt: HostRuntime) {
     crosses(rt);
+    broadcast_crosses(rt);
 }

@@ -56,9 +56,9 @@ fn fair_cancel<R: Wait + Abort + Copy + AllocGlobal, L: Ledger>(rt: R, tasks: &Q
     // The waker of the cancelled future wakes its own task when it is let go.
     assert!(rt; are_woken(&rt, tasks, &[second, first]));
     let releaser = granted(&rt, tasks, &mut b);
-    assert!(rt; semaphore.permits() == 1);
+    assert!(rt; semaphore.permits() == 1 && semaphore.held() == 2);
     drop(releaser);
-    assert!(rt; semaphore.permits() == 3);
+    assert!(rt; semaphore.permits() == 3 && semaphore.held() == 0);
 }
 
 #[test]
@@ -102,12 +102,15 @@ fn disarms<R: Wait + Abort + Copy + AllocGlobal, L: Ledger>(rt: R, blank: Blank)
 {
     let semaphore = Semaphore::<R, L>::new(rt.alloc(), rt, blank, false, 2);
     let mut releaser = semaphore.try_acquire(2).expect(&rt, "free");
-    assert!(rt; releaser.disarm() == 2);
-    assert!(rt; releaser.disarm() == 0);
+    assert!(rt; semaphore.held() == 2 && releaser.disarm() == 2);
+    assert!(rt; semaphore.held() == 0 && releaser.disarm() == 0);
     drop(releaser);
     assert!(rt; semaphore.permits() == 0);
     assert!(rt; semaphore.release(2).is_ok() && semaphore.permits() == 2);
     assert!(rt; semaphore.release(usize::MAX).is_err() && semaphore.permits() == 2);
+    assert!(rt; semaphore.try_acquire(3).is_none() && semaphore.try_acquire(0).is_some());
+    assert!(rt; semaphore.acquire(usize::MAX).is_ok());
+    assert!(rt; semaphore.release(usize::MAX - 2).is_ok() && semaphore.permits() == usize::MAX);
 }
 
 #[test]

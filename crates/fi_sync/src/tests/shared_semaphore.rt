@@ -41,7 +41,7 @@ fn outlives<R: Wait + Abort + Drop + Copy, L: Ledger>(
     drop(both);
     let is_woken = are_woken(rt, tasks, &[task]);
     let releaser = granted(rt, tasks, &mut acquire);
-    let is_one_free = other.permits() == 1;
+    let is_one_free = other.permits() == 1 && other.held() == 1;
     drop(acquire);
     drop(releaser);
     is_refused && is_pending && is_woken && is_one_free && other.permits() == 2
@@ -62,27 +62,50 @@ fn passes<R: Wait + Abort + Drop + Copy, L: Ledger>(
     has_passed
 }
 
+// What a semaphore of this fairness does. In a fair one nobody passes who waits.
 fn shared<R: Wait + Abort + Drop + Copy + AllocGlobal, L: Ledger>(
     rt: R,
     tasks: &Queue,
     blank: Blank,
+    is_fair: bool,
 ) -> bool
     requires name { blank.name ≡ L.name }
     requires parts { blank.parts ≡ L.parts }
     requires all { blank.parts ≡ 18446744073709551615 }
 {
-    let semaphore = SharedSemaphore::<R, L>::new(rt.alloc(), rt, blank, true, 1);
+    let semaphore = SharedSemaphore::<R, L>::new(rt.alloc(), rt, blank, is_fair, 1);
     let semaphore = semaphore.expect(&rt, "memory");
     let is_added = semaphore.release(1).is_ok() && semaphore.release(usize::MAX).is_err();
-    // It is fair: nobody passes who waits.
     let has_passed = passes(&rt, tasks, &semaphore);
-    is_added && !has_passed && outlives(&rt, tasks, semaphore)
+    is_added && has_passed != is_fair && outlives(&rt, tasks, semaphore)
+}
+
+// A releaser that is disarmed gives nothing back, and there is room for all permits that can be counted.
+fn disarms<R: Wait + Abort + Drop + Copy + AllocGlobal, L: Ledger>(rt: R, blank: Blank)
+    requires name { blank.name ≡ L.name }
+    requires parts { blank.parts ≡ L.parts }
+    requires all { blank.parts ≡ 18446744073709551615 }
+{
+    let semaphore = SharedSemaphore::<R, L>::new(rt.alloc(), rt, blank, false, 2);
+    let semaphore = semaphore.expect(&rt, "memory");
+    let mut releaser = acquired(&rt, &semaphore, 2);
+    assert!(rt; semaphore.held() == 2 && releaser.disarm() == 2);
+    drop(releaser);
+    assert!(rt; semaphore.permits() == 0 && semaphore.held() == 0);
+    assert!(rt; semaphore.acquire(usize::MAX).is_ok());
+    assert!(rt; semaphore.release(usize::MAX).is_ok() && semaphore.permits() == usize::MAX);
+}
+
+#[test]
+fn shared_semaphore_disarm(rt: HostRuntime) {
+    disarms::<HostRuntime, Brand>(rt, Blank::new(u64::MAX))
 }
 
 #[test]
 fn shared_semaphore_outlives_its_owner(rt: HostRuntime) {
     let tasks = &Queue::new(&rt, Doorbell::spinning()).expect(&rt, "memory");
-    assert!(rt; shared::<HostRuntime, Brand>(rt, tasks, Blank::new(u64::MAX)));
+    assert!(rt; shared::<HostRuntime, Brand>(rt, tasks, Blank::new(u64::MAX), true));
+    assert!(rt; shared::<HostRuntime, Brand>(rt, tasks, Blank::new(u64::MAX), false));
 }
 
 // An owner and a future of it go to one thread, a releaser to another.

@@ -40,6 +40,20 @@ fn state_broadcast_numbers(rt: HostRuntime) {
     assert!(rt; channel.send(11) == Err(ChannelSendError(11)));
 }
 
+// What there is is given to whoever has seen an older state, also once the channel is closed.
+#[test]
+fn state_broadcast_tries(rt: HostRuntime) {
+    let channel = StateBroadcastChannel::<u64, HostRuntime>::new(rt.alloc(), rt);
+    assert!(rt; channel.send(9).is_ok() && channel.send(10).is_ok());
+    let first = StateId::from_value(1);
+    let second = StateId::from_value(2);
+    assert!(rt; channel.try_receive(first) == Ok(Some((second, 10))));
+    assert!(rt; channel.try_receive(second) == Ok(None));
+    assert!(rt; channel.close() == CloseStatus::NewlyClosed);
+    assert!(rt; channel.close() == CloseStatus::AlreadyClosed);
+    assert!(rt; channel.try_receive(first) == Ok(Some((second, 10))));
+}
+
 // The channel is moved, shared by reference, and its future is moved to another thread.
 fn crosses<R>(rt: R)
 where

@@ -2,7 +2,7 @@
 
 use super::{are_woken, poll_once, sends, shares, waits};
 use crate::TimerService;
-use fi_parts::Clock;
+use fi_parts::{Clock, StdClock, whole_millis};
 use futures::executor::block_on;
 use futures::task::{Doorbell, Poll, Queue};
 use std::alloc::AllocGlobal;
@@ -12,7 +12,7 @@ use std::sync::Wait;
 use std::sync::atomic::{AtomicU64, Ordering};
 use std::thread;
 use std::thread::Threads;
-use std::time::Duration;
+use std::time::{Duration, Instant};
 
 // A clock that shows what stands in a cell.
 #[derive(Drop)]
@@ -63,6 +63,7 @@ fn timer_saturates(rt: HostRuntime) {
     let tasks = &Queue::new(&rt, Doorbell::spinning()).expect(&rt, "memory");
     let time = &AtomicU64::new(u64::MAX - 5);
     let timer = TimerService::new(rt.alloc(), rt, Shown { time });
+    assert!(rt; timer.next_expiration().is_none());
     let mut wait = timer.delay(Duration::from_millis(10)).expect(&rt, "memory");
     let task = waits(&rt, tasks, &mut wait);
     assert!(rt; timer.next_expiration() == Some(u64::MAX));
@@ -71,6 +72,33 @@ fn timer_saturates(rt: HostRuntime) {
     assert!(rt; are_woken(&rt, tasks, &[task]));
     let (polled, _) = poll_once(&rt, tasks, &mut wait);
     assert!(rt; polled == Poll::Ready(Ok(())));
+}
+
+// A deadline that has passed is ready at its first poll, also while others wait. Whoever is dropped does not wait any more.
+#[test]
+fn timer_passed_deadline(rt: HostRuntime) {
+    let tasks = &Queue::new(&rt, Doorbell::spinning()).expect(&rt, "memory");
+    let time = &AtomicU64::new(1_700_000_000_000);
+    let timer = TimerService::new(rt.alloc(), rt, Shown { time });
+    let mut later = timer.deadline(1_700_000_000_009).expect(&rt, "memory");
+    let task = waits(&rt, tasks, &mut later);
+    let mut passed = timer.deadline(1_600_000_000_000).expect(&rt, "memory");
+    let (polled, _) = poll_once(&rt, tasks, &mut passed);
+    assert!(rt; polled == Poll::Ready(Ok(())));
+    assert!(rt; timer.next_expiration() == Some(1_700_000_000_009));
+    drop(later);
+    assert!(rt; timer.next_expiration().is_none() && are_woken(&rt, tasks, &[task]));
+}
+
+// The clock counts milliseconds: no fewer than a sleep takes, and no more than another clock shows.
+#[test]
+fn std_clock_counts_milliseconds(rt: HostRuntime) {
+    let start = Instant::now(&rt).ok().expect(&rt, "a clock");
+    let clock = StdClock::new(rt).ok().expect(&rt, "a clock");
+    thread::sleep(&rt, Duration::from_millis(50));
+    let shown = clock.now();
+    let passed = start.elapsed(&rt).ok().expect(&rt, "a clock");
+    assert!(rt; shown >= 50 && shown <= whole_millis(passed));
 }
 
 // The timer is moved, shared by reference, and its future is moved to another thread.

@@ -9,7 +9,7 @@ use std::process::Abort;
 use std::sync::{Mutex, Wait};
 use std::test::Fail;
 
-// At most two wakers that are to be woken, the older one first.
+// Wakers that are to be woken, the oldest first.
 #[derive(Drop)]
 struct Named {
     wakers: Vec<Waker>,
@@ -44,27 +44,29 @@ fn waker<R: Wait + Abort>(rt: &R, tasks: &Queue, source: &Source) -> (Waker, usi
     (slot.expect(rt, "a waker"), task)
 }
 
-// Three are named by the time that two wakes, which were owed, are paid: the two oldest are woken, and the third stays.
+// Six are named by the time that five wakes, which were owed, are paid: the five oldest are woken, and the sixth stays.
 #[test]
-fn a_payment_takes_what_was_owed(rt: HostRuntime) -> Result<(), Fail> {
+fn a_payment_takes_what_was_owed(rt: HostRuntime) {
     let tasks = &Queue::new(&rt, Doorbell::spinning()).expect(&rt, "memory");
     let source = &Source::new();
-    let (oldest, first) = waker(&rt, tasks, source);
-    let (other, second) = waker(&rt, tasks, source);
-    let (newest, third) = waker(&rt, tasks, source);
-    let mut named = Named {
-        wakers: vec![in rt.alloc(); oldest, other]?,
-    };
+    let mut wakers = Vec::new(rt.alloc());
+    let mut owed_to = Vec::new(rt.alloc());
+    for _ in 0..5u64 {
+        let (waker, task) = waker(&rt, tasks, source);
+        wakers.push(waker).expect(&rt, "memory");
+        owed_to.push(task).expect(&rt, "memory");
+    }
+    let (newest, last) = waker(&rt, tasks, source);
+    let mut named = Named { wakers };
     let ((), owed) = Owed::after(&mut named, (), |_named, ()| ());
     named.wakers.push(newest).expect(&rt, "memory");
     let named = Mutex::new(named);
     owed.pay(&rt, &named);
-    assert!(rt; are_woken(&rt, tasks, &[first, second]));
+    assert!(rt; are_woken(&rt, tasks, owed_to.as_slice()));
     assert_eq!(rt; named.lock(&rt).wake_count(), 1);
     // A waker that is let go wakes its task.
     drop(named);
-    assert!(rt; are_woken(&rt, tasks, &[third]));
-    Ok(())
+    assert!(rt; are_woken(&rt, tasks, &[last]));
 }
 
 // Where another thread took one out meanwhile, a payment ends without it.
