@@ -152,7 +152,7 @@ fn each_write_fails(rt: HostRuntime) -> Result<(), Fail> {
 fn long_output(rt: HostRuntime) -> Result<(), Fail> {
     let mut script: Vec<u8> = Vec::from_slice(rt.alloc(), b"event reset\n")?;
     let mut wanted: Vec<u8> = Vec::new(rt.alloc());
-    for _ in 0..40000 {
+    for _ in 0..150000 {
         script.extend_from_slice(b"is-set\n")?;
         wanted.extend_from_slice(b"false\n")?;
     }
