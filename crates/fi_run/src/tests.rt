@@ -10,6 +10,7 @@ use std::test::Fail;
 
 mod channel;
 mod desks;
+mod drawn_schedules;
 mod journals;
 
 // Whether a primitive of this opening answers the calls of these lines so.
