@@ -1,5 +1,5 @@
 -- What a mutex that threads share has beside its state, and what its futures do.
-use Rattle.std.specs.Prelude.{ℕ, Bool, true, false, Result, Err}
+use Rattle.std.specs.Prelude.{ℕ, Bool, true, false, Option, Result, Err}
 use Rattle.futures.specs.declared.task.Poll.{Poll}
 use Rattle.futures.specs.declared.task.waker.Waker.{Waker}
 use Rattle.fi_locks.specs.Mutex.{can_be_polled, Polls}
@@ -12,7 +12,7 @@ holds_if true = 0
 holds_if false = 1
 
 -- What a future that locks a mutex answers: it stays pending where it has ended. Else it answers as its mutex did in some hold of the
--- lock, or that it has no memory where no waker could be made.
-abbrev pub IsLockAnswer : {T : Type 0} → Bool → Bool → Poll (Result T Fault) → Type 0
-IsLockAnswer {T} has_ended lacks_waker answer =
-    IsAnswer (PollsAt can_be_polled (Polls {T = T} {W = Waker})) (Err Fault.NoMemory) has_ended lacks_waker answer
+-- lock, where it was polled under the future's own name, or that it has no memory where no waker could be made.
+abbrev pub IsLockAnswer : {T : Type 0} → Option ℕ → Bool → Bool → Poll (Result T Fault) → Type 0
+IsLockAnswer {T} own has_ended lacks_waker answer =
+    IsAnswer (PollsAt can_be_polled (Polls {T = T} {W = Waker})) (Err Fault.NoMemory) own has_ended lacks_waker answer

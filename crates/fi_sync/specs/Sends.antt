@@ -6,7 +6,7 @@ use Rattle.fi_channels.specs.Polled.{unused_after}
 use Rattle.fi_channels.specs.declared.channel_errors.SendFault.{SendFault}
 use Rattle.fi_channels.specs.declared.channel_errors.SendFault.TheVariants as send_fault
 use Rattle.fi_parts.specs.declared.phase.Leftover.{Leftover}
-use Rattle.fi_sync.specs.Waiting.{IsLeft}
+use Rattle.fi_sync.specs.Waiting.{IsLeftBy}
 
 -- The send has ended: its value was accepted or taken, or is handed back by a closed channel.
 abbrev pub is_sent : {T : Type 0} → Result (Unit {0}) (SendFault T) → Bool
@@ -30,6 +30,6 @@ abbrev pub CancelsSend : {S T W : Type 0} → (S → ℕ → Bool) → (S → �
 CancelsSend is_sending withdraws waker_of old name left new =
     CancelsSendWhere (is_sending old name) (withdraws old name left.0 new) (waker_of old name) old left new
 
--- A cancel, in some hold of the lock, gave back this value, if any.
-abbrev pub GivesBackBy : {S T W : Type 0} → (S → ℕ → Option T × Option W → S → Type 0) → Option T → Type 0
-GivesBackBy {S} {T} {W} cancels value = (waker : Option W) × IsLeft cancels (value, waker)
+-- A cancel under the send's own name, in some hold of the lock, gave back this value, if any.
+abbrev pub GivesBackBy : {S T W : Type 0} → (S → ℕ → Option T × Option W → S → Type 0) → Option ℕ → Option T → Type 0
+GivesBackBy {S} {T} {W} cancels own value = (waker : Option W) × IsLeftBy cancels own (value, waker)

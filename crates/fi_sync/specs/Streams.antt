@@ -34,9 +34,9 @@ PollsStream old name waker answer new =
 abbrev pub streamed : {A : Type 0} → SharedFuture → Poll (Option A) → SharedFuture
 streamed stream answer = record stream { has_ended = stream.has_ended || is_end answer }
 
--- A stream that has ended answers its end. Another answers as its channel did in some hold of the lock, or that it has no memory where no
--- waker could be made.
-abbrev pub IsStreamAnswer : (T W : Type 0) → Bool → Bool → Poll (Option (Result T Fault)) → Type 0
-IsStreamAnswer T W true lacks_waker answer = answer ≡ Ready None
-IsStreamAnswer T W false lacks_waker answer =
-    IsAnswer (PollsStream {T = T} {W = W}) (Some (Err Fault.NoMemory)) false lacks_waker answer
+-- A stream that has ended answers its end. Another answers as its channel did in some hold of the lock, where it was polled under the
+-- stream's own name, or that it has no memory where no waker could be made.
+abbrev pub IsStreamAnswer : (T W : Type 0) → Option ℕ → Bool → Bool → Poll (Option (Result T Fault)) → Type 0
+IsStreamAnswer T W own true lacks_waker answer = answer ≡ Ready None
+IsStreamAnswer T W own false lacks_waker answer =
+    IsAnswer (PollsStream {T = T} {W = W}) (Some (Err Fault.NoMemory)) own false lacks_waker answer

@@ -1,5 +1,5 @@
 -- What a contract sees of a future of a primitive that threads share.
-use Rattle.std.specs.Prelude.{◌≡◌, ◌⊎◌, ℕ, Bool, true, false, Option, None, is_some, Result, Err, ◌||◌}
+use Rattle.std.specs.Prelude.{◌≡◌, ◌⊎◌, ℕ, Bool, true, false, Option, Some, None, is_some, Result, Err, ◌||◌}
 use Rattle.futures.specs.declared.task.Poll.{Poll}
 use Rattle.futures.specs.declared.task.Poll.TheVariants.{Ready, Pending}
 use Rattle.fi_channels.specs.Polled.{Answered, displaced_by, unused_after}
@@ -8,10 +8,16 @@ use Rattle.fi_parts.specs.declared.errors.Fault.{Fault}
 use Rattle.fi_parts.specs.declared.phase.Leftover.{Leftover}
 use Rattle.fi_parts.specs.declared.phase.Phase.{Phase}
 
--- The source that its primitive's futures register at, and whether it was polled to its end or cancelled.
+-- The source that its primitive's futures register at, its name in its primitive's state (None once it was cancelled), and whether it
+-- was polled to its end or cancelled.
 pub record SharedFuture : Type 0 where
   pub source : ℕ
+  pub name : Option ℕ
   pub has_ended : Bool
+
+-- It was just made: it has a name, and was not polled yet.
+abbrev pub IsNew : ℕ → SharedFuture → Type 0
+IsNew source future = (name : ℕ) × (future ≡ record { source = source; name = Some name; has_ended = false })
 
 -- the answer ends its future, where such outputs do
 abbrev pub ends : {A : Type 0} → (A → Bool) → Poll A → Bool
@@ -53,14 +59,18 @@ module _ {S D W : Type 0} where
   CancelsAt cancels old name left new =
       CancelsWhere (is_some (phase_at old name)) (cancels old name new) (displaced_at old name) old left new
 
--- A cancel of the state, in some hold of the lock, left this.
-abbrev pub IsLeft : {S L : Type 0} → (S → ℕ → L → S → Type 0) → L → Type 0
-IsLeft {S} cancels left = (old : S) × (name : ℕ) × (new : S) × cancels old name left new
+-- A cancel under this name, in some hold of the lock, left this.
+abbrev pub IsLeft : {S L : Type 0} → (S → ℕ → L → S → Type 0) → ℕ → L → Type 0
+IsLeft {S} cancels name left = (old : S) × (new : S) × cancels old name left new
 
--- A future that has ended stays pending. Another answers as its state did in some hold of the lock, or that it has no memory where
--- no waker could be made.
-abbrev pub IsAnswer : {S W A : Type 0} → (S → ℕ → W → Poll A → S → Type 0) → A → Bool → Bool → Poll A → Type 0
-IsAnswer polls no_memory true lacks_waker answer = answer ≡ Pending
-IsAnswer {S} {W} polls no_memory false lacks_waker answer =
+-- The same of a future's own name, which it has until it is cancelled.
+abbrev pub IsLeftBy : {S L : Type 0} → (S → ℕ → L → S → Type 0) → Option ℕ → L → Type 0
+IsLeftBy cancels own left = (name : ℕ) × (own ≡ Some name) × IsLeft cancels name left
+
+-- A future that has ended stays pending. Another answers as its state did in some hold of the lock, where it was polled under the
+-- future's own name, or that it has no memory where no waker could be made.
+abbrev pub IsAnswer : {S W A : Type 0} → (S → ℕ → W → Poll A → S → Type 0) → A → Option ℕ → Bool → Bool → Poll A → Type 0
+IsAnswer polls no_memory own true lacks_waker answer = answer ≡ Pending
+IsAnswer {S} {W} polls no_memory own false lacks_waker answer =
     ((lacks_waker ≡ true) × (answer ≡ Ready no_memory))
-    ⊎ ((old : S) × (name : ℕ) × (waker : W) × (new : S) × polls old name waker answer new)
+    ⊎ ((old : S) × (name : ℕ) × (waker : W) × (new : S) × (own ≡ Some name) × polls old name waker answer new)

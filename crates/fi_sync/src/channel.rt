@@ -1,7 +1,8 @@
 //! The channel of many values that threads share.
-ghost use Rattle.std.specs.Prelude.{◌≡◌, false, IfOk, IfErr};
+ghost use Rattle.std.specs.Prelude.{◌≡◌, IfOk, IfErr};
 ghost use Rattle.fi_parts.specs.declared.errors.Fault.{Fault};
 ghost use Rattle.fi_channels.specs.ChannelErrors.{value_in};
+ghost use Rattle.fi_sync.specs.Waiting.{IsNew};
 
 use crate::channel_stream::ChannelStream;
 use crate::claim::Claim;
@@ -89,7 +90,7 @@ impl<T: Drop, B: RingBuf<Item = T>, R: Wait> GenericChannel<T, B, R> {
         &self,
         value: T,
     ) -> Result<ChannelSendFuture<'_, ChannelState<T, B, Waker>, R>, NoRoom<T>>
-        ensures made { IfOk result (λ future. future ≡ record { source = self.now; has_ended = false }) }
+        ensures made { IfOk result (λ future. IsNew self.now future) }
         ensures handed_back { IfErr result (λ failed. failed.0 ≡ value) }
     {
         let slot = self.monitor.call(value, ChannelState::claim_send)?;
@@ -99,7 +100,7 @@ impl<T: Drop, B: RingBuf<Item = T>, R: Wait> GenericChannel<T, B, R> {
     /// A future that receives one value, or None once the channel is closed and empty. Refused only with `NoMemory`; then
     /// nothing has changed. Keeps `GenericChannel::receive`.
     pub fn receive(&self) -> Result<ChannelReceiveFuture<'_, ChannelState<T, B, Waker>, R>, Fault>
-        ensures made { IfOk result (λ future. future ≡ record { source = self.now; has_ended = false }) }
+        ensures made { IfOk result (λ future. IsNew self.now future) }
         ensures fault { IfErr result (λ fault. fault ≡ Fault.NoMemory) }
     {
         let slot = self

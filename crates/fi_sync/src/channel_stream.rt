@@ -38,7 +38,7 @@ impl<'a, T: Drop, B: RingBuf<Item = T>, R: Wait> Model for ChannelStream<'a, T, 
 
     ghost Value = { SharedFuture };
 
-    ghost view = { λ stream. record { source = stream.future.source; has_ended = stream.is_ended } };
+    ghost view = { λ stream. record { source = stream.future.source; name = stream.future.name; has_ended = stream.is_ended } };
 
     // The future itself never ends.
     ghost invariant = { λ stream. stream.future.has_ended ≡ false };
@@ -49,7 +49,7 @@ impl<'a, T: Drop, B: RingBuf<Item = T>, R: Wait> ChannelStream<'a, T, B, R> {
         monitor: &'a Monitor<ChannelState<T, B, Waker>, R>,
         claim: Claim<ChannelStreaming>,
     ) -> Self
-        ensures { result ≡ record { source = monitor.now; has_ended = false } }
+        ensures { result ≡ record { source = monitor.now; name = Some claim; has_ended = false } }
     {
         ChannelStream {
             future: SlotFuture::new(monitor, claim),
@@ -62,7 +62,7 @@ impl<'a, T: Drop, B: RingBuf<Item = T>, R: Wait> ChannelStream<'a, T, B, R> {
         ensures registered { OnPending result (Covers cx.new (λ source. source ≡ self.new.source)) }
         ensures kept { Keeps cx.old cx.new }
         ensures stands { self.new ≡ streamed self.old result }
-        ensures answered { IsStreamAnswer T Waker self.old.has_ended cx.new.lacks_waker result }
+        ensures answered { IsStreamAnswer T Waker self.old.name self.old.has_ended cx.new.lacks_waker result }
     {
         if self.is_ended {
             return Poll::Ready(None);

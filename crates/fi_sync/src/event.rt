@@ -1,6 +1,7 @@
 //! A manual reset event that threads share.
-ghost use Rattle.std.specs.Prelude.{◌≡◌, false, IfOk, IfErr};
+ghost use Rattle.std.specs.Prelude.{◌≡◌, IfOk, IfErr};
 ghost use Rattle.fi_parts.specs.declared.errors.Fault.{Fault};
+ghost use Rattle.fi_sync.specs.Waiting.{IsNew};
 
 use crate::claim::Claim;
 use crate::event_future::WaitForEventFuture;
@@ -61,7 +62,7 @@ impl<R: Wait> ManualResetEvent<R> {
     ///
     /// Keeps `ManualResetEvent::wait`.
     pub fn wait(&self) -> Result<WaitForEventFuture<'_, R>, Fault>
-        ensures made { IfOk result (λ future. future ≡ record { source = self.now; has_ended = false }) }
+        ensures made { IfOk result (λ future. IsNew self.now future) }
         ensures fault { IfErr result (λ fault. fault ≡ Fault.NoMemory) }
     {
         let slot = self.monitor.call((), |event, ()| event.claim_waiter())?;

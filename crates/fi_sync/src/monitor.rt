@@ -79,10 +79,10 @@ impl<S: HasOutbox, R: Wait> Monitor<S, R> {
     pub fn cancel<K>(&self, claim: Claim<K>) -> S::Left
     where
         S: Cancel<K>,
-        ensures { IsLeft S.cancels result }
+        ensures { IsLeft S.cancels claim result }
     {
         let cancel = |state: &mut S, claim: Claim<K>| -> S::Left
-            ensures { IsLeft S.cancels result }
+            ensures { IsLeft S.cancels claim result }
         { claim.cancel(state) };
         self.call(claim, cancel)
     }

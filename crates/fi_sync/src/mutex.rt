@@ -1,12 +1,12 @@
 //! The mutex that threads share, its guard and its future.
-ghost use Rattle.std.specs.Prelude.{◌≡◌, [], ℕ, Result, true, false, IfOk, IfErr, is_ok, ⊤};
+ghost use Rattle.std.specs.Prelude.{◌≡◌, [], ℕ, Result, true, IfOk, IfErr, is_ok, ⊤};
 ghost use Rattle.std.specs.Borrow.{Lends, sem};
 ghost use Rattle.futures.specs.declared.task.Poll.{Poll};
 ghost use Rattle.futures.specs.Poll.{OnPending, IfReady};
 ghost use Rattle.futures.specs.Task.{Covers, Keeps};
 ghost use Rattle.fi_parts.specs.declared.errors.Fault.{Fault};
 ghost use Rattle.fi_sync.specs.Locked.{IsLockAnswer};
-ghost use Rattle.fi_sync.specs.Waiting.{polled};
+ghost use Rattle.fi_sync.specs.Waiting.{IsNew, polled};
 
 use crate::claim::Claim;
 use crate::counted_mutex::{CountedMutex, Locked, MutexLock};
@@ -57,7 +57,7 @@ impl<T: Drop, R, L: Ledger> Mutex<T, R, L> {
 impl<T: Drop, R: Wait, L: Ledger> Mutex<T, R, L> {
     /// A future that locks the mutex. Refused only with `NoMemory`; then nothing has changed. Keeps `GenericMutex::lock`.
     pub fn lock(&self) -> Result<MutexLockFuture<'_, T, R, L>, Fault>
-        ensures made { IfOk result (λ future. future ≡ record { source = self.now; has_ended = false }) }
+        ensures made { IfOk result (λ future. IsNew self.now future) }
         ensures fault { IfErr result (λ fault. fault ≡ Fault.NoMemory) }
     {
         let slot = self.monitor.call((), |mutex, ()| mutex.claim_lock())?;
@@ -192,7 +192,7 @@ impl<'a, T: Drop, R: Wait, L: Ledger> Future for MutexLockFuture<'a, T, R, L> {
         ensures kept { Keeps cx.old cx.new }
         ensures stands { self.new ≡ polled is_ok self.old result }
         ensures spent { self.old.has_ended ≡ true → result ≡ Poll.Pending }
-        ensures answered { IsLockAnswer self.old.has_ended cx.new.lacks_waker result }
+        ensures answered { IsLockAnswer self.old.name self.old.has_ended cx.new.lacks_waker result }
     {
         match self.future.poll(cx) {
             Poll::Ready(Ok(Locked { value, hold })) => Poll::Ready(Ok(MutexGuard {

@@ -1,6 +1,7 @@
 //! The channels for one value that threads share.
-ghost use Rattle.std.specs.Prelude.{◌≡◌, false, IfOk, IfErr};
+ghost use Rattle.std.specs.Prelude.{◌≡◌, IfOk, IfErr};
 ghost use Rattle.fi_parts.specs.declared.errors.Fault.{Fault};
+ghost use Rattle.fi_sync.specs.Waiting.{IsNew};
 
 use crate::claim::Claim;
 use crate::monitor::Monitor;
@@ -65,7 +66,7 @@ impl<T: Drop, G: GivesValue<T>, R: Wait> OneValueChannel<T, G, R> {
     /// A future that receives the value, or None if none will come: the channel was closed without one, or (of a oneshot)
     /// another receive took it. Refused only with `NoMemory`; then nothing has changed. Keeps `OneshotChannel::receive`.
     pub fn receive(&self) -> Result<ChannelReceiveFuture<'_, OneValueState<T, Waker, G>, R>, Fault>
-        ensures made { IfOk result (λ future. future ≡ record { source = self.now; has_ended = false }) }
+        ensures made { IfOk result (λ future. IsNew self.now future) }
         ensures fault { IfErr result (λ fault. fault ≡ Fault.NoMemory) }
     {
         let slot = self

@@ -1,6 +1,7 @@
 //! The semaphore that threads share by reference.
-ghost use Rattle.std.specs.Prelude.{◌≡◌, false, IfOk, IfErr, IfSome};
+ghost use Rattle.std.specs.Prelude.{◌≡◌, IfOk, IfErr, IfSome};
 ghost use Rattle.fi_parts.specs.declared.errors.Fault.{Fault};
+ghost use Rattle.fi_sync.specs.Waiting.{IsNew};
 
 use crate::counted_semaphore::CountedSemaphore;
 use crate::monitor::Monitor;
@@ -58,7 +59,7 @@ impl<R: Wait, L: Ledger> Semaphore<R, L> {
     /// A future that acquires this many permits. Refused only with `NoMemory`; then nothing has changed. Keeps
     /// `GenericSemaphore::acquire`.
     pub fn acquire(&self, permits: usize) -> Result<SemaphoreAcquireFuture<'_, R, L>, Fault>
-        ensures made { IfOk result (λ future. future ≡ record { source = self.now; has_ended = false }) }
+        ensures made { IfOk result (λ future. IsNew self.now future) }
         ensures fault { IfErr result (λ fault. fault ≡ Fault.NoMemory) }
     {
         let slot = self.monitor.call(permits, CountedSemaphore::claim_acquire)?;

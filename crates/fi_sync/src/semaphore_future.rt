@@ -1,5 +1,5 @@
 //! The future that acquires permits of a semaphore that threads share.
-ghost use Rattle.std.specs.Prelude.{◌≡◌, ℕ, Result, true, false, is_ok, ⊤};
+ghost use Rattle.std.specs.Prelude.{◌≡◌, ℕ, Result, Some, true, false, is_ok, ⊤};
 ghost use Rattle.futures.specs.declared.task.Poll.{Poll};
 ghost use Rattle.futures.specs.Poll.{OnPending, IfReady};
 ghost use Rattle.futures.specs.Task.{Covers, Keeps};
@@ -45,7 +45,7 @@ impl<M: HasMonitor<State = CountedSemaphore<L>>, L: Ledger> Model
 impl<M: HasMonitor<State = CountedSemaphore<L>>, L: Ledger> SemaphoreAcquireFutureOf<M, L> {
     /// The future under this slot. Both monitors are the semaphore's.
     pub(crate) fn of(monitor: M, releaser_monitor: M, slot: Slot) -> Self
-        ensures { result ≡ record { source = M.source monitor; has_ended = false } }
+        ensures { result ≡ record { source = M.source monitor; name = Some slot.0; has_ended = false } }
     {
         SemaphoreAcquireFutureOf {
             future: SlotFuture::new(monitor, Claim::of(slot)),
@@ -75,7 +75,7 @@ impl<M: HasMonitor<State = CountedSemaphore<L>>, L: Ledger> Future
         ensures kept { Keeps cx.old cx.new }
         ensures stands { self.new ≡ polled is_ok self.old result }
         ensures spent { self.old.has_ended ≡ true → result ≡ Poll.Pending }
-        ensures answered { IsAcquireAnswer self.old.has_ended cx.new.lacks_waker result }
+        ensures answered { IsAcquireAnswer self.old.name self.old.has_ended cx.new.lacks_waker result }
     {
         match self.future.poll(cx) {
             Poll::Ready(Ok(grant)) => match self.releaser_monitor.take() {

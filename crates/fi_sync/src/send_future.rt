@@ -1,5 +1,5 @@
 //! Sends on the channels that threads share.
-ghost use Rattle.std.specs.Prelude.{◌≡◌, true, false, Err};
+ghost use Rattle.std.specs.Prelude.{◌≡◌, None, true, false, Err};
 ghost use Rattle.fi_channels.specs.declared.channel_errors.SendFault.TheVariants as send_fault;
 ghost use Rattle.fi_parts.specs.declared.errors.Fault.{Fault};
 ghost use Rattle.fi_sync.specs.Sends.{leftover_of_send, CancelsSend, GivesBackBy, is_sent};
@@ -86,9 +86,9 @@ where
     /// Ends the send, and answers its value if that was neither accepted into the buffer, taken nor handed back. It is
     /// terminated then. Keeps `ChannelSendFuture::cancel`.
     pub fn cancel(&mut self) -> Option<C::Item>
-        ensures ended { self.new ≡ record { source = self.old.source; has_ended = true } }
+        ensures ended { self.new ≡ record { source = self.old.source; name = None; has_ended = true } }
         // A send that had not ended is cancelled: its value is what the channel gave back.
-        ensures given_back { self.old.has_ended ≡ false → GivesBackBy (CancelsSend C.is_sending C.withdraws C.waker_of) result }
+        ensures given_back { self.old.has_ended ≡ false → GivesBackBy (CancelsSend C.is_sending C.withdraws C.waker_of) self.old.name result }
     {
         let (value, _waker) = self.withdraw()?;
         value

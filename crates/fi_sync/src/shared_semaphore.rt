@@ -1,7 +1,8 @@
 //! The semaphore that its owners share: it lives while one of them, a future or a releaser of theirs does.
 ghost use Rattle.std.specs.Arc.{arc_value};
-ghost use Rattle.std.specs.Prelude.{◌≡◌, false, IfOk, IfErr, IfSome};
+ghost use Rattle.std.specs.Prelude.{◌≡◌, IfOk, IfErr, IfSome};
 ghost use Rattle.fi_parts.specs.declared.errors.Fault.{Fault};
+ghost use Rattle.fi_sync.specs.Waiting.{IsNew};
 
 use crate::counted_semaphore::CountedSemaphore;
 use crate::monitor::Monitor;
@@ -79,7 +80,7 @@ impl<R: Wait + Drop, L: Ledger> SharedSemaphore<R, L> {
     /// A future that acquires this many permits. Refused only with `NoMemory`; then nothing has changed. Keeps
     /// `GenericSharedSemaphore::acquire`.
     pub fn acquire(&self, permits: usize) -> Result<SharedSemaphoreAcquireFuture<R, L>, Fault>
-        ensures made { IfOk result (λ future. future ≡ record { source = self.now; has_ended = false }) }
+        ensures made { IfOk result (λ future. IsNew self.now future) }
         ensures fault { IfErr result (λ fault. fault ≡ Fault.NoMemory) }
     {
         let monitor = self.share()?;

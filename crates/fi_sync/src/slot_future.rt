@@ -1,12 +1,12 @@
 //! The future of every primitive that threads share.
-ghost use Rattle.std.specs.Prelude.{◌≡◌, ℕ, Bool, Err, true, false, IfSome, is_ok, is_some};
+ghost use Rattle.std.specs.Prelude.{◌≡◌, ℕ, Bool, Err, Some, None, true, false, IfSome, is_ok, is_some};
 ghost use Rattle.futures.specs.declared.task.Poll.{Poll};
 ghost use Rattle.futures.specs.declared.task.waker.Waker.{Waker};
 ghost use Rattle.futures.specs.Poll.{OnPending};
 ghost use Rattle.futures.specs.Task.{Covers, Keeps};
 ghost use Rattle.fi_parts.specs.declared.errors.Fault.{Fault};
 ghost use Rattle.fi_parts.specs.declared.phase.Leftover.{Leftover};
-ghost use Rattle.fi_sync.specs.Waiting.{polled, IsAnswer, IsLeft};
+ghost use Rattle.fi_sync.specs.Waiting.{polled, IsAnswer, IsLeftBy};
 
 use crate::claim::{Cancel, Claim};
 use crate::monitor::HasMonitor;
@@ -92,7 +92,7 @@ where
 
     ghost Value = { SharedFuture };
 
-    ghost view = { λ future. record { source = M.source future.monitor; has_ended = future.is_ended || is_none future.claim } };
+    ghost view = { λ future. record { source = M.source future.monitor; name = future.claim; has_ended = future.is_ended || is_none future.claim } };
 }
 
 impl<M: HasMonitor, K> SlotFuture<M, K>
@@ -101,7 +101,7 @@ where
 {
     /// The future whose slot this is.
     pub fn new(monitor: M, claim: Claim<K>) -> Self
-        ensures { result ≡ record { source = M.source monitor; has_ended = false } }
+        ensures { result ≡ record { source = M.source monitor; name = Some claim; has_ended = false } }
     {
         SlotFuture {
             monitor,
@@ -120,8 +120,8 @@ where
 
     /// Cancels the future, and answers what it leaves, if it was not cancelled before. It has ended then.
     pub(crate) fn withdraw(&mut self) -> Option<<M::State as Cancel<K>>::Left>
-        ensures ended { self.new ≡ record { source = self.old.source; has_ended = true } }
-        ensures left { IfSome result (λ left. IsLeft M.State.cancels left) }
+        ensures ended { self.new ≡ record { source = self.old.source; name = None; has_ended = true } }
+        ensures left { IfSome result (λ left. IsLeftBy M.State.cancels self.old.name left) }
         ensures lives { self.old.has_ended ≡ false → is_some result ≡ true }
     {
         let claim = self.claim.take()?;
@@ -142,7 +142,7 @@ where
         ensures kept { Keeps cx.old cx.new }
         ensures stands { self.new ≡ polled M.State.Output.is_last self.old result }
         ensures spent { self.old.has_ended ≡ true → result ≡ Poll.Pending }
-        ensures answered { IsAnswer M.State.polls (M.State.Output.refusal Fault.NoMemory) self.old.has_ended cx.new.lacks_waker result }
+        ensures answered { IsAnswer M.State.polls (M.State.Output.refusal Fault.NoMemory) self.old.name self.old.has_ended cx.new.lacks_waker result }
     {
         let monitor = self.monitor.monitor();
         let _: Poll<()> = cx.register(monitor.source(), &mut self.spare);

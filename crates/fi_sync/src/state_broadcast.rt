@@ -1,6 +1,7 @@
 //! The state broadcast that threads share.
-ghost use Rattle.std.specs.Prelude.{◌≡◌, false, IfOk, IfErr};
+ghost use Rattle.std.specs.Prelude.{◌≡◌, IfOk, IfErr};
 ghost use Rattle.fi_parts.specs.declared.errors.Fault.{Fault};
+ghost use Rattle.fi_sync.specs.Waiting.{IsNew};
 
 use crate::claim::Claim;
 use crate::monitor::Monitor;
@@ -74,7 +75,7 @@ impl<T: Clone, R: Wait> StateBroadcastChannel<T, R> {
     /// A future that receives the newest state once its number is greater than `seen`. Refused only with `NoMemory`; then nothing
     /// has changed. Keeps `StateBroadcastChannel::receive`.
     pub fn receive(&self, seen: StateId) -> Result<StateReceiveFuture<'_, T, R>, Fault>
-        ensures made { IfOk result (λ future. future ≡ record { source = self.now; has_ended = false }) }
+        ensures made { IfOk result (λ future. IsNew self.now future) }
         ensures fault { IfErr result (λ fault. fault ≡ Fault.NoMemory) }
     {
         let slot = self.monitor.call(seen, StateBroadcastState::claim_receive)?;

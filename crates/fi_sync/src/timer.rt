@@ -1,10 +1,10 @@
 //! The timer that threads share.
-ghost use Rattle.std.specs.Prelude.{◌≡◌, ℕ, false, Err, IfOk, IfErr, is_some};
+ghost use Rattle.std.specs.Prelude.{◌≡◌, ℕ, Err, IfOk, IfErr, is_some};
 ghost use Rattle.fi_parts.specs.Machine.{phase_at, displaced_at};
 ghost use Rattle.fi_parts.specs.declared.errors.Fault.{Fault};
 ghost use Rattle.fi_locks.specs.Timer.{can_be_polled, Cancels};
 ghost use Rattle.fi_sync.specs.Timed.{PollsTimed};
-ghost use Rattle.fi_sync.specs.Waiting.{PollsWhere, leftover_after, CancelsWhere};
+ghost use Rattle.fi_sync.specs.Waiting.{IsNew, PollsWhere, leftover_after, CancelsWhere};
 
 use crate::claim::{Cancel, Claim};
 use crate::monitor::Monitor;
@@ -63,7 +63,7 @@ impl<C: Clock + Drop, R: Wait> TimerService<C, R> {
     /// A future for this moment, in milliseconds: ready at its first poll if the clock has reached it, else once
     /// `check_expirations` has told it. Refused only with `NoMemory`; then nothing has changed. Keeps `Timer::deadline`.
     pub fn deadline(&self, expiry: u64) -> Result<TimerFuture<'_, C, R>, Fault>
-        ensures made { IfOk result (λ future. future ≡ record { source = self.now; has_ended = false }) }
+        ensures made { IfOk result (λ future. IsNew self.now future) }
         ensures fault { IfErr result (λ fault. fault ≡ Fault.NoMemory) }
     {
         let slot = self
@@ -75,7 +75,7 @@ impl<C: Clock + Drop, R: Wait> TimerService<C, R> {
     /// A future for the moment this long after the clock's time now, in whole milliseconds, rounded down, and at most `u64::MAX`.
     /// Refused only with `NoMemory`; then nothing has changed. Keeps `Timer::delay`.
     pub fn delay(&self, delay: Duration) -> Result<TimerFuture<'_, C, R>, Fault>
-        ensures made { IfOk result (λ future. future ≡ record { source = self.now; has_ended = false }) }
+        ensures made { IfOk result (λ future. IsNew self.now future) }
         ensures fault { IfErr result (λ fault. fault ≡ Fault.NoMemory) }
     {
         let slot = self.monitor.call(delay, Timed::claim_delay)?;
