@@ -1,7 +1,7 @@
 //! What stands behind the lock of a mutex: its state, beside the tally of its holds.
-ghost use Rattle.std.specs.Prelude.{◌≡◌, false, Some, Ok, IfOk, IfSome, IfNone, IfErr, OnErr, not};
+ghost use Rattle.std.specs.Prelude.{◌≡◌, false, Ok, IfOk, IfSome, IfErr, OnErr, not};
 ghost use Rattle.fi_parts.specs.declared.errors.Fault.{Fault};
-ghost use Rattle.fi_locks.specs.Mutex.{opened, is_free, can_be_polled, Makes, Polls, Cancels, Unlocks};
+ghost use Rattle.fi_locks.specs.Mutex.{opened, is_free, can_be_polled, Makes, Polls, Cancels, TriesLock, Unlocks};
 ghost use Rattle.fi_sync.specs.Waiting.{PollsAt, leftover_at, CancelsAt};
 
 use crate::claim::Cancel;
@@ -101,9 +101,8 @@ impl<T: Drop, L: Ledger> CountedMutex<T, L> {
 
     /// Locks the mutex at once: its value, with the hold of it. None where it is locked, or is fair and a future is queued for it.
     pub fn try_lock(&mut self) -> Option<Locked<T, L>>
-        ensures given { IfSome result (λ value. self.old.own.value ≡ Some value) }
+        ensures tried { TriesLock self.old result self.new }
         ensures locked { IfSome result (λ _. is_free self.new ≡ false) }
-        ensures unchanged { IfNone result (self.new.own ≡ self.old.own) }
     {
         let value = self.state.try_take()?;
         let hold = self.tally.hand_out(1);
