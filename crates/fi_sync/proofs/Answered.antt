@@ -14,11 +14,13 @@ answered_by polls no_memory own has_ended lacks_waker answer old name waker new 
     subst (λ ended. IsAnswer polls no_memory own ended lacks_waker answer) (sym lives) (inr (old, name, waker, new, is_own, polled))
 
 -- A stream that has not ended answers as the future in it.
-pub streamed_by : (T W : Type 0) (own name : Option ℕ) (has_ended inner_ended lacks_waker : Bool) (answer : Poll (Option (Result T Fault)))
+pub streamed_by : (T W : Type 0) (own name : Option ℕ) (has_ended inner_ended lacks_waker : Bool)
+    (answer : Poll (Option (Result T Fault)))
     → has_ended ≡ false → inner_ended ≡ false → name ≡ own
     → IsAnswer (PollsStream {T = T} {W = W}) (Some (Err Fault.NoMemory)) name inner_ended lacks_waker answer
     → IsStreamAnswer T W own has_ended lacks_waker answer
 streamed_by T W own name has_ended inner_ended lacks_waker answer lives inner_lives is_own answered =
     subst (λ ended. IsStreamAnswer T W own ended lacks_waker answer) (sym lives)
     (subst (λ name. IsAnswer (PollsStream {T = T} {W = W}) (Some (Err Fault.NoMemory)) name false lacks_waker answer) is_own
-    (subst (λ ended. IsAnswer (PollsStream {T = T} {W = W}) (Some (Err Fault.NoMemory)) name ended lacks_waker answer) inner_lives answered))
+    (subst (λ ended. IsAnswer (PollsStream {T = T} {W = W}) (Some (Err Fault.NoMemory)) name ended lacks_waker answer)
+    inner_lives answered))

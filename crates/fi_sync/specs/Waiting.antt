@@ -15,7 +15,7 @@ pub record SharedFuture : Type 0 where
   pub name : Option ℕ
   pub has_ended : Bool
 
--- It was just made: it has a name, and was not polled yet.
+-- It registers at this source, has a name and has not ended.
 abbrev pub IsNew : ℕ → SharedFuture → Type 0
 IsNew source future = (name : ℕ) × (future ≡ record { source = source; name = Some name; has_ended = false })
 

@@ -88,7 +88,8 @@ where
     pub fn cancel(&mut self) -> Option<C::Item>
         ensures ended { self.new ≡ record { source = self.old.source; name = None; has_ended = true } }
         // A send that had not ended is cancelled: its value is what the channel gave back.
-        ensures given_back { self.old.has_ended ≡ false → GivesBackBy (CancelsSend C.is_sending C.withdraws C.waker_of) self.old.name result }
+        ensures given_back { self.old.has_ended ≡ false →
+            GivesBackBy (CancelsSend C.is_sending C.withdraws C.waker_of) self.old.name result }
     {
         let (value, _waker) = self.withdraw()?;
         value

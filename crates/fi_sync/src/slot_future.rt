@@ -92,7 +92,11 @@ where
 
     ghost Value = { SharedFuture };
 
-    ghost view = { λ future. record { source = M.source future.monitor; name = future.claim; has_ended = future.is_ended || is_none future.claim } };
+    ghost view = { λ future. record {
+      source = M.source future.monitor;
+      name = future.claim;
+      has_ended = future.is_ended || is_none future.claim;
+    } };
 }
 
 impl<M: HasMonitor, K> SlotFuture<M, K>
@@ -142,7 +146,8 @@ where
         ensures kept { Keeps cx.old cx.new }
         ensures stands { self.new ≡ polled M.State.Output.is_last self.old result }
         ensures spent { self.old.has_ended ≡ true → result ≡ Poll.Pending }
-        ensures answered { IsAnswer M.State.polls (M.State.Output.refusal Fault.NoMemory) self.old.name self.old.has_ended cx.new.lacks_waker result }
+        ensures answered { IsAnswer M.State.polls (M.State.Output.refusal Fault.NoMemory) self.old.name self.old.has_ended
+            cx.new.lacks_waker result }
     {
         let monitor = self.monitor.monitor();
         let _: Poll<()> = cx.register(monitor.source(), &mut self.spare);
