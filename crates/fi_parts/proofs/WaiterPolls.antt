@@ -7,9 +7,7 @@ use Rattle.futures.specs.declared.task.Poll.TheVariants.{Pending}
 use Rattle.fi_parts.specs.declared.phase.Future.{Future}
 use Rattle.fi_parts.specs.declared.phase.Phase.{Phase}
 use Rattle.fi_parts.specs.declared.phase.Phase.TheVariants.{Fresh, Registered, Told, Complete, Ended}
-use Rattle.fi_parts.specs.declared.phase.PollStep.{PollStep}
-use Rattle.fi_parts.specs.declared.phase.PollStep.TheVariants.{Stays, Joins, Ends}
-use Rattle.fi_parts.specs.Pairs.{without_pair}
+use Rattle.fi_parts.specs.declared.phase.PollStep.TheVariants.{Stays, Joins}
 use Rattle.fi_parts.specs.Places.{registered_rule}
 use Rattle.fi_parts.specs.Waiting.{Waiters, Waiting, with_phase, phase_of, is_registered, registered, stays, IsLive, IsOrdered}
 use Rattle.fi_parts.specs.WaiterPolls.{phase_after_poll, poll_step, waiters_after_poll, PollsWaiter}

@@ -5,7 +5,7 @@ use Rattle.fi_parts.specs.declared.phase.Phase.TheVariants.{Fresh, Told}
 use Rattle.fi_parts.specs.Effects.{notified}
 use Rattle.fi_parts.specs.Order.{holds, Apart}
 use Rattle.fi_parts.specs.Pairs.{has}
-use Rattle.fi_parts.specs.Waiting.{Waiters, Waiting, phase_of, asks_of, is_registered, with_phase, named, pair}
+use Rattle.fi_parts.specs.Waiting.{Waiters, Waiting, phase_of, asks_of, is_registered, with_phase, pair}
 
 -- the expiries of these names never fall
 abbrev pub NeverFall : (ℕ → ℕ) → List ℕ → Type 0

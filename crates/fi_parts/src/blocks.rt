@@ -11,8 +11,6 @@ mod counted;
 mod linked;
 mod owner;
 mod raw_box;
-#[cfg(test)]
-mod tests;
 mod vacancies;
 
 use crate::errors::NoRoom;

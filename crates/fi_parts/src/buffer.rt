@@ -11,8 +11,6 @@ mod block;
 mod fixed;
 mod growing;
 mod ring;
-#[cfg(test)]
-mod tests;
 
 pub use array::ArrayBuf;
 pub use fixed::FixedHeapBuf;

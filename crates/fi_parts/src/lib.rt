@@ -12,15 +12,11 @@ mod errors;
 mod heap;
 mod heap_links;
 mod heap_nodes;
-#[cfg(test)]
-mod heap_tests;
 mod heap_trees;
 mod line;
 mod list;
 mod outbox;
 mod phase;
-#[cfg(test)]
-mod tests;
 mod visits;
 mod waits;
 

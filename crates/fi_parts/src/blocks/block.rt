@@ -5,6 +5,7 @@ ghost use Rattle.fi_parts.specs.Links.{loose};
 
 use std::alloc::AllocError;
 use std::marker::{Model, Send, Sync};
+use std::mem::size_of;
 use std::ptr::{NonNull, null_mut};
 
 /// A node: its data, its neighbours, whether it is in the list, and its slot.
@@ -14,6 +15,11 @@ pub struct Block<T> {
     pub links: Links<T>,
     pub slot: usize,
 }
+
+// What a node costs: a block of 32 bytes beside its data, and a pointer in the slab.
+const _: () = prove!(size_of::<Block<[u64; 3]>>() <= 56);
+
+const _: () = prove!(size_of::<BlockPtr<u64>>() <= 8);
 
 /// A block's neighbours, and whether it is in the list.
 #[derive(Drop)]

@@ -17,24 +17,6 @@ impl<T, A: Allocator> Model for RawBox<T, A> {
     ghost also_owns = { λ l. box_owns (A.dealloc_token l.alloc) T.row l.at l.value };
 }
 
-impl<T: Drop, A: Allocator> RawBox<T, A> {
-    /// Takes a box apart.
-    pub fn of(value: Box<T, A>) -> RawBox<T, A>
-        ensures { result.value ≡ value.value }
-    {
-        let (at, alloc) = Box::into_raw_with_allocator(value);
-        RawBox { at, alloc }
-    }
-
-    /// Makes the box again.
-    pub fn into_box(self) -> Box<T, A>
-        ensures { result.value ≡ self.value }
-    {
-        let RawBox { at, alloc } = self;
-        unsafe { Box::from_raw(alloc, at) }
-    }
-}
-
 impl<T, A: Allocator> RawBox<T, A> {
     /// Takes the value out, and keeps the memory.
     pub fn vacate(self) -> (T, Vacant<T, A>)

@@ -1,13 +1,12 @@
-use Rattle.std.proofs.Common.{◌≡◌, true, Some, IsSome, sym, ap, ◌∙◌}
+use Rattle.std.proofs.Common.{◌≡◌, true, Some, sym, ap, ◌∙◌}
 use Rattle.fi_parts.specs.Blocks.{slot_by}
 use Rattle.fi_parts.specs.CountedBlocks.{slot_in}
 use Rattle.fi_parts.specs.Links.{names}
 use Rattle.fi_parts.specs.LinkedBlocks.{data_of, chain_of}
 use Rattle.fi_parts.proofs.Moved.{live_from_data}
 use Rattle.fi_parts.proofs.BlocksListed.{is_listed}
-use Rattle.fi_parts.proofs.BlockSlots.{key_of_live, holds_slot, chain_live, data_path, slot_or-of, each_in}
+use Rattle.fi_parts.proofs.BlockSlots.{key_of_live, holds_slot, chain_live, slot_or-of, each_in}
 use Rattle.fi_parts.proofs.BlockNeighbours.{before_live, slot_before}
-use Rattle.fi_parts.proofs.blocks.Blocks.younger.Given.{Over}
 use Rattle.fi_parts.proofs.blocks.Blocks.younger.Goals as goal
 use Rattle.fi_parts.proofs.blocks.Blocks.younger.Goals.{in-Some, in-None}
 

@@ -3,7 +3,6 @@ use Rattle.fi_parts.specs.LineModel.{line_of}
 use Rattle.fi_parts.specs.Waiting.{phase_of, is_registered}
 use Rattle.fi_parts.proofs.Lines.{entry_lives, its_phase, seen-phase, seen-registered, live-after, apart-after}
 use Rattle.fi_parts.proofs.WaiterPolls.{joined, kept_place}
-use Rattle.fi_parts.proofs.line.Line.poll.Given.{Over}
 use Rattle.fi_parts.proofs.line.Line.poll.Goals as goal
 
 pub poll_phase-step-requires : goal.poll_phase-step-requires

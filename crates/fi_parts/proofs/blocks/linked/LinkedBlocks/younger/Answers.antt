@@ -1,6 +1,6 @@
-use Rattle.std.proofs.Common.{◌≡◌, ◌∙◌, true, sym, IsSome}
+use Rattle.std.proofs.Common.{◌∙◌, IsSome}
 use Rattle.fi_parts.specs.LinkedBlocks.{block_at}
-use Rattle.fi_parts.proofs.Moved.{Kept, Kept-read, younger-is, chained-kept, order-kept, data-relinked, is_live}
+use Rattle.fi_parts.proofs.Moved.{Kept-read, younger-is, chained-kept, order-kept, data-relinked, is_live}
 use Rattle.fi_parts.proofs.blocks.linked.LinkedBlocks.younger.Given.{Over}
 use Rattle.fi_parts.proofs.blocks.linked.LinkedBlocks.younger.Goals as goal
 

@@ -1,5 +1,5 @@
 -- `into_room` unwraps the memory. Assumes `Logic`.
-use Rattle.std.proofs.Common.{◌≡◌, List, [], ◌∷◌, ◌++◌, refl, sym, ◌∙◌, ap, subst}
+use Rattle.std.proofs.Common.{◌≡◌, List, [], ◌∷◌, ◌++◌, refl, sym, ap, subst}
 use mir.Syntax.{a_type, dcons, dnil}
 use mir.Val.{Val}
 use mir.MapTy.{inst_fn}
@@ -7,9 +7,9 @@ use base.Logic.{SProp, ent, emp, id⊢}
 use base.Fml.{ftrue, flft}
 use prog.Wp.{WpFn}
 use types.Kit.{‵, raw, ◌⊛◌, ◌$◌, ◌∵◌, !, qed, by, keep, move, split, fsplit, fjoin, suffices, use0}
-use types.Run.{stop, fld, of_opd, no_more, and_then, returns, enter}
+use types.Run.{stop, fld, of_opd, returns, enter}
 use types.ByLocal.{alloc_all, pass_all, free_all, look_at, get, get_in, sets}
-use types.Part.{sub, whole, agg}
+use types.Part.{sub, whole}
 use contract.Monad.{fact, fact_i}
 use contract.Running.{tables}
 use denote.Exit.{no}
@@ -18,7 +18,6 @@ use denote.Signature.{types_at, plain}
 use denote.RawPtr.{block_ptr}
 use denote.Steps.{nothing}
 use denote.Param.{param, bounded}
-use denote.Param.Laws.{param_laws}
 use denote.Triple.Walked.{Stays, stay_dropped, walk_of}
 use Rattle.core.proofs.alloc.Calls.{Goes-blank}
 use Rattle.std_alloc.proofs.OfVacant.{Vacant, vacant_val, vacant_typed, Vacant-had, Vacant-made}

@@ -1,5 +1,5 @@
 -- `of` wraps the memory. Assumes `Logic`.
-use Rattle.std.proofs.Common.{◌≡◌, List, [], ◌∷◌, ◌++◌, refl, sym, ◌∙◌, ap, subst}
+use Rattle.std.proofs.Common.{◌≡◌, List, [], ◌∷◌, ◌++◌, refl, sym, subst}
 use mir.Syntax.{a_type, dcons, dnil}
 use mir.Val.{Val}
 use mir.MapTy.{inst_fn}
@@ -7,9 +7,9 @@ use base.Logic.{SProp, ent, emp, id⊢}
 use base.Fml.{ftrue, flft}
 use prog.Wp.{WpFn}
 use types.Kit.{‵, raw, ◌⊛◌, ◌$◌, ◌∵◌, !, qed, by, keep, move, split, fsplit, fjoin, suffices, use0}
-use types.Run.{stop, fld, of_opd, no_more, and_then, returns, enter}
-use types.ByLocal.{alloc_all, pass_all, free_all, look_at, get, get_in, sets}
-use types.Part.{sub, whole, agg}
+use types.Run.{of_opd, no_more, and_then, returns, enter}
+use types.ByLocal.{alloc_all, pass_all, free_all, look_at, get, sets}
+use types.Part.{agg}
 use contract.Monad.{fact, fact_i}
 use contract.Running.{tables}
 use denote.Exit.{no}
@@ -18,13 +18,12 @@ use denote.Signature.{types_at, plain}
 use denote.RawPtr.{block_ptr}
 use denote.Steps.{nothing}
 use denote.Param.{param, bounded}
-use denote.Param.Laws.{param_laws}
 use denote.Triple.Walked.{Stays, stay_dropped, walk_of}
 use Rattle.core.proofs.alloc.Calls.{Goes-blank}
 use Rattle.std_alloc.proofs.OfVacant.{Vacant, vacant_val, vacant_typed, Vacant-had, Vacant-made}
 use Rattle.std_alloc.proofs.BoxSteps.Form as box
 use Rattle.std.proofs.raw_atomic.Walks.{proved_at, leaves}
-use Rattle.fi_parts.proofs.Vacancies.{Vacancy, kept_val, kept_typed, kept_in}
+use Rattle.fi_parts.proofs.Vacancies.{kept_val, kept_typed, kept_in}
 use Rattle.fi_parts.specs.contracts.blocks.vacancies.Vacancy.of.{ended, clauses}
 use Rattle.fi_parts.specs.contracts.blocks.vacancies.Vacancy.of.Key.{name as #self}
 use Rattle.fi_parts.proofs.blocks.vacancies.Vacancy.of.Statement.{statement}
