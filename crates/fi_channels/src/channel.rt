@@ -7,12 +7,14 @@ ghost use Rattle.fi_channels.specs.Channel.{opened, send_phase, receive_phase, k
 ghost use Rattle.fi_channels.specs.Channel.{displaced_by_send, MakesSend, MakesReceive, PollsSend};
 ghost use Rattle.fi_channels.specs.Channel.{PollsReceive, PollsNext, CancelsSend, CancelsReceive, TriesSend, TriesReceive};
 ghost use Rattle.fi_channels.specs.Channel.{Closes, Wakes, IsSound, OwesNoWake};
+ghost use Rattle.fi_channels.specs.Cleared.{ClosesAndClears, NoSendWaits};
 ghost use Rattle.fi_channels.specs.declared.channel_fields.ReceiveKind.TheVariants.{Single, Stream};
 
 use crate::access::{ChannelReceiveAccess, ChannelSendAccess, Received, Sent};
 use crate::channel_errors::{TryReceiveError, TrySendError};
 use crate::channel_fields::{ChannelFields, ReceiveKind};
 use crate::channel_stream::LocalChannelStream;
+use crate::clearable::Clearable;
 use crate::receive_future::LocalReceiveFuture;
 use crate::send_future::LocalSendFuture;
 use fi_parts::buffer::{ArrayBuf, RingBuf};
@@ -314,5 +316,19 @@ impl<T: Drop, B: RingBuf<Item = T>, W: Drop> ChannelReceiveAccess for ChannelSta
         ensures displaced { result ≡ displaced_receive self.old slot.0 }
     {
         self.fields.remove_receive_waiter(slot)
+    }
+}
+
+impl<T: Drop, B: RingBuf<Item = T>, W: Drop> ChannelState<T, Clearable<B>, W> {
+    /// Closes the channel as `close` does, and takes out what is buffered, in one call: nothing can be received any more.
+    ///
+    /// The values come back in their buffer, so that the caller chooses when they are dropped. None if the channel was cleared
+    /// before. It takes no memory; its cost is that of `close`. Futures-intrusive closes and clears in two steps, when its last
+    /// receiver is dropped.
+    pub fn close_and_clear(&mut self) -> Option<B>
+        ensures cleared { ClosesAndClears B.bounded self.old result self.new }
+        ensures no_send_waits { NoSendWaits self.new }
+    {
+        self.fields.close_and_clear()
     }
 }

@@ -2,6 +2,8 @@
 ghost use Rattle.std.specs.Prelude.{◌≡◌, Bool};
 
 use fi_parts::Fault;
+use std::error::Error;
+use std::fmt;
 
 /// Why a send ended without its value, or got no further.
 #[derive(Debug, PartialEq, Drop)]
@@ -11,6 +13,17 @@ pub enum SendFault<T> {
     /// The poll was refused and the send still owns its value: `NoMemory` if the buffer could not grow.
     Fault(Fault),
 }
+
+impl<T> fmt::Display for SendFault<T> {
+    fn fmt<W: fmt::Write>(&self, f: &mut fmt::Formatter<W>) -> fmt::Result {
+        match self {
+            SendFault::Closed(_) => f.pad("the channel is closed"),
+            SendFault::Fault(fault) => fmt::Display::fmt(fault, f),
+        }
+    }
+}
+
+impl<T: fmt::Debug + Drop> Error for SendFault<T> {}
 
 /// Why a value was not sent at once; it is handed back.
 ///
@@ -24,6 +37,18 @@ pub enum TrySendError<T> {
     /// The buffer could not grow.
     NoMemory(T),
 }
+
+impl<T> fmt::Display for TrySendError<T> {
+    fn fmt<W: fmt::Write>(&self, f: &mut fmt::Formatter<W>) -> fmt::Result {
+        f.pad(match self {
+            TrySendError::Full(_) => "the channel is full",
+            TrySendError::Closed(_) => "the channel is closed",
+            TrySendError::NoMemory(_) => "out of memory",
+        })
+    }
+}
+
+impl<T: fmt::Debug + Drop> Error for TrySendError<T> {}
 
 impl<T: Drop> TrySendError<T> {
     ghost use Rattle.fi_channels.specs.ChannelErrors.{value_in, is_full, is_closed_to, is_memory};
@@ -83,6 +108,17 @@ pub enum TryReceiveError {
     /// The channel has no value, and is closed.
     Closed,
 }
+
+impl fmt::Display for TryReceiveError {
+    fn fmt<W: fmt::Write>(&self, f: &mut fmt::Formatter<W>) -> fmt::Result {
+        f.pad(match self {
+            TryReceiveError::Empty => "the channel is empty",
+            TryReceiveError::Closed => "the channel is closed and empty",
+        })
+    }
+}
+
+impl Error for TryReceiveError {}
 
 impl TryReceiveError {
     ghost use Rattle.fi_channels.specs.ChannelErrors.{is_empty};

@@ -9,9 +9,12 @@ ghost use Rattle.fi_channels.specs.Channel.{PollsSend, displaced_by_send, Cancel
 ghost use Rattle.fi_channels.specs.Channel.{CancelsReceive, TriesSend, TriesReceive, Closes, Wakes};
 ghost use Rattle.fi_channels.specs.Channel.{IsSound, displaced_send, displaced_receive, value_of};
 ghost use Rattle.fi_channels.specs.ChannelFields.{machine_of, phase_given, Takes};
+ghost use Rattle.fi_channels.specs.Clearable.{bounded_of};
+ghost use Rattle.fi_channels.specs.Cleared.{ClosesAndClears};
 
 use crate::access::Sent;
 use crate::channel_errors::{SendFault, TryReceiveError, TrySendError};
+use crate::clearable::Clearable;
 use crate::two_sides::TwoSides;
 use fi_parts::buffer::RingBuf;
 use fi_parts::{CloseStatus, Fault, Leftover, NoRoom, Notice, Phase, Slot};
@@ -352,5 +355,17 @@ impl<T: Drop, B: RingBuf<Item = T>, W: Drop> ChannelFields<T, B, W> {
         ensures { result ≡ length self.now.waiters.out }
     {
         self.waiters.wake_count()
+    }
+}
+
+impl<T: Drop, B: RingBuf<Item = T>, W: Drop> ChannelFields<T, Clearable<B>, W> {
+    /// Closes the channel, if it is open, and takes its buffer out with the values in it.
+    pub fn close_and_clear(&mut self) -> Option<B>
+        requires { IsSound (machine_of (bounded_of B.bounded) self.old) }
+        ensures { ClosesAndClears B.bounded (machine_of (bounded_of B.bounded) self.old) result
+            (machine_of (bounded_of B.bounded) self.new) }
+    {
+        self.close();
+        self.buffer.clear()
     }
 }

@@ -9,12 +9,8 @@ mod mutex_future;
 mod mutex_guard;
 mod semaphore;
 mod semaphore_future;
-#[cfg(test)]
-mod tests;
 mod timer;
 mod timer_future;
-#[cfg(test)]
-mod uses;
 
 pub use mutex::{LocalMutex, MutexState};
 pub use mutex_future::LocalMutexLockFuture;
