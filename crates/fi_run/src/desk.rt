@@ -11,6 +11,8 @@ use crate::journal::{Entry, Journal, Receipt, Settled};
 use crate::runs::Primitive;
 use fi_parts::Fault;
 use std::alloc::Global;
+use std::error::Error;
+use std::fmt;
 use std::marker::Model;
 use std::sync::ledger::{Blank, Book, Ledger, Share};
 use std::sync::{Mutex, Wait};
@@ -23,6 +25,17 @@ pub enum Mismatch {
     /// The receipts of all later entries were found; that of the entry with this number is not the next one at its seat.
     Entry(usize),
 }
+
+impl fmt::Display for Mismatch {
+    fn fmt<W: fmt::Write>(&self, f: &mut fmt::Formatter<W>) -> fmt::Result {
+        match self {
+            Mismatch::Seats => f.pad("seats of the desk are missing"),
+            Mismatch::Entry(number) => write!(f, "entry {number} has no receipt at its seat"),
+        }
+    }
+}
+
+impl Error for Mismatch {}
 
 /// A seat at a desk: its number, and the receipts of its calls in the order of the calls.
 #[derive(Drop)]

@@ -157,56 +157,6 @@ mod tests {
 
     const A: Slot = Slot(0);
 
-    const B: Slot = Slot(1);
-
-    #[test]
-    fn mutex_unfair(rt: HostRuntime) -> Result<(), Fail> {
-        let rows = [
-            (MutexCall::TryLock, Answer::Item(7)),
-            (MutexCall::Lock, Answer::Made(A)),
-            (MutexCall::Lock, Answer::Made(B)),
-            (MutexCall::Poll(A, 1), Answer::Pending),
-            (MutexCall::Poll(B, 2), Answer::Pending),
-            (MutexCall::Unlock(8), Answer::Done),
-            (MutexCall::NextWake, Answer::Woken(Some(1))),
-            (MutexCall::NextWake, Answer::Woken(None)),
-            (MutexCall::TryLock, Answer::Item(8)),
-            (MutexCall::Poll(A, 3), Answer::Pending),
-            (MutexCall::Unlock(9), Answer::Done),
-            (MutexCall::NextWake, Answer::Woken(Some(2))),
-            (MutexCall::NextWake, Answer::Woken(None)),
-            (MutexCall::Cancel(B), Answer::Done),
-            (MutexCall::NextWake, Answer::Woken(Some(3))),
-            (MutexCall::NextWake, Answer::Woken(None)),
-            (MutexCall::Poll(A, 3), Answer::Item(9)),
-        ];
-        assert!(rt; answers::<MutexState<u64, u64>>(rt.alloc(), (7, false), rows.as_slice())?);
-        Ok(())
-    }
-
-    #[test]
-    fn mutex_fair(rt: HostRuntime) -> Result<(), Fail> {
-        let rows = [
-            (MutexCall::TryLock, Answer::Item(7)),
-            (MutexCall::Lock, Answer::Made(A)),
-            (MutexCall::Lock, Answer::Made(B)),
-            (MutexCall::Poll(A, 1), Answer::Pending),
-            (MutexCall::Poll(B, 2), Answer::Pending),
-            (MutexCall::Unlock(8), Answer::Done),
-            (MutexCall::NextWake, Answer::Woken(Some(1))),
-            (MutexCall::NextWake, Answer::Woken(None)),
-            (MutexCall::TryLock, Answer::Nothing),
-            (MutexCall::Poll(B, 2), Answer::Pending),
-            (MutexCall::Poll(A, 1), Answer::Item(8)),
-            (MutexCall::IsLocked, Answer::Flag(true)),
-            (MutexCall::Unlock(9), Answer::Done),
-            (MutexCall::NextWake, Answer::Woken(Some(2))),
-            (MutexCall::NextWake, Answer::Woken(None)),
-        ];
-        assert!(rt; answers::<MutexState<u64, u64>>(rt.alloc(), (7, true), rows.as_slice())?);
-        Ok(())
-    }
-
     #[test]
     fn what_is_refused(rt: HostRuntime) -> Result<(), Fail> {
         let rows = [

@@ -308,6 +308,7 @@ impl<P: Scripted> Session<P> {
     }
 
     /// What a line asks for, and whether it holds the wakers back. A line without a call asks for the wakers alone.
+    #[inline(always)]
     fn read(&self, line: &[u8]) -> Option<(bool, Option<Request<P::Call>>)>
         ensures { MatchOption result (IsBad P.Scripted.language.call_of (labels_of self.now.futures)
             line.now)
@@ -324,6 +325,7 @@ impl<P: Scripted> Session<P> {
     }
 
     /// The call that a line stands for, with the labels that are in use.
+    #[inline(always)]
     fn read_call(&self, line: &[u8]) -> Option<Request<P::Call>>
         ensures { MatchOption result (IsNoCall P.Scripted.language.call_of
             (labels_of self.now.futures) line.now)
@@ -340,6 +342,7 @@ impl<P: Scripted> Session<P> {
     }
 
     /// What a line of these words asks for.
+    #[inline(always)]
     fn row(&self, words: Words) -> Option<Row>
         ensures { (label : Option (List ℕ)) → IsLabelOf label words.label
             → result ≡ row_of (labels_of self.now.futures) words.verb label words.numbers }
@@ -351,6 +354,7 @@ impl<P: Scripted> Session<P> {
     }
 
     /// Makes the call that a line asks for, if it asks for one, and keeps the labels in use.
+    #[inline(always)]
     fn perform(
         &mut self,
         request: Option<Request<P::Call>>,
@@ -369,6 +373,7 @@ impl<P: Scripted> Session<P> {
     }
 
     /// Keeps the labels in use after a call: a label is in use from the making of its future until its cancel.
+    #[inline(always)]
     fn keep_labels(
         &mut self,
         row: Row,

@@ -14,6 +14,7 @@ pub struct Label {
 
 impl Label {
     /// The label that a word spells, if it spells one.
+    #[inline(always)]
     pub fn parse(word: &[u8]) -> Option<Label>
         ensures label { MatchOption result (¬ IsLabel word.now)
             (λ label. IsLabel word.now × (label.code ≡ code_of word.now)) }

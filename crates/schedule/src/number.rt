@@ -3,6 +3,7 @@ ghost use Rattle.std.specs.Prelude.{◌≡◌, ◌≢◌, ℕ, ◌≤◌, MatchO
 ghost use Rattle.std.specs.Fmt.{decimal};
 
 /// The number whose plain decimal numeral the word is, if it is one's of 64 bits.
+#[inline(always)]
 pub fn parse_number(word: &[u8]) -> Option<u64>
     ensures { MatchOption result ((n : ℕ) → n ≤ u64.MAX → word.now ≢ decimal n)
         (λ n. word.now ≡ decimal n) }

@@ -16,6 +16,7 @@ pub enum Numbers {
 
 impl Numbers {
     /// The numbers, one or two with a space between them, that a text spells, if it spells such.
+    #[inline(always)]
     pub fn parse(text: &[u8]) -> Option<Numbers>
         ensures { MatchOption result (IsNoNumerals text.now)
             (λ numbers. Fit numbers × (Some text.now ≡ numerals numbers)) }

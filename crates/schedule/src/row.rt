@@ -28,6 +28,7 @@ pub enum Row {
 
 impl Row {
     /// The row of a line with a label, which stands for this future if it is in use.
+    #[inline(always)]
     pub fn labelled(verb: Verb, numbers: Numbers, future: Option<MadeFuture>) -> Option<Row>
         ensures { result ≡ labelled_row verb numbers future }
     {

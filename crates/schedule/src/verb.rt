@@ -36,6 +36,7 @@ pub enum Verb {
 
 impl Verb {
     /// The verb that a word spells, if it spells one.
+    #[inline(always)]
     pub fn by(word: &[u8]) -> Option<Verb>
         ensures { MatchOption result (IsNoVerb word.now) (λ verb. word.now ≡ verb_text verb) }
     {

@@ -10,6 +10,7 @@ use crate::verb::Verb;
 use memchr::memchr;
 
 /// What stands before the first separator, and what stands after it, if there is one.
+#[inline(always)]
 pub fn split_at_first(bytes: &[u8], separator: u8) -> (&[u8], Option<&[u8]>)
     ensures { IsCut separator bytes.now result.0.now (option_copied result.1) }
 {
@@ -50,6 +51,7 @@ impl<'a> Lines<'a> {
     }
 
     /// The next line. A line feed at the very end ends the last line.
+    #[inline(always)]
     pub fn line(&mut self) -> Option<&'a [u8]>
         ensures { NextLine (option_copied self.old.rest) (option_copied result)
             (option_copied self.new.rest) }
@@ -74,6 +76,7 @@ pub struct Words {
 
 impl Words {
     /// Reads a verb, then a label if there is one, then at most two numbers. Words are parted by single spaces.
+    #[inline(always)]
     pub fn read(line: &[u8]) -> Option<Words>
         ensures { MatchOption result (IsNotSpelled line.now) (IsSpelled line.now) }
     {

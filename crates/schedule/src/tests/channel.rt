@@ -98,8 +98,12 @@ fn channel_close(rt: HostRuntime) -> Result<(), Fail> {
 poll a 1 -> ok
 send b 2
 poll b 2 -> pending
-close -> newly-closed wakes 2
+send c 3
+poll c 3 -> pending
+close -> newly-closed wakes 2 3
 poll b 2 -> closed 2
+cancel b -> none
+cancel c -> some 3
 receive r
 poll r 3 -> some 1
 receive q
@@ -157,6 +161,16 @@ poll s 3 -> pending wakes 2
 poll b 2 -> some 4 wakes 3
 poll a 1 -> some 5
 poll s 3 -> ok";
+    check_over_each(&rt, rt.alloc(), "1", lines)
+}
+
+#[test]
+fn a_told_receive_cancels(rt: HostRuntime) -> Result<(), Fail> {
+    let lines = "receive a
+poll a 1 -> pending
+hold try-send 4 -> ok
+cancel a -> ok
+try-receive -> some 4";
     check_over_each(&rt, rt.alloc(), "1", lines)
 }
 
