@@ -36,7 +36,7 @@ streamed stream answer = record stream { has_ended = stream.has_ended || is_end 
 
 -- A stream that has ended answers its end. Another answers as its channel did in some hold of the lock, where it was polled under the
 -- stream's own name, or that it has no memory where no waker could be made.
-abbrev pub IsStreamAnswer : (T W : Type 0) → Option ℕ → Bool → Bool → Poll (Option (Result T Fault)) → Type 0
-IsStreamAnswer T W own true lacks_waker answer = answer ≡ Ready None
-IsStreamAnswer T W own false lacks_waker answer =
-    IsAnswer (PollsStream {T = T} {W = W}) (Some (Err Fault.NoMemory)) own false lacks_waker answer
+abbrev pub IsStreamAnswer : {S T W : Type 0} → (S → ℕ → W → Poll (Option (Result T Fault)) → S → Type 0)
+    → Option ℕ → Bool → Bool → Poll (Option (Result T Fault)) → Type 0
+IsStreamAnswer polls own true lacks_waker answer = answer ≡ Ready None
+IsStreamAnswer polls own false lacks_waker answer = IsAnswer polls (Some (Err Fault.NoMemory)) own false lacks_waker answer

@@ -125,6 +125,8 @@ impl<T: Drop, B: RingBuf<Item = T>> HasOutbox for ChannelState<T, B, Waker> {
 
     ghost wakers = { λ channel. wakers_in channel.waiting.out };
 
+    ghost wakes = { Wakes };
+
     fn next_wake(&mut self) -> Option<Waker>
         ensures { Wakes self.old result self.new }
     {

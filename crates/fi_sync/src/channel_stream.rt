@@ -62,7 +62,8 @@ impl<'a, T: Drop, B: RingBuf<Item = T>, R: Wait> ChannelStream<'a, T, B, R> {
         ensures registered { OnPending result (Covers cx.new (λ source. source ≡ self.new.source)) }
         ensures kept { Keeps cx.old cx.new }
         ensures stands { self.new ≡ streamed self.old result }
-        ensures answered { IsStreamAnswer T Waker self.old.name self.old.has_ended cx.new.lacks_waker result }
+        ensures answered { IsStreamAnswer (PollsStream {T = T} {W = Waker}) self.old.name self.old.has_ended
+            cx.new.lacks_waker result }
     {
         if self.is_ended {
             return Poll::Ready(None);

@@ -166,6 +166,8 @@ impl<T: Drop, L: Ledger> HasOutbox for CountedMutex<T, L> {
 
     ghost wakers = { λ counted. wakers_of counted.waiting.out };
 
+    ghost wakes = { Wakes };
+
     fn next_wake(&mut self) -> Option<Waker>
         ensures { Wakes self.old result self.new }
     {

@@ -163,6 +163,8 @@ impl<L: Ledger> HasOutbox for CountedSemaphore<L> {
 
     ghost wakers = { λ counted. wakers_of counted.waiting.out };
 
+    ghost wakes = { Wakes };
+
     fn next_wake(&mut self) -> Option<Waker>
         ensures { Wakes self.old result self.new }
     {

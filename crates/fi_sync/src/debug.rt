@@ -6,24 +6,22 @@ use crate::claim::Claim;
 use crate::counted_mutex::{CountedMutex, Locked};
 use crate::counted_semaphore::CountedSemaphore;
 use crate::event::ManualResetEvent;
-use crate::event_future::WaitForEventFuture;
-use crate::monitor::Monitor;
+use crate::event_future::EventWait;
+use crate::monitor::{HasMonitor, Monitor};
 use crate::mutex::{Mutex, MutexGuard, MutexLockFuture};
 use crate::one_value::{OneshotBroadcastChannel, OneshotChannel};
-use crate::receive_future::ChannelReceiveFuture;
+use crate::receive_future::ChannelReceive;
 use crate::semaphore::{Semaphore, SemaphoreAcquireFuture, SemaphoreReleaser};
-use crate::send_future::ChannelSendFuture;
+use crate::send_future::ChannelSend;
 use crate::shared_semaphore::{
     SharedSemaphore, SharedSemaphoreAcquireFuture, SharedSemaphoreReleaser,
 };
+use crate::slot_future::{PollSlot, SlotFuture};
 use crate::state_broadcast::StateBroadcastChannel;
 use crate::tally::{Grant, Tally};
-use crate::timer::{Timed, TimerFuture, TimerService};
-use crate::wakes::{HasOutbox, Owed};
-use fi_channels::{ChannelReceiveAccess, ChannelSendAccess};
-use fi_parts::Clock;
+use crate::timer::{Timed, TimerService, TimerWait};
+use crate::wakes::Owed;
 use fi_parts::buffer::RingBuf;
-use futures::task::Waker;
 use std::fmt;
 use std::sync::Wait;
 use std::sync::ledger::Ledger;
@@ -31,12 +29,6 @@ use std::sync::ledger::Ledger;
 impl<R> fmt::Debug for ManualResetEvent<R> {
     fn fmt<F: fmt::Write>(&self, f: &mut fmt::Formatter<F>) -> fmt::Result {
         f.debug_struct("ManualResetEvent").finish()
-    }
-}
-
-impl<R: Wait> fmt::Debug for WaitForEventFuture<'_, R> {
-    fn fmt<F: fmt::Write>(&self, f: &mut fmt::Formatter<F>) -> fmt::Result {
-        f.debug_struct("GenericWaitForEventFuture").finish()
     }
 }
 
@@ -64,20 +56,41 @@ impl<T: Drop, B: RingBuf<Item = T>, R> fmt::Debug for GenericChannel<T, B, R> {
     }
 }
 
-impl<C: ChannelReceiveAccess<Waker = Waker> + HasOutbox, R: Wait> fmt::Debug
-    for ChannelReceiveFuture<'_, C, R> {
-    fn fmt<F: fmt::Write>(&self, f: &mut fmt::Formatter<F>) -> fmt::Result {
-        f.debug_struct("ChannelReceiveFuture").finish()
+/// A kind of future, by the name that `Debug` shows.
+pub trait FutureKind {
+    fn name() -> &'static str;
+}
+
+impl FutureKind for EventWait {
+    fn name() -> &'static str {
+        "GenericWaitForEventFuture"
     }
 }
 
-impl<C: ChannelSendAccess<Waker = Waker> + HasOutbox, R: Wait> fmt::Debug
-    for ChannelSendFuture<'_, C, R>
+impl FutureKind for ChannelReceive {
+    fn name() -> &'static str {
+        "ChannelReceiveFuture"
+    }
+}
+
+impl FutureKind for ChannelSend {
+    fn name() -> &'static str {
+        "ChannelSendFuture"
+    }
+}
+
+impl FutureKind for TimerWait {
+    fn name() -> &'static str {
+        "TimerFuture"
+    }
+}
+
+impl<M: HasMonitor, K: FutureKind> fmt::Debug for SlotFuture<M, K>
 where
-    C::Item: Drop,
+    M::State: PollSlot<K>,
 {
     fn fmt<F: fmt::Write>(&self, f: &mut fmt::Formatter<F>) -> fmt::Result {
-        f.debug_struct("ChannelSendFuture").finish()
+        f.debug_struct(K::name()).finish()
     }
 }
 
@@ -151,12 +164,6 @@ impl<R: Wait + Drop, L: Ledger> fmt::Debug for SharedSemaphoreAcquireFuture<R, L
 impl<C, R> fmt::Debug for TimerService<C, R> {
     fn fmt<F: fmt::Write>(&self, f: &mut fmt::Formatter<F>) -> fmt::Result {
         f.debug_struct("TimerService").finish()
-    }
-}
-
-impl<C: Clock, R: Wait> fmt::Debug for TimerFuture<'_, C, R> {
-    fn fmt<F: fmt::Write>(&self, f: &mut fmt::Formatter<F>) -> fmt::Result {
-        f.debug_struct("TimerFuture").finish()
     }
 }
 

@@ -76,6 +76,8 @@ impl HasOutbox for EventState<Waker> {
 
     ghost wakers = { λ event. wakers_of event.waiting.out };
 
+    ghost wakes = { Wakes };
+
     fn next_wake(&mut self) -> Option<Waker>
         ensures { Wakes self.old result self.new }
     {

@@ -35,6 +35,7 @@ pub use channel_stream::{ChannelStream, ChannelStreaming};
 pub use claim::{Cancel, Claim};
 pub use counted_mutex::{CountedMutex, Locked, MutexLock};
 pub use counted_semaphore::{CountedSemaphore, SemaphoreAcquire};
+pub use debug::FutureKind;
 pub use event::ManualResetEvent;
 pub use event_future::{EventWait, WaitForEventFuture};
 pub use monitor::{HasMonitor, Monitor};

@@ -82,6 +82,8 @@ impl<T: Drop, G: GivesValue<T>> HasOutbox for OneValueState<T, Waker, G> {
 
     ghost wakers = { λ channel. wakers_of channel.waiting.out };
 
+    ghost wakes = { Wakes };
+
     fn next_wake(&mut self) -> Option<Waker>
         ensures { Wakes self.old result self.new }
     {

@@ -89,6 +89,8 @@ impl<T: Clone> HasOutbox for StateBroadcastState<T, Waker> {
 
     ghost wakers = { λ channel. wakers_of channel.waiting.out };
 
+    ghost wakes = { Wakes };
+
     fn next_wake(&mut self) -> Option<Waker>
         ensures { Wakes self.old result self.new }
     {

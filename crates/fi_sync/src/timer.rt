@@ -151,6 +151,8 @@ impl<C: Clock> HasOutbox for Timed<C> {
 
     ghost wakers = { λ timed. wakers_of timed.timer.waiting.out };
 
+    ghost wakes = { λ old answer new. Wakes old.timer answer new.timer };
+
     fn next_wake(&mut self) -> Option<Waker>
         ensures { Wakes self.old.timer result self.new.timer }
     {

@@ -1,5 +1,5 @@
 //! The duty to wake those that a call on a state named.
-ghost use Rattle.std.specs.Prelude.{◌≡◌, ℕ, List, length};
+ghost use Rattle.std.specs.Prelude.{◌≡◌, ℕ, List, Option, length};
 ghost use Rattle.std.specs.Borrow.{MutBor};
 ghost use Rattle.futures.specs.declared.task.waker.Waker.{Waker};
 ghost use Rattle.fi_sync.specs.Wakes.{TakesOldest};
@@ -13,9 +13,13 @@ pub trait HasOutbox {
     /// The wakers that are named to be woken, the oldest first.
     ghost wakers: { Self → List Waker };
 
+    /// A `next_wake` that answers this leads from old to new: what it does to the whole state.
+    ghost wakes: { Self → Option Waker → Self → Type 0 };
+
     /// Takes out the oldest waker that was named to be woken; None where none is left.
     fn next_wake(&mut self) -> Option<Waker>
-        ensures { TakesOldest (wakers self.old) result (wakers self.new) };
+        ensures taken { TakesOldest (wakers self.old) result (wakers self.new) }
+        ensures step { wakes self.old result self.new };
 
     /// How many wakers are named to be woken.
     fn wake_count(&self) -> usize

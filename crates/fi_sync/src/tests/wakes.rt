@@ -20,6 +20,8 @@ impl HasOutbox for Named {
 
     ghost wakers = { λ named. vec_items named.wakers };
 
+    ghost wakes = { λ old answer new. TakesOldest (vec_items old.wakers) answer (vec_items new.wakers) };
+
     fn next_wake(&mut self) -> Option<Waker> {
         if self.wakers.is_empty() {
             return None;

@@ -67,7 +67,8 @@ fn send<R: Wait + RandomSource + AllocGlobal>(rt: &R, jobs: &Jobs<R>, job: u64) 
     }
 }
 
-/// Three workers, and one that sends the jobs and waits until they are done.
+/// Three workers, and one that sends the jobs and waits until a worker has found no more of them. At the end of the scope all
+/// workers have ended.
 fn share_work<'a, R>(
     rt: &'a R,
     jobs: &'a Jobs<R>,
