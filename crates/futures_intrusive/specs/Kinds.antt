@@ -1,0 +1,31 @@
+-- What each kind of channel calls closed and cleared.
+use Rattle.std.specs.Prelude.{◌≡◌, ⊤, Bool, true, false, []}
+use Rattle.fi_channels.specs.Channel.{ChannelMachine}
+use Rattle.fi_channels.specs.Cleared.{NoSendWaits}
+use Rattle.fi_channels.specs.Oneshot.{OneshotMachine}
+use Rattle.fi_channels.specs.StateBroadcast.{StateMachine}
+use Rattle.fi_channels.specs.declared.content.Content.{Content}
+use Rattle.fi_channels.specs.declared.content.Content.TheVariants.{Empty, Full, Spent}
+use Rattle.futures_intrusive.specs.Ends.{Closing}
+
+-- A channel of one value is closed once it takes none any more: it was closed, or its value was sent.
+abbrev pub has_closed : {T : Type 0} → Content T → Bool
+has_closed Empty = false
+has_closed (Full value) = true
+has_closed Spent = true
+
+module _ {T W : Type 0} where
+  abbrev pub closing_channel : Closing (ChannelMachine T W)
+  closing_channel = record {
+    IsClosed = λ state. state.own.is_open ≡ false;
+    IsCleared = λ state. state.own.buffer.items ≡ [];
+    NoSendWaits = NoSendWaits;
+  }
+
+  -- its one value stays to be received, and its sends never wait
+  abbrev pub closing_one_value : Closing (OneshotMachine T W)
+  closing_one_value = record { IsClosed = λ state. has_closed state.own ≡ true; IsCleared = λ state. ⊤; NoSendWaits = λ state. ⊤ }
+
+  -- its newest state stays to be received, and its sends never wait
+  abbrev pub closing_state_broadcast : Closing (StateMachine T W)
+  closing_state_broadcast = record { IsClosed = λ state. state.own.is_open ≡ false; IsCleared = λ state. ⊤; NoSendWaits = λ state. ⊤ }

@@ -1,0 +1,4 @@
+pub mod Ends
+pub mod Kinds
+pub mod KindLaws
+pub mod SharedStreams

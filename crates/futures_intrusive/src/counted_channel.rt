@@ -1,0 +1,150 @@
+//! The channel of many values behind the lock of its shared ends.
+ghost use Rattle.std.specs.Prelude.{◌≡◌, IfOk, IfErr, OnErr};
+ghost use Rattle.fi_channels.specs.Channel.{MakesSend, MakesReceive, TriesSend, TriesReceive, Closes};
+ghost use Rattle.fi_channels.specs.declared.channel_fields.ReceiveKind.TheVariants.{Single, Stream};
+ghost use Rattle.fi_parts.specs.declared.errors.Fault.{Fault};
+ghost use Rattle.futures_intrusive.specs.Ends.{OnState};
+
+use crate::counted_ends::{
+    ClosesByEnds, CountedEnds, ManyReceivers, ManySenders, ReceivesClosed, SendsClosed,
+};
+use fi_channels::{ChannelReceiveAccess, ChannelState, Clearable, TryReceiveError, TrySendError};
+use fi_parts::buffer::RingBuf;
+use fi_parts::{CloseStatus, Fault, Leftover, NoRoom, Slot};
+use fi_sync::{Cancel, ChannelStreaming, PollSlot};
+use futures::task::{Poll, Waker};
+
+impl<T: Drop, B: RingBuf<Item = T>> ClosesByEnds for ChannelState<T, Clearable<B>, Waker> {
+    ghost use Rattle.fi_channels.specs.Channel.{Closes};
+    ghost use Rattle.fi_channels.specs.Cleared.{ClosesAndClears};
+    ghost use Rattle.fi_parts.specs.declared.errors.CloseStatus.{CloseStatus};
+    ghost use Rattle.futures_intrusive.specs.KindLaws.{wakes};
+    ghost use Rattle.futures_intrusive.specs.Kinds.{closing_channel};
+
+    type Cleared = Option<B>;
+
+    ghost closing = { closing_channel };
+
+    ghost closes = { λ old new. (status : CloseStatus) × Closes old status new };
+
+    ghost clears = { ClosesAndClears B.bounded };
+
+    ghost wakes_stay_closed = { wakes };
+
+    fn close_after_senders(&mut self) {
+        self.close();
+    }
+
+    fn close_after_receivers(&mut self) -> Option<B> {
+        self.close_and_clear()
+    }
+}
+
+impl<T: Drop, B: RingBuf<Item = T>> ManySenders for ChannelState<T, Clearable<B>, Waker> {}
+
+impl<T: Drop, B: RingBuf<Item = T>> ManyReceivers for ChannelState<T, Clearable<B>, Waker> {}
+
+impl<T: Drop, B: RingBuf<Item = T>> SendsClosed for ChannelState<T, Clearable<B>, Waker> {
+    ghost use Rattle.futures_intrusive.specs.KindLaws.{sends, send_cancels};
+
+    ghost sends_stay_closed = { sends };
+
+    ghost withdraws_stay_closed = { send_cancels };
+}
+
+impl<T: Drop, B: RingBuf<Item = T>> ReceivesClosed for ChannelState<T, Clearable<B>, Waker> {
+    ghost use Rattle.futures_intrusive.specs.KindLaws.{receives, receive_cancels};
+
+    ghost receives_stay_closed = { receives };
+
+    ghost cancels_stay_closed = { receive_cancels };
+}
+
+impl<T: Drop, B: RingBuf<Item = T>> Cancel<ChannelStreaming>
+    for CountedEnds<ChannelState<T, Clearable<B>, Waker>> {
+    ghost use Rattle.std.specs.Prelude.{is_some};
+    ghost use Rattle.fi_channels.specs.Channel.{receive_phase, CancelsReceive, displaced_receive};
+    ghost use Rattle.fi_sync.specs.Waiting.{CancelsWhere};
+    ghost use Rattle.futures_intrusive.specs.Ends.{OnState};
+
+    type Left = Option<Waker>;
+
+    ghost cancels = { λ old name left new. CancelsWhere (is_some (receive_phase old.state name))
+        (OnState (λ before after. CancelsReceive before name after) old new) (displaced_receive old.state name) old left new };
+
+    fn cancel(&mut self, slot: Slot) -> Option<Waker> {
+        if !self.state.has_receive(slot) {
+            return None;
+        }
+        self.state.remove_receive_waiter(slot)
+    }
+}
+
+impl<T: Drop, B: RingBuf<Item = T>> PollSlot<ChannelStreaming>
+    for CountedEnds<ChannelState<T, Clearable<B>, Waker>> {
+    ghost use Rattle.fi_channels.specs.Channel.{displaced_receive};
+    ghost use Rattle.fi_sync.specs.Streams.{leftover_of_next};
+    ghost use Rattle.futures_intrusive.specs.SharedStreams.{PollsSharedStream};
+
+    type Output = Option<Result<T, Fault>>;
+
+    ghost polls = { PollsSharedStream };
+
+    ghost leaves = { λ old name waker answer. leftover_of_next answer (displaced_receive old.state name) waker };
+
+    fn poll_slot(&mut self, slot: Slot, waker: Waker) -> (Poll<Self::Output>, Leftover<Waker>) {
+        PollSlot::<ChannelStreaming>::poll_slot(&mut self.state, slot, waker)
+    }
+}
+
+/// The calls of `ChannelState`, which leave the counts as they are.
+impl<T: Drop, B: RingBuf<Item = T>> CountedEnds<ChannelState<T, Clearable<B>, Waker>> {
+    /// Sends a value at once. Refused, with the value, if the channel is closed or full, or could not grow; then nothing has
+    /// changed.
+    pub fn try_send(&mut self, value: T) -> Result<(), TrySendError<T>>
+        ensures { OnState (λ old new. TriesSend old value result new) self.old self.new }
+    {
+        self.state.try_send(value)
+    }
+
+    /// Receives the oldest value at once. Refused if there is none; then nothing has changed.
+    pub fn try_receive(&mut self) -> Result<T, TryReceiveError>
+        ensures { OnState (λ old new. TriesReceive old result new) self.old self.new }
+    {
+        self.state.try_receive()
+    }
+
+    /// Closes the channel, and names all who wait. `AlreadyClosed` if it was closed; then nothing has changed.
+    pub fn close(&mut self) -> CloseStatus
+        ensures { OnState (λ old new. Closes old result new) self.old self.new }
+    {
+        self.state.close()
+    }
+
+    /// Makes a send of this value. Refused, with the value, only for want of memory; then nothing has changed.
+    pub fn claim_send(&mut self, value: T) -> Result<Slot, NoRoom<T>>
+        ensures made { IfOk result (λ slot. OnState (λ old new. MakesSend old value slot.0 new) self.old self.new) }
+        ensures refused { OnErr result (self.new ≡ self.old) }
+        ensures handed_back { IfErr result (λ failed. failed.0 ≡ value) }
+    {
+        self.state.claim_send(value)
+    }
+
+    /// Makes a receive. Refused only with `NoMemory`; then nothing has changed.
+    pub fn claim_receive(&mut self) -> Result<Slot, Fault>
+        ensures made { IfOk result (λ slot. OnState (λ old new. MakesReceive old Single slot.0 new) self.old self.new) }
+        ensures refused { OnErr result (self.new ≡ self.old) }
+        ensures fault { IfErr result (λ fault. fault ≡ Fault.NoMemory) }
+    {
+        self.state.claim_receive()
+    }
+
+    /// Makes a stream's receive. Refused only with `NoMemory`; then nothing has changed.
+    pub fn claim_stream(&mut self) -> Result<Slot, Fault>
+        ensures made { IfOk result (λ slot. OnState (λ old new. MakesReceive old Stream slot.0 new) self.old self.new) }
+        ensures refused { OnErr result (self.new ≡ self.old) }
+        ensures fault { IfErr result (λ fault. fault ≡ Fault.NoMemory) }
+    {
+        self.state.claim_stream()
+    }
+}

@@ -1,0 +1,264 @@
+//! What stands behind the lock of a channel's shared ends: its state, beside the counts of senders and receivers.
+ghost use Rattle.std.specs.Prelude.{◌≡◌, ℕ, List, Option, Result};
+ghost use Rattle.fi_channels.specs.declared.channel_errors.SendFault.{SendFault};
+ghost use Rattle.fi_parts.specs.declared.errors.Fault.{Fault};
+ghost use Rattle.futures.specs.declared.task.Poll.{Poll};
+ghost use Rattle.futures.specs.declared.task.waker.Waker.{Waker};
+ghost use Rattle.futures_intrusive.specs.Ends.{Counted, Closing, KeepsEnds, StaysClosed, OnState, two_ends};
+ghost use Rattle.futures_intrusive.specs.Ends.{AddsSender, AddsReceiver, DropsSender, DropsReceiver};
+
+use fi_channels::{ChannelReceiveAccess, ChannelSendAccess, Received, Sent};
+use fi_parts::{Fault, Slot};
+use fi_sync::HasOutbox;
+use futures::task::Waker;
+use std::marker::Model;
+
+/// As many ends of one side as there can be: `isize::MAX`.
+const MOST_ENDS: usize = 9223372036854775807;
+
+/// A channel that closes when its last sender or its last receiver is dropped.
+pub trait ClosesByEnds: HasOutbox {
+    /// What the close after the last receiver lets go. It is dropped once the lock is released.
+    type Cleared: Drop;
+
+    /// In which states the channel is closed, in which nothing is buffered, and in which no send waits.
+    ghost closing: { Closing Self };
+
+    /// The close after the last sender leads from old to new.
+    ghost closes: { Self → Self → Type 0 };
+
+    /// The close after the last receiver lets this go and leads from old to new.
+    ghost clears: { Self → Self.Cleared → Self → Type 0 };
+
+    /// Closes the channel, whose last sender was dropped.
+    fn close_after_senders(&mut self)
+        ensures closes { closes self.old self.new }
+        ensures closed { closing.IsClosed self.new }
+        ensures stays { StaysClosed closing self.old self.new };
+
+    /// Closes the channel, whose last receiver was dropped, and clears it if its kind does.
+    fn close_after_receivers(&mut self) -> Self::Cleared
+        ensures clears { clears self.old result self.new }
+        ensures closed { closing.IsClosed self.new }
+        ensures cleared { closing.IsCleared self.new }
+        ensures no_send_waits { closing.NoSendWaits self.new };
+
+    /// A wake that is taken out opens no closed channel.
+    ghost wakes_stay_closed: { (old new : Self) (answer : Option Waker) → Self.wakes old answer new
+        → StaysClosed Self.closing old new };
+}
+
+/// A channel whose sends, polled or cancelled, open no closed channel.
+pub trait SendsClosed: ChannelSendAccess<Waker = Waker> + ClosesByEnds {
+    ghost sends_stay_closed: { (old new : Self) (name : ℕ) (waker : Waker)
+        (answer : Poll (Result (Unit {0}) (SendFault Self.Item)))
+        → Self.sends old name waker answer new → StaysClosed Self.closing old new };
+
+    ghost withdraws_stay_closed: { (old new : Self) (name : ℕ) (left : Option Self.Item)
+        → Self.withdraws old name left new → StaysClosed Self.closing old new };
+}
+
+/// A channel whose receives, polled or cancelled, open no closed channel.
+pub trait ReceivesClosed: ChannelReceiveAccess<Waker = Waker> + ClosesByEnds {
+    ghost receives_stay_closed: { (old new : Self) (name : ℕ) (waker : Waker)
+        (answer : Poll (Result (Option Self.Item) Fault))
+        → Self.receives old name waker answer new → StaysClosed Self.closing old new };
+
+    ghost cancels_stay_closed: { (old new : Self) (name : ℕ)
+        → Self.cancels old name new → StaysClosed Self.closing old new };
+}
+
+/// A channel whose senders can be cloned.
+pub trait ManySenders: ClosesByEnds {}
+
+/// A channel whose receivers can be cloned.
+pub trait ManyReceivers: ClosesByEnds {}
+
+/// A channel's state, and how many senders and receivers it has.
+///
+/// In every value of this type a channel without senders is closed, and one without receivers is closed and has nothing buffered.
+/// Only a drop that makes a count 0 closes the channel. All calls take constant time but that one, which names all who wait.
+#[derive(Drop)]
+pub struct CountedEnds<S: ClosesByEnds> {
+    pub(crate) state: S,
+    senders: usize,
+    receivers: usize,
+}
+
+impl<S: ClosesByEnds> Model for CountedEnds<S> {
+    ghost use Rattle.futures_intrusive.specs.Ends.{Counted, counted_code, KeepsEnds};
+
+    ghost Value = { Counted S };
+
+    ghost coded = { counted_code S.code };
+
+    ghost view = { λ ends. record { state = ends.state; senders = ends.senders; receivers = ends.receivers } };
+
+    ghost invariant = { λ ends. KeepsEnds S.closing
+        (record { state = ends.state; senders = ends.senders; receivers = ends.receivers }) };
+}
+
+impl<S: ClosesByEnds> CountedEnds<S> {
+    /// A channel with one sender and one receiver.
+    pub fn new(state: S) -> Self
+        ensures { result ≡ two_ends state }
+    {
+        CountedEnds {
+            state,
+            senders: 1,
+            receivers: 1,
+        }
+    }
+
+    /// How many senders there are. Without any the channel is closed.
+    pub fn senders(&self) -> usize
+        ensures count { result ≡ self.now.senders }
+        ensures kept { KeepsEnds S.closing self.now }
+    {
+        self.senders
+    }
+
+    /// How many receivers there are. Without any the channel is closed, and nothing is buffered.
+    pub fn receivers(&self) -> usize
+        ensures count { result ≡ self.now.receivers }
+        ensures kept { KeepsEnds S.closing self.now }
+    {
+        self.receivers
+    }
+
+    /// One sender less. The last one closes the channel. If there was none, nothing changes.
+    pub fn drop_sender(&mut self)
+        ensures { DropsSender S.closes self.old self.new }
+    {
+        if self.senders == 0 {
+            return;
+        }
+        if self.senders == 1 {
+            self.state.close_after_senders();
+        }
+        self.senders -= 1;
+    }
+
+    /// One receiver less. The last one closes the channel and clears it, and what was cleared comes back. If there was none,
+    /// nothing changes.
+    pub fn drop_receiver(&mut self) -> Option<S::Cleared>
+        ensures dropped { DropsReceiver S.clears self.old result self.new }
+        ensures no_send_waits { self.old.receivers ≡ 1 → S.closing.NoSendWaits self.new.state }
+    {
+        if self.receivers == 0 {
+            return None;
+        }
+        if self.receivers > 1 {
+            self.receivers -= 1;
+            return None;
+        }
+        self.receivers = 0;
+        Some(self.state.close_after_receivers())
+    }
+}
+
+impl<S: ManySenders> CountedEnds<S> {
+    /// One sender more. Refused with `TooManyEnds` exactly if there are `isize::MAX`; then nothing changes.
+    pub fn add_sender(&mut self) -> Result<(), Fault>
+        ensures { AddsSender self.old result self.new }
+    {
+        if self.senders == MOST_ENDS {
+            return Err(Fault::TooManyEnds);
+        }
+        self.senders += 1;
+        Ok(())
+    }
+}
+
+impl<S: ManyReceivers> CountedEnds<S> {
+    /// One receiver more. Refused with `TooManyEnds` exactly if there are `isize::MAX`; then nothing changes.
+    pub fn add_receiver(&mut self) -> Result<(), Fault>
+        ensures { AddsReceiver self.old result self.new }
+    {
+        if self.receivers == MOST_ENDS {
+            return Err(Fault::TooManyEnds);
+        }
+        self.receivers += 1;
+        Ok(())
+    }
+}
+
+impl<S: ClosesByEnds> HasOutbox for CountedEnds<S> {
+    ghost wakers = { λ ends. S.wakers ends.state };
+
+    ghost wakes = { λ old answer new. OnState (λ before after. S.wakes before answer after) old new };
+
+    fn next_wake(&mut self) -> Option<Waker> {
+        self.state.next_wake()
+    }
+
+    fn wake_count(&self) -> usize {
+        self.state.wake_count()
+    }
+}
+
+impl<S: SendsClosed> ChannelSendAccess for CountedEnds<S> {
+    type Item = S::Item;
+
+    type Waker = Waker;
+
+    ghost is_sendable = { λ ends. S.is_sendable ends.state };
+
+    ghost is_sending = { λ ends. S.is_sending ends.state };
+
+    ghost waker_of = { λ ends. S.waker_of ends.state };
+
+    ghost sends = { λ old name waker answer new.
+        OnState (λ before after. S.sends before name waker answer after) old new };
+
+    ghost withdraws = { λ old name left new. OnState (λ before after. S.withdraws before name left after) old new };
+
+    fn can_send(&self, slot: Slot) -> bool {
+        self.state.can_send(slot)
+    }
+
+    fn has_send(&self, slot: Slot) -> bool {
+        self.state.has_send(slot)
+    }
+
+    fn send_or_register(&mut self, slot: Slot, waker: Waker) -> Sent<S::Item, Waker> {
+        self.state.send_or_register(slot, waker)
+    }
+
+    fn remove_send_waiter(&mut self, slot: Slot) -> (Option<S::Item>, Option<Waker>) {
+        self.state.remove_send_waiter(slot)
+    }
+}
+
+impl<S: ReceivesClosed> ChannelReceiveAccess for CountedEnds<S> {
+    type Item = S::Item;
+
+    type Waker = Waker;
+
+    ghost is_pollable = { λ ends. S.is_pollable ends.state };
+
+    ghost is_receiving = { λ ends. S.is_receiving ends.state };
+
+    ghost waker_of = { λ ends. S.waker_of ends.state };
+
+    ghost receives = { λ old name waker answer new.
+        OnState (λ before after. S.receives before name waker answer after) old new };
+
+    ghost cancels = { λ old name new. OnState (λ before after. S.cancels before name after) old new };
+
+    fn can_receive(&self, slot: Slot) -> bool {
+        self.state.can_receive(slot)
+    }
+
+    fn has_receive(&self, slot: Slot) -> bool {
+        self.state.has_receive(slot)
+    }
+
+    fn receive_or_register(&mut self, slot: Slot, waker: Waker) -> Received<S::Item, Waker> {
+        self.state.receive_or_register(slot, waker)
+    }
+
+    fn remove_receive_waiter(&mut self, slot: Slot) -> Option<Waker> {
+        self.state.remove_receive_waiter(slot)
+    }
+}

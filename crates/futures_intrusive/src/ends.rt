@@ -1,0 +1,203 @@
+//! The ends of a channel: what its senders and its receivers have in common.
+ghost use Rattle.std.specs.Prelude.{◌≡◌, ◌⊎◌, ℕ, Ok, OnOk, IfOk, IfErr, Option, Result};
+ghost use Rattle.std.specs.Arc.{arc_value};
+ghost use Rattle.fi_parts.specs.declared.errors.Fault.{Fault};
+ghost use Rattle.futures_intrusive.specs.Ends.{Counted, AddsSender, AddsReceiver, LeavesSender, DropsReceiver};
+
+use crate::counted_ends::{ClosesByEnds, CountedEnds, ManyReceivers, ManySenders};
+use fi_parts::Fault;
+use fi_sync::{Monitor, SlotFuture};
+use std::alloc::Global;
+use std::marker::{Model, PhantomData};
+use std::sync::{Arc, Wait};
+
+/// What the ends of a channel share: its state with their counts, behind a lock.
+pub type SharedChannel<S, R> = Arc<Monitor<CountedEnds<S>, R>, Global>;
+
+/// A future of the kind `K` that owns a share of its channel, so that it can outlive the end that made it.
+pub type SharedFutureOf<S, R, K> = SlotFuture<SharedChannel<S, R>, K>;
+
+/// The sending side of a channel.
+pub struct Senders;
+
+/// The receiving side of a channel.
+pub struct Receivers;
+
+/// One side of a channel, whose ends are counted.
+pub trait Side<S: ClosesByEnds> {
+    /// One end less on this side lets this go and leads from old to new.
+    ghost drops: { Counted S → Option S.Cleared → Counted S → Type 0 };
+
+    /// One end less. What the channel lets go comes back.
+    fn drop_end(ends: &mut CountedEnds<S>) -> Option<S::Cleared>
+        ensures { drops ends.old result ends.new };
+}
+
+/// A side whose ends can be cloned.
+pub trait CloneSide<S: ClosesByEnds>: Side<S> {
+    /// One end more on this side answers this and leads from old to new.
+    ghost adds: { Counted S → Result (Unit {0}) Fault → Counted S → Type 0 };
+
+    /// One end more. Refused with `TooManyEnds` exactly if there are `isize::MAX`; then nothing changes.
+    fn add_end(ends: &mut CountedEnds<S>) -> Result<(), Fault>
+        ensures added { adds ends.old result ends.new }
+        ensures fault { IfErr result (λ fault. fault ≡ Fault.TooManyEnds) };
+}
+
+impl<S: ClosesByEnds> Side<S> for Senders {
+    ghost drops = { LeavesSender S.closes };
+
+    fn drop_end(ends: &mut CountedEnds<S>) -> Option<S::Cleared> {
+        ends.drop_sender();
+        None
+    }
+}
+
+impl<S: ClosesByEnds> Side<S> for Receivers {
+    ghost drops = { DropsReceiver S.clears };
+
+    fn drop_end(ends: &mut CountedEnds<S>) -> Option<S::Cleared> {
+        ends.drop_receiver()
+    }
+}
+
+impl<S: ManySenders> CloneSide<S> for Senders {
+    ghost adds = { AddsSender };
+
+    fn add_end(ends: &mut CountedEnds<S>) -> Result<(), Fault> {
+        ends.add_sender()
+    }
+}
+
+impl<S: ManyReceivers> CloneSide<S> for Receivers {
+    ghost adds = { AddsReceiver };
+
+    fn add_end(ends: &mut CountedEnds<S>) -> Result<(), Fault> {
+        ends.add_receiver()
+    }
+}
+
+/// That an end is counted. It has no `Drop`: only `leave` takes it, so an end whose drop is not counted does not compile.
+struct Membership<K> {
+    side: PhantomData<K>,
+}
+
+impl<K> Membership<K> {
+    /// Counts one end more.
+    fn join<S: ClosesByEnds>(ends: &mut CountedEnds<S>) -> Result<Self, Fault>
+    where
+        K: CloneSide<S>,
+        ensures counted { OnOk result (K.adds ends.old (Ok tt) ends.new) }
+        ensures fault { IfErr result (λ fault. fault ≡ Fault.TooManyEnds) }
+    {
+        K::add_end(ends)?;
+        Ok(Membership { side: PhantomData })
+    }
+
+    /// Counts one end less. What the channel lets go comes back.
+    fn leave<S: ClosesByEnds>(self, ends: &mut CountedEnds<S>) -> Option<S::Cleared>
+    where
+        K: Side<S>,
+        ensures { K.drops ends.old result ends.new }
+    {
+        let Membership { side: _ } = self;
+        K::drop_end(ends)
+    }
+}
+
+/// One end of a channel, on the side `K`. It owns a share of the channel, and is counted there.
+///
+/// The drop of the last end of a side closes the channel and wakes all who wait. A future that an end made keeps the channel
+/// alive, but is not counted.
+pub struct End<S: ClosesByEnds + Drop, R: Wait + Drop, K: Side<S>> {
+    channel: SharedChannel<S, R>,
+    membership: Membership<K>,
+}
+
+impl<S: ClosesByEnds + Drop, R: Wait + Drop, K: Side<S>> Model for End<S, R, K> {
+    ghost use Rattle.std.specs.Prelude.{ℕ};
+
+    ghost Value = { ℕ };
+
+    // The source that the channel's futures register at.
+    ghost view = { λ end. end.channel.value };
+}
+
+impl<S: ClosesByEnds + Drop, R: Wait + Drop, K: Side<S>> End<S, R, K> {
+    /// The channel, whose calls are made behind its lock.
+    pub(crate) fn channel(&self) -> &Monitor<CountedEnds<S>, R>
+        ensures { result.now ≡ self.now }
+    {
+        &*self.channel
+    }
+
+    /// One more owner of the channel. Refused with `NoMemory` only if there are 2^63 - 1.
+    pub(crate) fn share(&self) -> Result<SharedChannel<S, R>, Fault>
+        ensures same { IfOk result (λ shared. arc_value shared ≡ self.now) }
+        ensures fault { IfErr result (λ fault. fault ≡ Fault.NoMemory) }
+    {
+        Arc::try_clone(&self.channel).map_err(|_| Fault::NoMemory)
+    }
+}
+
+impl<S: ClosesByEnds + Drop, R: Wait + Drop, K: CloneSide<S>> End<S, R, K> {
+    /// One more end of the same channel on this side. Takes no memory, and one hold of the lock.
+    ///
+    /// Refused with `TooManyEnds` if there are `isize::MAX` ends of this side, or with `NoMemory` if the channel has 2^63 - 1
+    /// owners; then nothing has changed.
+    pub fn clone(&self) -> Result<Self, Fault>
+        ensures same { IfOk result (λ clone. clone ≡ self.now) }
+        // The channel counted one end more, in some hold of its lock.
+        ensures counted { OnOk result ((old : Counted S) × (new : Counted S) × K.adds old (Ok tt) new) }
+        ensures fault { IfErr result (λ fault. (fault ≡ Fault.NoMemory) ⊎ (fault ≡ Fault.TooManyEnds)) }
+    {
+        let channel = self.share()?;
+        let join = |ends: &mut CountedEnds<S>, ()| -> Result<Membership<K>, Fault>
+            ensures counted { OnOk result (K.adds ends.old (Ok tt) ends.new) }
+            ensures fault { IfErr result (λ fault. fault ≡ Fault.TooManyEnds) }
+        { Membership::join(ends) };
+        let membership = channel.call((), join)?;
+        Ok(End {
+            channel,
+            membership,
+        })
+    }
+}
+
+impl<S: ClosesByEnds + Drop, R: Wait + Drop, K: Side<S>> Drop for End<S, R, K> {
+    fn drop(self) {
+        let End {
+            channel,
+            membership,
+        } = self;
+        let cleared = channel.call(membership, |ends, membership| membership.leave(ends));
+        // With no lock held: the drop of a value may run any code, that of an end of this channel too.
+        drop(cleared);
+        drop(channel);
+    }
+}
+
+/// The first two ends of a channel with this state. Refused only with `NoMemory`.
+pub(crate) fn two_ends<S: ClosesByEnds + Drop, R: Wait + Drop>(
+    alloc: Global,
+    rt: R,
+    state: S,
+) -> Result<(End<S, R, Senders>, End<S, R, Receivers>), Fault>
+    ensures same { IfOk result (λ ends. ends.0 ≡ ends.1) }
+    ensures fault { IfErr result (λ fault. fault ≡ Fault.NoMemory) }
+{
+    let first = match Arc::new(alloc, Monitor::new(rt, CountedEnds::new(state))) {
+        Ok(channel) => channel,
+        Err(_) => return Err(Fault::NoMemory),
+    };
+    let second = Arc::try_clone(&first).map_err(|_| Fault::NoMemory)?;
+    let sender = End {
+        channel: first,
+        membership: Membership { side: PhantomData },
+    };
+    let receiver = End {
+        channel: second,
+        membership: Membership { side: PhantomData },
+    };
+    Ok((sender, receiver))
+}

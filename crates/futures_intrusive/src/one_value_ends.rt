@@ -1,0 +1,133 @@
+//! The ends of the channels of one value.
+ghost use Rattle.std.specs.Prelude.{◌≡◌, IfOk, IfErr, OnErr};
+ghost use Rattle.fi_parts.specs.declared.errors.Fault.{Fault};
+ghost use Rattle.fi_channels.specs.Oneshot.{Makes, Sends};
+ghost use Rattle.fi_sync.specs.Waiting.{IsNew};
+ghost use Rattle.futures_intrusive.specs.Ends.{OnState};
+
+use crate::channel_ends::ChannelReceiveFuture;
+use crate::counted_ends::{ClosesByEnds, CountedEnds, ManyReceivers, ReceivesClosed};
+use crate::ends::{End, Receivers, Senders, two_ends};
+use fi_channels::{ClonesValue, GivesValue, OneValueState, TakesValue};
+use fi_parts::{ChannelSendError, Fault, Slot};
+use fi_sync::{Claim, SlotFuture};
+use futures::task::Waker;
+use std::alloc::Global;
+use std::sync::Wait;
+
+/// The sending end of a channel that takes one value, and gives it in the way of `G`.
+pub type OneValueSender<T, G, R> = End<OneValueState<T, Waker, G>, R, Senders>;
+
+/// The receiving end of such a channel.
+pub type OneValueReceiver<T, G, R> = End<OneValueState<T, Waker, G>, R, Receivers>;
+
+/// Keeps `OneshotSender` of futures-intrusive's `channel::shared`.
+pub type OneshotSender<T, R> = OneValueSender<T, TakesValue, R>;
+
+/// Keeps `OneshotReceiver`.
+pub type OneshotReceiver<T, R> = OneValueReceiver<T, TakesValue, R>;
+
+/// Keeps `OneshotBroadcastSender`.
+pub type OneshotBroadcastSender<T, R> = OneValueSender<T, ClonesValue, R>;
+
+/// Keeps `OneshotBroadcastReceiver`, which can be cloned. The channel closes where the last of them is dropped; in
+/// futures-intrusive where any is.
+pub type OneshotBroadcastReceiver<T, R> = OneValueReceiver<T, ClonesValue, R>;
+
+/// The ends of a channel whose value goes to one receive. Refused only with `NoMemory`. Keeps `oneshot_channel`.
+pub fn oneshot_channel<T: Drop, R: Wait + Drop>(
+    alloc: Global,
+    rt: R,
+) -> Result<(OneshotSender<T, R>, OneshotReceiver<T, R>), Fault>
+    ensures same { IfOk result (λ ends. ends.0 ≡ ends.1) }
+    ensures fault { IfErr result (λ fault. fault ≡ Fault.NoMemory) }
+{
+    two_ends(alloc, rt, OneValueState::new(alloc))
+}
+
+/// The ends of a channel of whose value each receive gets a clone. Refused only with `NoMemory`. Keeps `oneshot_broadcast_channel`.
+pub fn oneshot_broadcast_channel<T: Clone + Drop, R: Wait + Drop>(
+    alloc: Global,
+    rt: R,
+) -> Result<(OneshotBroadcastSender<T, R>, OneshotBroadcastReceiver<T, R>), Fault>
+    ensures same { IfOk result (λ ends. ends.0 ≡ ends.1) }
+    ensures fault { IfErr result (λ fault. fault ≡ Fault.NoMemory) }
+{
+    two_ends(alloc, rt, OneValueState::new(alloc))
+}
+
+impl<T: Drop, G: GivesValue<T>, R: Wait + Drop> OneValueSender<T, G, R> {
+    /// Sends the one value. As `OneValueChannel::send`. Keeps `OneshotSender::send`.
+    pub fn send(&self, value: T) -> Result<(), ChannelSendError<T>>
+        ensures { IfErr result (λ refused. refused.0 ≡ value) }
+    {
+        self.channel().call(value, CountedEnds::send)
+    }
+}
+
+impl<T: Drop, G: GivesValue<T>, R: Wait + Drop> OneValueReceiver<T, G, R> {
+    /// A future that receives the value, or None if none will come. As `OneValueChannel::receive`. Keeps
+    /// `OneshotReceiver::receive`.
+    pub fn receive(&self) -> Result<ChannelReceiveFuture<OneValueState<T, Waker, G>, R>, Fault>
+        ensures made { IfOk result (λ future. IsNew self.now future) }
+        ensures fault { IfErr result (λ fault. fault ≡ Fault.NoMemory) }
+    {
+        let shared = self.share()?;
+        let slot = self.channel().call((), |ends, ()| ends.claim_receive())?;
+        Ok(SlotFuture::new(shared, Claim::of(slot)))
+    }
+}
+
+impl<T: Drop, G: GivesValue<T>> ClosesByEnds for OneValueState<T, Waker, G> {
+    ghost use Rattle.fi_channels.specs.Oneshot.{Closes};
+    ghost use Rattle.fi_parts.specs.declared.errors.CloseStatus.{CloseStatus};
+    ghost use Rattle.futures_intrusive.specs.KindLaws.{one_value_wakes};
+    ghost use Rattle.futures_intrusive.specs.Kinds.{closing_one_value};
+
+    type Cleared = ();
+
+    ghost closing = { closing_one_value };
+
+    ghost closes = { λ old new. (status : CloseStatus) × Closes old status new };
+
+    ghost clears = { λ old cleared new. (status : CloseStatus) × Closes old status new };
+
+    ghost wakes_stay_closed = { one_value_wakes };
+
+    fn close_after_senders(&mut self) {
+        self.close();
+    }
+
+    fn close_after_receivers(&mut self) {
+        self.close();
+    }
+}
+
+impl<T: Clone + Drop> ManyReceivers for OneValueState<T, Waker, ClonesValue> {}
+
+impl<T: Drop, G: GivesValue<T>> ReceivesClosed for OneValueState<T, Waker, G> {
+    ghost use Rattle.futures_intrusive.specs.KindLaws.{one_value_polls, one_value_cancels};
+
+    ghost receives_stay_closed = { λ old new. one_value_polls old new G.giving };
+
+    ghost cancels_stay_closed = { one_value_cancels };
+}
+
+/// The calls of `OneValueState`, which leave the counts as they are.
+impl<T: Drop, G: GivesValue<T>> CountedEnds<OneValueState<T, Waker, G>> {
+    /// Sends the one value. Refused, with the value, if the channel takes none any more; then nothing has changed.
+    pub fn send(&mut self, value: T) -> Result<(), ChannelSendError<T>>
+        ensures { OnState (λ old new. Sends old value result new) self.old self.new }
+    {
+        self.state.send(value)
+    }
+
+    /// Makes a receive. Refused only with `NoMemory`; then nothing has changed.
+    pub fn claim_receive(&mut self) -> Result<Slot, Fault>
+        ensures made { IfOk result (λ slot. OnState (λ old new. Makes old slot.0 new) self.old self.new) }
+        ensures refused { OnErr result (self.new ≡ self.old) }
+        ensures fault { IfErr result (λ fault. fault ≡ Fault.NoMemory) }
+    {
+        self.state.claim_receive()
+    }
+}

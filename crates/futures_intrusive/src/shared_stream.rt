@@ -1,0 +1,104 @@
+//! The stream of a channel that owns its receiver.
+ghost use Rattle.std.specs.Prelude.{◌≡◌, IfErr};
+ghost use Rattle.futures.specs.Poll.{OnPending};
+ghost use Rattle.futures.specs.Task.{Covers, Keeps};
+ghost use Rattle.futures.specs.declared.task.waker.Waker.{Waker};
+ghost use Rattle.fi_sync.specs.Streams.{IsStreamAnswer, streamed};
+ghost use Rattle.futures_intrusive.specs.SharedStreams.{PollsSharedStream};
+
+use crate::channel_ends::{GenericReceiver, SharedChannelState};
+use crate::ends::SharedFutureOf;
+use fi_parts::buffer::RingBuf;
+use fi_parts::{CloseStatus, Fault};
+use fi_sync::{ChannelStreaming, Claim, SlotFuture};
+use futures::task::{Context, Poll};
+use futures::{Future, Stream};
+use std::marker::Model;
+use std::sync::Wait;
+
+/// The values of a channel, one after another, until it is closed and empty; then it answers its end, again and again.
+///
+/// It is made of a receiver, which it keeps. Its drop drops its receive first, and then the receiver. An item is `Err(NoMemory)` if
+/// the poll could make no waker; the stream goes on after it. Keeps `SharedStream` of futures-intrusive's `channel::shared`.
+#[derive(Drop)]
+pub struct SharedStream<T: Drop, B: RingBuf<Item = T>, R: Wait + Drop> {
+    // In this order they are dropped: a receive that was told of a value passes that on while the receiver is still counted.
+    future: SharedFutureOf<SharedChannelState<T, B>, R, ChannelStreaming>,
+    is_ended: bool,
+    receiver: GenericReceiver<T, B, R>,
+}
+
+impl<T: Drop, B: RingBuf<Item = T>, R: Wait + Drop> Model for SharedStream<T, B, R> {
+    ghost use Rattle.std.specs.Prelude.{◌≡◌, false};
+    ghost use Rattle.fi_sync.specs.Waiting.{SharedFuture};
+
+    ghost Value = { SharedFuture };
+
+    ghost view = { λ stream. record { source = stream.future.source; name = stream.future.name; has_ended = stream.is_ended } };
+
+    // The future itself never ends.
+    ghost invariant = { λ stream. stream.future.has_ended ≡ false };
+}
+
+impl<T: Drop, B: RingBuf<Item = T>, R: Wait + Drop> GenericReceiver<T, B, R> {
+    /// A stream of the values, which keeps the receiver. Refused only for want of memory; then the receiver comes back, and nothing
+    /// has changed. Keeps `GenericReceiver::into_stream`.
+    pub fn into_stream(self) -> Result<SharedStream<T, B, R>, Self>
+        ensures { IfErr result (λ receiver. receiver ≡ self) }
+    {
+        let Ok(shared) = self.share() else {
+            return Err(self);
+        };
+        let claimed = self.channel().call((), |ends, ()| ends.claim_stream());
+        match claimed {
+            Ok(slot) => Ok(SharedStream {
+                future: SlotFuture::new(shared, Claim::of(slot)),
+                is_ended: false,
+                receiver: self,
+            }),
+            Err(_) => Err(self),
+        }
+    }
+}
+
+impl<T: Drop, B: RingBuf<Item = T>, R: Wait + Drop> SharedStream<T, B, R> {
+    /// `Stream::poll_next`, with a contract that says what it answers.
+    pub fn poll_item(&mut self, cx: &mut Context<'_>) -> Poll<Option<Result<T, Fault>>>
+        ensures registered { OnPending result (Covers cx.new (λ source. source ≡ self.new.source)) }
+        ensures kept { Keeps cx.old cx.new }
+        ensures stands { self.new ≡ streamed self.old result }
+        ensures answered { IsStreamAnswer (PollsSharedStream {T = T} {W = Waker}) self.old.name self.old.has_ended
+            cx.new.lacks_waker result }
+    {
+        if self.is_ended {
+            return Poll::Ready(None);
+        }
+        let answer = self.future.poll(cx);
+        if let Poll::Ready(None) = &answer {
+            self.is_ended = true;
+        }
+        answer
+    }
+
+    /// Closes the channel. As `GenericReceiver::close`. Keeps `SharedStream::close`.
+    pub fn close(&self) -> CloseStatus {
+        self.receiver.close()
+    }
+
+    /// The stream has answered its end. It takes no lock. Keeps `FusedStream::is_terminated`.
+    pub fn is_terminated(&self) -> bool
+        ensures { result ≡ self.now.has_ended }
+    {
+        self.is_ended
+    }
+}
+
+impl<T: Drop, B: RingBuf<Item = T>, R: Wait + Drop> Stream for SharedStream<T, B, R> {
+    type Item = Result<T, Fault>;
+
+    ghost needs = { λ stream source. source ≡ stream.source };
+
+    fn poll_next(&mut self, cx: &mut Context<'_>) -> Poll<Option<Result<T, Fault>>> {
+        self.poll_item(cx)
+    }
+}

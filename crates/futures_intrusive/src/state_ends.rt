@@ -1,0 +1,141 @@
+//! The ends of the state broadcast.
+ghost use Rattle.std.specs.Prelude.{◌≡◌, IfOk, IfErr, OnOk, OnErr, Ok, Err};
+ghost use Rattle.fi_parts.specs.declared.errors.Fault.{Fault};
+ghost use Rattle.fi_channels.specs.StateBroadcast.{Makes, Sends, TriesReceive, MayLackNewer, newer_than};
+ghost use Rattle.fi_sync.specs.Waiting.{IsNew};
+ghost use Rattle.futures_intrusive.specs.Ends.{OnState};
+
+use crate::channel_ends::ChannelReceiveFuture;
+use crate::counted_ends::{ClosesByEnds, CountedEnds, ManyReceivers, ManySenders, ReceivesClosed};
+use crate::ends::{End, Receivers, Senders, two_ends};
+use fi_channels::StateBroadcastState;
+use fi_parts::{ChannelSendError, Fault, Slot, StateId};
+use fi_sync::{Claim, SlotFuture};
+use futures::task::Waker;
+use std::alloc::Global;
+use std::sync::Wait;
+
+/// The sending end of a state broadcast. Keeps `StateSender` of futures-intrusive's `channel::shared`.
+pub type StateSender<T, R> = End<StateBroadcastState<T, Waker>, R, Senders>;
+
+/// The receiving end of a state broadcast. Keeps `StateReceiver`.
+pub type StateReceiver<T, R> = End<StateBroadcastState<T, Waker>, R, Receivers>;
+
+/// Receives a state; it owns a share of its channel. Keeps `shared::StateReceiveFuture`.
+pub type StateReceiveFuture<T, R> = ChannelReceiveFuture<StateBroadcastState<T, Waker>, R>;
+
+/// The ends of a state broadcast. Refused only with `NoMemory`. Keeps `state_broadcast_channel`.
+pub fn state_broadcast_channel<T: Clone + Drop, R: Wait + Drop>(
+    alloc: Global,
+    rt: R,
+) -> Result<(StateSender<T, R>, StateReceiver<T, R>), Fault>
+    ensures same { IfOk result (λ ends. ends.0 ≡ ends.1) }
+    ensures fault { IfErr result (λ fault. fault ≡ Fault.NoMemory) }
+{
+    two_ends(alloc, rt, StateBroadcastState::new(alloc))
+}
+
+impl<T: Clone + Drop, R: Wait + Drop> StateSender<T, R> {
+    /// Sends the next state. As `StateBroadcastChannel::send`. Keeps `StateSender::send`.
+    pub fn send(&self, value: T) -> Result<(), ChannelSendError<T>>
+        ensures { IfErr result (λ refused. refused.0 ≡ value) }
+    {
+        match self.channel().call(value, CountedEnds::replace) {
+            Ok(_replaced) => Ok(()),
+            Err(refused) => Err(refused),
+        }
+    }
+}
+
+impl<T: Clone + Drop, R: Wait + Drop> StateReceiver<T, R> {
+    /// A future that receives the newest state once its number is greater than `seen`. As `StateBroadcastChannel::receive`. Keeps
+    /// `StateReceiver::receive`.
+    pub fn receive(&self, seen: StateId) -> Result<StateReceiveFuture<T, R>, Fault>
+        ensures made { IfOk result (λ future. IsNew self.now future) }
+        ensures fault { IfErr result (λ fault. fault ≡ Fault.NoMemory) }
+    {
+        let shared = self.share()?;
+        let slot = self
+            .channel()
+            .call(seen, |ends, seen| ends.claim_receive(seen))?;
+        Ok(SlotFuture::new(shared, Claim::of(slot)))
+    }
+
+    /// A clone of the newest state with its number, if that is greater than `seen`. As `StateBroadcastChannel::try_receive`. Keeps
+    /// `StateReceiver::try_receive`.
+    pub fn try_receive(&self, seen: StateId) -> Result<Option<(StateId, T)>, Fault>
+        ensures fault { IfErr result (λ fault. fault ≡ Fault.NoMemory) }
+    {
+        self.channel()
+            .call(seen, |ends, seen| ends.try_receive(seen))
+    }
+}
+
+impl<T: Clone + Drop> ClosesByEnds for StateBroadcastState<T, Waker> {
+    ghost use Rattle.fi_channels.specs.StateBroadcast.{Closes};
+    ghost use Rattle.fi_parts.specs.declared.errors.CloseStatus.{CloseStatus};
+    ghost use Rattle.futures_intrusive.specs.KindLaws.{state_wakes};
+    ghost use Rattle.futures_intrusive.specs.Kinds.{closing_state_broadcast};
+
+    type Cleared = ();
+
+    ghost closing = { closing_state_broadcast };
+
+    ghost closes = { λ old new. (status : CloseStatus) × Closes old status new };
+
+    ghost clears = { λ old cleared new. (status : CloseStatus) × Closes old status new };
+
+    ghost wakes_stay_closed = { state_wakes };
+
+    fn close_after_senders(&mut self) {
+        self.close();
+    }
+
+    fn close_after_receivers(&mut self) {
+        self.close();
+    }
+}
+
+impl<T: Clone + Drop> ManySenders for StateBroadcastState<T, Waker> {}
+
+impl<T: Clone + Drop> ManyReceivers for StateBroadcastState<T, Waker> {}
+
+impl<T: Clone + Drop> ReceivesClosed for StateBroadcastState<T, Waker> {
+    ghost use Rattle.futures_intrusive.specs.KindLaws.{state_polls, state_cancels};
+
+    ghost receives_stay_closed = { λ old new. state_polls old new T.is_clone T.is_infallible };
+
+    ghost cancels_stay_closed = { state_cancels };
+}
+
+/// The calls of `StateBroadcastState`, which leave the counts as they are.
+impl<T: Clone + Drop> CountedEnds<StateBroadcastState<T, Waker>> {
+    /// Sends the next state, and hands back the one before it, so that its caller chooses when that is let go.
+    pub fn replace(&mut self, value: T) -> Result<Option<T>, ChannelSendError<T>>
+        ensures sent { OnOk result (OnState (λ old new. Sends old value (Ok tt) new) self.old self.new) }
+        ensures refused { IfErr result (λ refused.
+            OnState (λ old new. Sends old value (Err refused) new) self.old self.new) }
+        ensures replaced { IfOk result (λ replaced. replaced ≡ self.old.state.own.value) }
+    {
+        self.state.replace(value)
+    }
+
+    /// A clone of the newest state with its number, if that is greater than `seen`. Refused with `NoMemory` if the clone could
+    /// not be allocated.
+    pub fn try_receive(&self, seen: StateId) -> Result<Option<(StateId, T)>, Fault>
+        ensures state { IfOk result (λ state. TriesReceive T.is_clone self.now.state seen state) }
+        ensures lacks { OnErr result (MayLackNewer T.is_infallible (newer_than self.now.state.own seen)) }
+        ensures fault { IfErr result (λ fault. fault ≡ Fault.NoMemory) }
+    {
+        self.state.try_receive(seen)
+    }
+
+    /// Makes a receive. Refused only with `NoMemory`; then nothing has changed.
+    pub fn claim_receive(&mut self, seen: StateId) -> Result<Slot, Fault>
+        ensures made { IfOk result (λ slot. OnState (λ old new. Makes old seen slot.0 new) self.old self.new) }
+        ensures refused { OnErr result (self.new ≡ self.old) }
+        ensures fault { IfErr result (λ fault. fault ≡ Fault.NoMemory) }
+    {
+        self.state.claim_receive(seen)
+    }
+}

@@ -1,0 +1,8 @@
+//! Tests of the shared ends, and of the crates below through their public names.
+mod channels;
+mod ends;
+mod locks;
+mod parts;
+mod paths;
+mod refusals;
+mod texts;

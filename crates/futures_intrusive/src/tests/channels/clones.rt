@@ -1,0 +1,199 @@
+//! Deliveries whose clone is refused memory, and then allowed.
+use fi_channels::{ChannelReceiveAccess, LocalOneshotBroadcastChannel, LocalStateBroadcastChannel};
+use fi_parts::{Fault, Slot, StateId};
+use futures::task::Poll;
+use std::alloc::AllocError;
+use std::sync::atomic::{AtomicBool, Ordering};
+
+/// A number of whose clones each second one is allowed, so that a delivery can make but one.
+#[derive(Drop)]
+struct Reluctant {
+    number: u32,
+    is_ready: AtomicBool,
+}
+
+impl Reluctant {
+    fn of(number: u32) -> Self {
+        Reluctant {
+            number,
+            is_ready: AtomicBool::new(false),
+        }
+    }
+}
+
+impl Clone for Reluctant {
+    fn clone(&self) -> Result<Self, AllocError> {
+        if !self.is_ready.fetch_xor(true, Ordering::SeqCst) {
+            return Err(AllocError);
+        }
+        Ok(Reluctant::of(self.number))
+    }
+}
+
+// A poll by slot; None where there is nothing to poll.
+fn polled<C: ChannelReceiveAccess>(
+    channel: &mut C,
+    slot: Slot,
+    waker: C::Waker,
+) -> Option<Poll<Result<Option<C::Item>, Fault>>>
+where
+    C::Waker: Drop,
+{
+    if !channel.can_receive(slot) {
+        return None;
+    }
+    Some(channel.receive_or_register(slot, waker).0)
+}
+
+fn is_refused<T>(answer: &Poll<Result<Option<T>, Fault>>) -> bool {
+    match answer {
+        Poll::Ready(Err(fault)) => *fault == Fault::NoMemory,
+        Poll::Ready(Ok(_)) | Poll::Pending => false,
+    }
+}
+
+fn item_in<T>(answer: Poll<Result<Option<T>, Fault>>) -> Option<T> {
+    match answer {
+        Poll::Ready(Ok(item)) => item,
+        Poll::Ready(Err(_)) | Poll::Pending => None,
+    }
+}
+
+#[test]
+fn a_refused_clone_leaves_the_pair(rt: HostRuntime) {
+    let mut channel: LocalOneshotBroadcastChannel<Reluctant, u64> =
+        LocalOneshotBroadcastChannel::new(rt.alloc());
+    let slot = channel.claim_receive().expect(&rt, "room");
+    let is_pending = polled(&mut channel, slot, 7)
+        .expect(&rt, "first")
+        .is_pending();
+    let is_sent = channel.send(Reluctant::of(5)).is_ok();
+    let refused = polled(&mut channel, slot, 8).expect(&rt, "second");
+    let count = channel.wake_count();
+    let value = item_in(polled(&mut channel, slot, 9).expect(&rt, "third")).expect(&rt, "value");
+    assert!(rt; is_pending);
+    assert!(rt; is_sent);
+    assert!(rt; is_refused(&refused));
+    assert_eq!(rt; count, 1);
+    assert_eq!(rt; value.number, 5);
+    assert_eq!(rt; channel.wake_count(), 0);
+    assert!(rt; !channel.can_receive(slot));
+}
+
+#[test]
+fn a_refused_clone_leaves_the_waker(rt: HostRuntime) {
+    let mut channel: LocalStateBroadcastChannel<Reluctant, u64> = LocalStateBroadcastChannel::new(
+        rt.alloc(),
+    );
+    let slot = channel.claim_receive(StateId::new()).expect(&rt, "room");
+    let is_pending = polled(&mut channel, slot, 7)
+        .expect(&rt, "first")
+        .is_pending();
+    let is_sent = channel.send(Reluctant::of(5)).is_ok();
+    let refused = polled(&mut channel, slot, 8).expect(&rt, "second");
+    let waker = channel.next_wake();
+    let (number, value) = item_in(polled(&mut channel, slot, 9).expect(&rt, "third")).expect(
+        &rt, "state",
+    );
+    assert!(rt; is_pending);
+    assert!(rt; is_sent);
+    assert!(rt; is_refused(&refused));
+    assert_eq!(rt; waker, Some(7));
+    assert_eq!(rt; number.value(), 1);
+    assert_eq!(rt; value.number, 5);
+    assert!(rt; !channel.can_receive(slot));
+}
+
+#[test]
+fn a_refused_clone_is_asked_again(rt: HostRuntime) {
+    let mut channel: LocalStateBroadcastChannel<Reluctant, u64> = LocalStateBroadcastChannel::new(
+        rt.alloc(),
+    );
+    let is_sent = channel.send(Reluctant::of(5)).is_ok();
+    let fault = channel.try_receive(StateId::new()).err();
+    let (number, value) = channel
+        .try_receive(StateId::new())
+        .expect(&rt, "room")
+        .expect(&rt, "state");
+    assert!(rt; is_sent);
+    assert_eq!(rt; fault, Some(Fault::NoMemory));
+    assert_eq!(rt; number.value(), 1);
+    assert_eq!(rt; value.number, 5);
+}
+
+// The Nth allocation may be refused in the tests below.
+// The delivered bytes, asked for once more if their clone was refused.
+fn polled_bytes(
+    channel: &mut LocalOneshotBroadcastChannel<Vec<u8>, u64>,
+    slot: Slot,
+) -> Option<Vec<u8>> {
+    let first = polled(channel, slot, 1)?;
+    if !is_refused(&first) {
+        return item_in(first);
+    }
+    item_in(polled(channel, slot, 1)?)
+}
+
+// The same from a state broadcast.
+fn polled_state_bytes(
+    channel: &mut LocalStateBroadcastChannel<Vec<u8>, u64>,
+    slot: Slot,
+) -> Option<(StateId, Vec<u8>)> {
+    let first = polled(channel, slot, 1)?;
+    if !is_refused(&first) {
+        return item_in(first);
+    }
+    item_in(polled(channel, slot, 1)?)
+}
+
+#[test]
+fn broadcast_bytes_survive_a_refused_clone(rt: HostRuntime) {
+    let mut channel: LocalOneshotBroadcastChannel<Vec<u8>, u64> = LocalOneshotBroadcastChannel::new(
+        rt.alloc(),
+    );
+    let bytes = vec![in rt.alloc(); 1u8, 2, 3].expect(&rt, "room");
+    let slot = match channel.claim_receive() {
+        Ok(slot) => slot,
+        Err(_) => channel.claim_receive().expect(&rt, "room"),
+    };
+    let is_sent = channel.send(bytes).is_ok();
+    let copy = polled_bytes(&mut channel, slot).expect(&rt, "bytes");
+    assert!(rt; is_sent);
+    assert_eq!(rt; copy.as_slice(), [1u8, 2, 3].as_slice());
+    assert!(rt; !channel.can_receive(slot));
+}
+
+#[test]
+fn state_bytes_survive_a_refused_clone(rt: HostRuntime) {
+    let mut channel: LocalStateBroadcastChannel<Vec<u8>, u64> = LocalStateBroadcastChannel::new(
+        rt.alloc(),
+    );
+    let bytes = vec![in rt.alloc(); 4u8, 5].expect(&rt, "room");
+    let is_sent = channel.send(bytes).is_ok();
+    let slot = match channel.claim_receive(StateId::new()) {
+        Ok(slot) => slot,
+        Err(_) => channel.claim_receive(StateId::new()).expect(&rt, "room"),
+    };
+    let (number, copy) = polled_state_bytes(&mut channel, slot).expect(&rt, "bytes");
+    assert!(rt; is_sent);
+    assert_eq!(rt; number.value(), 1);
+    assert_eq!(rt; copy.as_slice(), [4u8, 5].as_slice());
+}
+
+// The call that does not wait.
+#[test]
+fn newest_bytes_survive_a_refused_clone(rt: HostRuntime) {
+    let mut channel: LocalStateBroadcastChannel<Vec<u8>, u64> = LocalStateBroadcastChannel::new(
+        rt.alloc(),
+    );
+    let bytes = vec![in rt.alloc(); 4u8, 5].expect(&rt, "room");
+    let is_sent = channel.send(bytes).is_ok();
+    let state = match channel.try_receive(StateId::new()) {
+        Ok(state) => state,
+        Err(_) => channel.try_receive(StateId::new()).expect(&rt, "room"),
+    };
+    let (number, copy) = state.expect(&rt, "state");
+    assert!(rt; is_sent);
+    assert_eq!(rt; number.value(), 1);
+    assert_eq!(rt; copy.as_slice(), [4u8, 5].as_slice());
+}

@@ -1,0 +1,159 @@
+//! Each value is dropped once, whatever is dropped first, and with no lock held.
+
+use crate::channel::shared::{
+    ChannelReceiveFuture, ChannelSendFuture, Receiver, Sender, SharedChannelState, SharedStream,
+    channel,
+};
+use fi_channels::TrySendError;
+use fi_parts::buffer::GrowingHeapBuf;
+use futures::test::MockTask;
+use std::alloc::AllocGlobal;
+use std::process::Abort;
+use std::random::RandomSource;
+use std::rc::Rc;
+use std::sync::Wait;
+use std::sync::atomic::{AtomicBool, Ordering};
+use std::thread;
+
+type Counted = Rc<u64>;
+
+type State = SharedChannelState<Counted, GrowingHeapBuf<Counted>>;
+
+// What lives of a channel with a value buffered, one waiting, and one refused.
+#[derive(Drop)]
+struct Living<R: Wait + Drop> {
+    sender: Option<Sender<Counted, R>>,
+    receiver: Option<Receiver<Counted, R>>,
+    send: Option<ChannelSendFuture<State, R>>,
+    receive: Option<ChannelReceiveFuture<State, R>>,
+    stream: Option<SharedStream<Counted, GrowingHeapBuf<Counted>, R>>,
+    refused: Option<TrySendError<Counted>>,
+}
+
+fn owner(rt: &impl Abort, counted: &Counted) -> Counted {
+    counted.clone().expect(rt, "memory")
+}
+
+fn make_living<R>(rt: R, counted: &Counted) -> Living<R>
+where
+    R: Wait + Abort + Drop + Copy + RandomSource + AllocGlobal,
+{
+    let task = MockTask::new(&rt).expect(&rt, "memory");
+    let ends = channel::<Counted, R>(rt.alloc(), rt, 1);
+    let (sender, receiver) = ends.expect(&rt, "memory");
+    assert!(rt; sender.try_send(owner(&rt, counted)).is_ok());
+    let mut send = sender.send(owner(&rt, counted)).ok().expect(&rt, "memory");
+    assert!(rt; task.poll(&mut send).is_pending());
+    let refused = match sender.try_send(owner(&rt, counted)) {
+        Ok(()) => None,
+        Err(refused) => Some(refused),
+    };
+    let receive = receiver.receive().expect(&rt, "memory");
+    let other = receiver.clone().expect(&rt, "memory");
+    let stream = other.into_stream().ok().expect(&rt, "memory");
+    Living {
+        sender: Some(sender),
+        receiver: Some(receiver),
+        send: Some(send),
+        receive: Some(receive),
+        stream: Some(stream),
+        refused,
+    }
+}
+
+impl<R: Wait + Drop> Living<R> {
+    // Drops the part of this number, if it is still there.
+    fn let_go(&mut self, part: u32) {
+        match part {
+            0 => drop(self.sender.take()),
+            1 => drop(self.receiver.take()),
+            2 => drop(self.send.take()),
+            3 => drop(self.receive.take()),
+            _ => drop(self.stream.take()),
+        }
+    }
+}
+
+// Every order in which the parts can be dropped: four in turn, any of them, and then what is left.
+#[test]
+fn each_value_is_dropped_once(rt: HostRuntime) {
+    let counted = Rc::new(rt.alloc(), 7u64).expect(&rt, "memory");
+    for order in 0..625u32 {
+        let mut living = make_living(rt, &counted);
+        assert_eq!(rt; Rc::strong_count(&counted), 4);
+        living.let_go(order % 5);
+        living.let_go(order / 5 % 5);
+        living.let_go(order / 25 % 5);
+        living.let_go(order / 125);
+        drop(living);
+        assert_eq!(rt; Rc::strong_count(&counted), 1);
+    }
+}
+
+// Where two threads meet: one in a value's drop, the other with a call.
+#[derive(Drop)]
+struct Meeting {
+    has_begun: AtomicBool,
+    was_called: AtomicBool,
+    was_met: AtomicBool,
+}
+
+impl Meeting {
+    fn new() -> Self {
+        Meeting {
+            has_begun: AtomicBool::new(false),
+            was_called: AtomicBool::new(false),
+            was_met: AtomicBool::new(false),
+        }
+    }
+}
+
+// Whether it came to be set. It looks a bounded number of times.
+fn was_set(flag: &AtomicBool) -> bool {
+    for _ in 0..10_000_000u32 {
+        if flag.load(Ordering::SeqCst) {
+            return true;
+        }
+        thread::yield_now();
+    }
+    false
+}
+
+// A value whose drop lasts until the other thread's call is over, unless that never comes.
+struct Guest<'a> {
+    meeting: Option<&'a Meeting>,
+}
+
+impl Drop for Guest<'_> {
+    fn drop(self) {
+        let Guest { meeting } = self;
+        if let Some(meeting) = meeting {
+            meeting.has_begun.store(true, Ordering::SeqCst);
+            let is_met = was_set(&meeting.was_called);
+            meeting.was_met.store(is_met, Ordering::SeqCst);
+        }
+    }
+}
+
+// What the last receiver clears is let go while another thread sends.
+#[test]
+fn cleared_values_are_let_go_without_the_lock(rt: HostRuntime) {
+    let meeting = &Meeting::new();
+    let ends = channel::<Guest<'_>, HostRuntime>(rt.alloc(), rt, 2);
+    let (sender, receiver) = ends.expect(&rt, "memory");
+    let guest = Guest {
+        meeting: Some(meeting),
+    };
+    assert!(rt; sender.try_send(guest).is_ok());
+    let sends = move || {
+        let _ = was_set(&meeting.has_begun);
+        let is_closed = matches!(
+            sender.try_send(Guest { meeting: None }),
+            Err(TrySendError::Closed(_))
+        );
+        meeting.was_called.store(true, Ordering::SeqCst);
+        is_closed
+    };
+    let ((), is_closed) = thread::join(&rt, move || drop(receiver), sends);
+    assert!(rt; is_closed && meeting.was_met.load(Ordering::SeqCst));
+}

@@ -1,0 +1,192 @@
+//! Ends, futures and streams in several threads.
+
+use crate::channel::shared::{
+    Receiver, Sender, channel, oneshot_broadcast_channel, oneshot_channel, state_broadcast_channel,
+};
+use fi_parts::StateId;
+use futures::Future;
+use futures::executor::block_on;
+use futures::task::{Context, Poll};
+use futures::test::MockTask;
+use std::alloc::AllocGlobal;
+use std::process::Abort;
+use std::random::RandomSource;
+use std::sync::Wait;
+use std::sync::atomic::{AtomicBool, Ordering};
+use std::thread;
+use std::thread::Threads;
+
+const ROUNDS: u32 = 10_000;
+
+// What may be sent to another thread, as it was.
+fn sends<X: Send>(moved: X) -> X
+    ensures { result ≡ moved }
+{
+    moved
+}
+
+// A future that says that it is pending.
+#[derive(Drop)]
+struct Parking<'a, F> {
+    future: F,
+    is_parked: &'a AtomicBool,
+}
+
+impl<F: Future> Future for Parking<'_, F> {
+    type Output = F::Output;
+
+    ghost can_poll = { λ c. F.can_poll c.future };
+
+    ghost needs = { λ c. F.needs c.future };
+
+    ghost gives = { λ c. F.gives c.future };
+
+    fn poll(&mut self, cx: &mut Context<'_>) -> Poll<F::Output> {
+        let polled = self.future.poll(cx);
+        if polled.is_pending() {
+            self.is_parked.store(true, Ordering::SeqCst);
+        }
+        polled
+    }
+}
+
+// Whether it came to be set. It looks a bounded number of times.
+fn was_set(flag: &AtomicBool) -> bool {
+    for _ in 0..10_000_000u32 {
+        if flag.load(Ordering::SeqCst) {
+            return true;
+        }
+        thread::yield_now();
+    }
+    false
+}
+
+// One thread drops its last sender while the other waits for a value: the other is woken, and gets none.
+fn parts<R>(rt: R)
+where
+    R: Wait + Threads + Abort + Drop + Copy + RandomSource + AllocGlobal + Send + Sync,
+{
+    let is_parked = &AtomicBool::new(false);
+    let (sender, receiver) = channel::<u64, R>(rt.alloc(), rt, 1).expect(&rt, "memory");
+    let receive = Parking {
+        future: receiver.receive().expect(&rt, "memory"),
+        is_parked,
+    };
+    let rt = &rt;
+    let (received, was_parked) = thread::join(
+        rt,
+        move || block_on(rt, receive).ok(),
+        move || {
+            let was_parked = was_set(is_parked);
+            drop(sender);
+            was_parked
+        },
+    );
+    drop(receiver);
+    assert!(*rt; was_parked && received == Some(Ok(None)));
+}
+
+#[test]
+fn last_sender_wakes_a_parked_receive(rt: HostRuntime) {
+    parts(rt)
+}
+
+// Clones both ends and drops the clones, in each round. The ends that it was given are dropped at the end.
+fn clones<R: Wait + Drop>(sender: Sender<u64, R>, receiver: Receiver<u64, R>) {
+    for _ in 0..ROUNDS {
+        let _ = (sender.clone(), receiver.clone());
+    }
+}
+
+fn clone_all<'a, R>(rt: &'a R, sender: &'a Sender<u64, R>, receiver: &'a Receiver<u64, R>)
+where
+    R: Wait + Threads + Abort + RandomSource + AllocGlobal + Drop + Send + Sync,
+{
+    thread::scope(thread::scope_env(), rt, |scope| {
+        for _ in 0..4 {
+            if let (Ok(sender), Ok(receiver)) = (sender.clone(), receiver.clone()) {
+                let _ = scope.spawn(move || clones(sender, receiver));
+            }
+        }
+    });
+}
+
+// Four threads clone and drop ends: the counts are exact, so the channel stays open until the last end goes, and then closes once.
+fn counts<R>(rt: R)
+where
+    R: Wait + Threads + Abort + Drop + Copy + RandomSource + AllocGlobal + Send + Sync,
+{
+    let task = MockTask::new(&rt).expect(&rt, "memory");
+    let (sender, receiver) = channel::<u64, R>(rt.alloc(), rt, 1).expect(&rt, "memory");
+    let mut receive = receiver.receive().expect(&rt, "memory");
+    clone_all(&rt, &sender, &receiver);
+    assert!(rt; task.poll(&mut receive).is_pending() && !task.is_woken());
+    drop(sender);
+    assert!(rt; task.is_woken() && task.poll(&mut receive) == Poll::Ready(Ok(None)));
+    assert!(rt; !receiver.close().is_newly_closed());
+}
+
+#[test]
+fn four_threads_clone_and_drop_ends(rt: HostRuntime) {
+    counts(rt)
+}
+
+// Ends, futures and streams of a channel are moved to another thread.
+fn channel_crosses<R>(rt: R)
+where
+    R: Wait + Threads + Abort + Drop + Copy + RandomSource + AllocGlobal + Send + Sync,
+{
+    let (sender, receiver) = channel::<u64, R>(rt.alloc(), rt, 2).expect(&rt, "memory");
+    let (sender, receiver) = (sends(sender), sends(receiver));
+    let send = sends(sender.send(7).ok().expect(&rt, "memory"));
+    let receive = sends(receiver.receive().expect(&rt, "memory"));
+    let stream = sends(receiver.into_stream().ok().expect(&rt, "memory"));
+    let rt = &rt;
+    let (received, is_sent) = thread::join(
+        rt,
+        move || {
+            let is_open = !stream.is_terminated();
+            drop(stream);
+            (block_on(rt, receive).ok(), is_open)
+        },
+        move || {
+            drop(sender);
+            matches!(block_on(rt, send), Ok(_))
+        },
+    );
+    assert!(*rt; is_sent && received.1);
+}
+
+// Ends and futures of the other channels are moved to another thread.
+fn others_cross<R>(rt: R)
+where
+    R: Wait + Threads + Abort + Drop + Copy + RandomSource + AllocGlobal + Send + Sync,
+{
+    let (sender, receiver) = oneshot_channel::<u64, R>(rt.alloc(), rt).expect(&rt, "memory");
+    let receive = sends(receiver.receive().expect(&rt, "memory"));
+    let ends = oneshot_broadcast_channel::<u64, R>(rt.alloc(), rt);
+    let (clone_sender, clone_receiver) = ends.expect(&rt, "memory");
+    let clone_receive = sends(clone_receiver.receive().expect(&rt, "memory"));
+    let ends = state_broadcast_channel::<u64, R>(rt.alloc(), rt);
+    let (state_sender, state_receiver) = ends.expect(&rt, "memory");
+    let state_receive = sends(state_receiver.receive(StateId::new()).expect(&rt, "memory"));
+    let rt = &rt;
+    let receives = move || {
+        let is_received = matches!(block_on(rt, receive), Ok(Ok(Some(1))));
+        let is_cloned = matches!(block_on(rt, clone_receive), Ok(Ok(Some(2))));
+        let is_newest = matches!(block_on(rt, state_receive), Ok(Ok(Some((_, 3)))));
+        is_received && is_cloned && is_newest
+    };
+    let gives = move || {
+        let is_sent = sender.send(1).is_ok() && clone_sender.send(2).is_ok();
+        is_sent && state_sender.send(3).is_ok()
+    };
+    let (is_received, is_sent) = thread::join(rt, receives, gives);
+    assert!(*rt; is_received && is_sent);
+}
+
+#[test]
+fn ends_cross_threads(rt: HostRuntime) {
+    channel_crosses(rt);
+    others_cross(rt)
+}

@@ -1,0 +1,54 @@
+//! The semaphore: its local futures, and the permits that they acquire.
+
+use fi_locks::LocalSemaphore;
+use futures::task::Poll;
+
+#[test]
+fn a_local_future_and_its_permits(rt: HostRuntime) {
+    let mut semaphore: LocalSemaphore<u64> = LocalSemaphore::new(rt.alloc(), true, 3);
+    let mut future = semaphore.acquire(2).expect(&rt, "room");
+    let was_ended = future.is_terminated();
+    let answer = future.poll(&mut semaphore, 1);
+    let is_ended = future.is_terminated();
+    future.cancel(&mut semaphore);
+    let mut count = usize::MAX;
+    if let Poll::Ready(releaser) = answer {
+        count = releaser.permits();
+        releaser.give_back(&mut semaphore);
+    }
+    assert!(rt; !was_ended && is_ended);
+    assert_eq!(rt; count, 2);
+    assert_eq!(rt; (semaphore.permits(), semaphore.held()), (3, 0));
+}
+
+#[test]
+fn semaphore_disarm(rt: HostRuntime) {
+    let mut semaphore: LocalSemaphore<u64> = LocalSemaphore::new(rt.alloc(), false, 2);
+    let mut disarmed = 0;
+    let mut left = usize::MAX;
+    if let Some(mut releaser) = semaphore.try_acquire(2) {
+        disarmed = releaser.disarm(&mut semaphore);
+        left = releaser.permits();
+        releaser.give_back(&mut semaphore);
+    }
+    assert_eq!(rt; (disarmed, left), (2, 0));
+    assert_eq!(rt; semaphore.held(), 0);
+    assert_eq!(rt; semaphore.release(2), Ok(()));
+    assert_eq!(rt; semaphore.permits(), 2);
+}
+
+#[test]
+fn a_waiting_future_is_told_and_leaves(rt: HostRuntime) {
+    let mut semaphore: LocalSemaphore<u64> = LocalSemaphore::new(rt.alloc(), true, 1);
+    let mut future = semaphore.acquire(2).expect(&rt, "room");
+    let answer = future.poll(&mut semaphore, 1);
+    let released = semaphore.release(1);
+    let woken = semaphore.next_wake();
+    future.cancel(&mut semaphore);
+    assert!(rt; answer.is_pending());
+    if let Poll::Ready(permits) = answer {
+        permits.give_back(&mut semaphore);
+    }
+    assert_eq!(rt; (released, woken), (Ok(()), Some(1)));
+    assert_eq!(rt; semaphore.permits(), 2);
+}

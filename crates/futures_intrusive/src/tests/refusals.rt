@@ -1,0 +1,9 @@
+//! Each request for memory is refused in turn, by taking all memory that the process can have.
+//!
+//! Where nothing is refused, as in a run without proofs, `memory_runs_out` fails and the others say nothing.
+mod boxes;
+mod buffers;
+mod hoard;
+mod journals;
+mod scene;
+mod values;
