@@ -5,4 +5,6 @@ mod locks;
 mod parts;
 mod paths;
 mod refusals;
+mod tasks;
 mod texts;
+mod threads;

@@ -2,6 +2,7 @@
 
 mod debug;
 mod drops;
+mod flavours;
 mod threads;
 
 use crate::channel::shared::{

@@ -3,87 +3,44 @@
 use crate::channel::shared::{
     Receiver, Sender, channel, oneshot_broadcast_channel, oneshot_channel, state_broadcast_channel,
 };
+use crate::tests::tasks::{Counting, sends, were_polled};
 use fi_parts::StateId;
-use futures::Future;
 use futures::executor::block_on;
-use futures::task::{Context, Poll};
+use futures::task::Poll;
 use futures::test::MockTask;
 use std::alloc::AllocGlobal;
 use std::process::Abort;
 use std::random::RandomSource;
 use std::sync::Wait;
-use std::sync::atomic::{AtomicBool, Ordering};
+use std::sync::atomic::AtomicU64;
 use std::thread;
 use std::thread::Threads;
 
 const ROUNDS: u32 = 10_000;
-
-// What may be sent to another thread, as it was.
-fn sends<X: Send>(moved: X) -> X
-    ensures { result ≡ moved }
-{
-    moved
-}
-
-// A future that says that it is pending.
-#[derive(Drop)]
-struct Parking<'a, F> {
-    future: F,
-    is_parked: &'a AtomicBool,
-}
-
-impl<F: Future> Future for Parking<'_, F> {
-    type Output = F::Output;
-
-    ghost can_poll = { λ c. F.can_poll c.future };
-
-    ghost needs = { λ c. F.needs c.future };
-
-    ghost gives = { λ c. F.gives c.future };
-
-    fn poll(&mut self, cx: &mut Context<'_>) -> Poll<F::Output> {
-        let polled = self.future.poll(cx);
-        if polled.is_pending() {
-            self.is_parked.store(true, Ordering::SeqCst);
-        }
-        polled
-    }
-}
-
-// Whether it came to be set. It looks a bounded number of times.
-fn was_set(flag: &AtomicBool) -> bool {
-    for _ in 0..10_000_000u32 {
-        if flag.load(Ordering::SeqCst) {
-            return true;
-        }
-        thread::yield_now();
-    }
-    false
-}
 
 // One thread drops its last sender while the other waits for a value: the other is woken, and gets none.
 fn parts<R>(rt: R)
 where
     R: Wait + Threads + Abort + Drop + Copy + RandomSource + AllocGlobal + Send + Sync,
 {
-    let is_parked = &AtomicBool::new(false);
+    let polls = &AtomicU64::new(0);
     let (sender, receiver) = channel::<u64, R>(rt.alloc(), rt, 1).expect(&rt, "memory");
-    let receive = Parking {
+    let receive = Counting {
         future: receiver.receive().expect(&rt, "memory"),
-        is_parked,
+        polls,
     };
     let rt = &rt;
-    let (received, was_parked) = thread::join(
+    let (received, was_polled) = thread::join(
         rt,
         move || block_on(rt, receive).ok(),
         move || {
-            let was_parked = was_set(is_parked);
+            let was_polled = were_polled(polls, 1);
             drop(sender);
-            was_parked
+            was_polled
         },
     );
     drop(receiver);
-    assert!(*rt; was_parked && received == Some(Ok(None)));
+    assert!(*rt; was_polled && received == Some(Ok(None)));
 }
 
 #[test]
