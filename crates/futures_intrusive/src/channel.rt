@@ -1,4 +1,18 @@
 //! Channels. Keeps futures-intrusive's `channel`.
+//!
+//! Take a `Channel` (its places in the value itself), a `GenericChannel` over a buffer of the heap or an `UnbufferedChannel` where
+//! each value goes to one receive, in the order sent; a `OneshotChannel` for one value that goes to one receive, a
+//! `OneshotBroadcastChannel` for one that goes to all, and a `StateBroadcastChannel` where only the newest of many matters. All are
+//! shared by reference; `shared` has the same channels with ends that are owned and counted.
+//!
+//! ```
+//! let channel = Channel::<u64, 2, HostRuntime>::new(rt.alloc(), rt);
+//! assert!(rt; channel.try_send(1).is_ok() && channel.try_send(2).is_ok());
+//! assert!(rt; channel.try_send(3).is_err());                       // full: `send(3)` would wait
+//! channel.close();
+//! assert!(rt; channel.try_receive() == Ok(1) && channel.try_receive() == Ok(2));
+//! assert!(rt; channel.try_receive() == Err(TryReceiveError::Closed));
+//! ```
 
 pub mod shared;
 

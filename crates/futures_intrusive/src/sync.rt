@@ -1,4 +1,17 @@
 //! Events, mutexes and semaphores. Keeps futures-intrusive's `sync`.
+//!
+//! Take a `ManualResetEvent` where many wait until something has happened, a `Mutex` where one at a time uses a value, and a
+//! `Semaphore` where at most so many pass at a time; a `SharedSemaphore` owns a share of its state, so its futures and releasers can
+//! outlive the maker. The types that begin with `Local` are for one thread, and those that end in `State` for callers that name
+//! futures by slots.
+//!
+//! ```
+//! let event = ManualResetEvent::new(rt.alloc(), rt, false);
+//! let mut wait = event.wait()?;
+//! assert!(rt; task.poll(&mut wait).is_pending());
+//! event.set();                                                     // wakes the task
+//! assert!(rt; task.is_woken() && task.poll(&mut wait) == Poll::Ready(Ok(())));
+//! ```
 
 pub use fi_channels::{EventState, LocalManualResetEvent, LocalWaitForEventFuture};
 pub use fi_locks::{

@@ -2,6 +2,7 @@
 mod channels;
 mod ends;
 mod locks;
+mod pages;
 mod parts;
 mod paths;
 mod refusals;

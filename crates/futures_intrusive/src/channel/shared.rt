@@ -4,6 +4,16 @@
 //! A channel closes when the last of its senders or of its receivers is dropped; so a worker that receives until it gets None ends
 //! by itself once all who send are gone. Choose these where ends are moved to tasks or threads that outlive the maker, and the
 //! channels of `channel` where all users can borrow one value.
+//!
+//! ```
+//! let (sender, receiver) = channel::<u64, HostRuntime>(rt.alloc(), rt, 2)?;
+//! let other = sender.clone()?;
+//! drop(other);                                                     // one sender is left
+//! assert!(rt; sender.try_send(1).is_ok());
+//! drop(sender);                                                    // the last one: the channel closes
+//! assert!(rt; receiver.try_receive() == Ok(1));
+//! assert!(rt; receiver.try_receive() == Err(TryReceiveError::Closed));
+//! ```
 
 pub use crate::channel_ends::{
     ChannelReceiveFuture, ChannelSendFuture, GenericReceiver, GenericSender, Receiver, Sender,
