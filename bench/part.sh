@@ -14,7 +14,7 @@ else
     trap 'rm -rf "$work"' EXIT
 fi
 case $program in
-    bench_sync) crates="fi_parts fi_channels fi_locks fi_sync" ;;
+    bench_sync) crates="fi_parts fi_channels fi_locks fi_run fi_sync futures_intrusive" ;;
     *) crates="fi_parts fi_channels fi_locks fi_run" ;;
 esac
 mkdir -p "$work/crates/$program/src" "$work/crates/$program/specs"

@@ -1,5 +1,5 @@
 #!/bin/sh
-# Times the thread-safe mutex, semaphore and channel by call, ours and those of the Rust crate in turn, nine times each, and prints the least
+# Times the thread-safe mutex, semaphore and channel, and the shared ends of a channel, by call, ours and those of the Rust crate in turn, nine times each, and prints the least
 # times in nanoseconds for each call with its counterpart: `bench/sync.sh OUT/sync`, a program that bench/rust/build.sh made. Ours is
 # proved and built first, beside a copy of the crates that it uses.
 set -eu

@@ -2,6 +2,7 @@
 
 use futures_intrusive::buffer::ArrayBuf;
 use futures_intrusive::channel::GenericChannel;
+use futures_intrusive::channel::shared::{generic_channel, GenericReceiver, GenericSender};
 use futures_intrusive::sync::{GenericMutex, GenericSemaphore};
 use lock_api::StdLock;
 use std::future::Future;
@@ -13,6 +14,8 @@ use std::time::Instant;
 type Mutex = GenericMutex<StdLock, u64>;
 type Semaphore = GenericSemaphore<StdLock>;
 type Channel = GenericChannel<StdLock, u64, ArrayBuf<u64, [u64; 2]>>;
+type Sender = GenericSender<StdLock, u64, ArrayBuf<u64, [u64; 2]>>;
+type Receiver = GenericReceiver<StdLock, u64, ArrayBuf<u64, [u64; 2]>>;
 
 fn try_lock_pairs(mutex: &Mutex, count: u64) -> u64 {
     let mut done = 0;
@@ -102,6 +105,50 @@ fn send_pairs(channel: &Channel, cx: &mut Context, count: u64) -> u64 {
     done
 }
 
+fn try_end_sends(sender: &Sender, count: u64) -> u64 {
+    let mut done = 0;
+    while done < count {
+        if sender.try_send(done).is_ok() {
+            done += 1;
+        }
+    }
+    done
+}
+
+fn try_end_receives(receiver: &Receiver, count: u64) -> u64 {
+    let mut done = 0;
+    while done < count {
+        if receiver.try_receive().is_ok() {
+            done += 1;
+        }
+    }
+    done
+}
+
+fn try_end_pairs(sender: &Sender, receiver: &Receiver, count: u64) -> u64 {
+    let mut done = 0;
+    for i in 0..count {
+        let is_sent = sender.try_send(i).is_ok();
+        if is_sent && receiver.try_receive().is_ok() {
+            done += 1;
+        }
+    }
+    done
+}
+
+fn end_pairs(sender: &Sender, receiver: &Receiver, cx: &mut Context, count: u64) -> u64 {
+    let mut done = 0;
+    for i in 0..count {
+        let send = pin!(sender.send(i));
+        let is_sent = send.poll(cx).is_ready();
+        let receive = pin!(receiver.receive());
+        if is_sent && receive.poll(cx).is_ready() {
+            done += 1;
+        }
+    }
+    done
+}
+
 fn timed(name: &str, count: u64, load: impl FnOnce() -> u64) {
     let start = Instant::now();
     let done = load();
@@ -126,6 +173,10 @@ fn main() {
         both(|| try_acquire_pairs(&semaphore, count / 2), || try_acquire_pairs(&semaphore, count / 2))
     });
     timed("two_send", count, || both(|| try_sends(&channel, count), || try_receives(&channel, count)) / 2);
+    let (sender, receiver) = generic_channel::<StdLock, u64, ArrayBuf<u64, [u64; 2]>>(2);
+    timed("end_try_send", count, || try_end_pairs(&sender, &receiver, count));
+    timed("end_send", count, || end_pairs(&sender, &receiver, &mut cx, count));
+    timed("two_end_send", count, || both(|| try_end_sends(&sender, count), || try_end_receives(&receiver, count)) / 2);
 }
 
 fn both(first: impl FnOnce() -> u64 + Send, second: impl FnOnce() -> u64 + Send) -> u64 {
