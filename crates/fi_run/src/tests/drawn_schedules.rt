@@ -1,14 +1,14 @@
 //! Drawn lists of calls: each primitive answers them as a plain reference of its machine does, wakes the same wakers in the same order,
 //! and owes no wake. The references hold no lists: who is queued since when, and named since when, stands in arrays.
-//!
-//! Mutex and semaphore have such tests in `fi_locks`.
 use crate::Primitive;
 use std::alloc::Global;
 use std::test::Fail;
 
 mod channel;
 mod event;
+mod mutex;
 mod one_value;
+mod semaphore;
 mod state;
 mod timer;
 mod waiters;
@@ -113,7 +113,8 @@ where
     }
 }
 
-// Draws lists of one to eight calls, each on a primitive made anew.
+// Draws lists of eight calls. Each of a list's beginnings runs on a primitive made anew, so that what is to be woken is compared after
+// each call.
 fn agree<P: Primitive + Drop, R: Reference<P> + Copy + Drop>(
     alloc: Global,
     opening: P::Opening,
@@ -126,14 +127,18 @@ where
     P::Answer: PartialEq,
 {
     let mut draws = Draws(1);
-    for round in 0..20_000u64 {
-        let primitive = P::open(alloc, opening)?;
-        let mut pair = Pair {
-            primitive,
-            reference,
-        };
-        if !pair.agrees_on_drawn(case, &mut draws, 1 + round % 8) {
-            return Ok(false);
+    for _ in 0..20_000u64 {
+        let first = draws;
+        for count in 0..9u64 {
+            draws = first;
+            let primitive = P::open(alloc, opening)?;
+            let mut pair = Pair {
+                primitive,
+                reference,
+            };
+            if !pair.agrees_on_drawn(case, &mut draws, count) {
+                return Ok(false);
+            }
         }
     }
     Ok(true)

@@ -4,10 +4,7 @@ mod debug;
 mod drops;
 mod makings;
 mod mutex;
-mod mutex_reference;
-mod reference;
 mod semaphore;
-mod semaphore_reference;
 
 use fi_locks::{LocalTimerService, TimerState};
 use fi_parts::Slot;

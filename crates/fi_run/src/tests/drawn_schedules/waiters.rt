@@ -25,19 +25,19 @@ pub(super) struct PlainWaiters {
     ranks: u64,
 }
 
-// Which of these has the least rank.
-fn least(ranks: &[Option<u64>; 4], names: &[usize]) -> Option<usize> {
+// Which of these has the least rank above this one, and that rank.
+fn least(ranks: &[Option<u64>; 4], names: &[usize], above: u64) -> Option<(u64, usize)> {
     let mut least: Option<(u64, usize)> = None;
     for name in names {
         if let Some(Some(rank)) = ranks.get(*name) {
             match least {
+                _ if *rank <= above => (),
                 Some((before, _)) if before <= *rank => (),
                 _ => least = Some((*rank, *name)),
             }
         }
     }
-    let (_, name) = least?;
-    Some(name)
+    least
 }
 
 fn put<T: Copy>(places: &mut [T; 4], name: usize, value: T) {
@@ -113,7 +113,20 @@ impl PlainWaiters {
 
     // Who of these has waited longest.
     pub(super) fn oldest(&self, names: &[usize]) -> Option<usize> {
-        least(&self.queued, names)
+        let (_, name) = least(&self.queued, names, 0)?;
+        Some(name)
+    }
+
+    // Who is queued next behind this rank, with its own. Ranks begin at 1.
+    pub(super) fn queued_behind(&self, rank: u64) -> Option<(u64, usize)> {
+        least(&self.queued, &ALL, rank)
+    }
+
+    // It is told and to be woken, after the others, and keeps its place in the queue.
+    pub(super) fn tell_in_place(&mut self, name: usize) {
+        let rank = self.next_rank();
+        put(&mut self.stages, name, Stage::Told);
+        put(&mut self.named, name, Some(rank));
     }
 
     // It leaves the queue for this stage, and is to be woken, after the others.
@@ -145,9 +158,9 @@ impl PlainWaiters {
 
     // Each future's waker is its place and one.
     pub(super) fn next_wake(&mut self) -> Answer<u64, u64> {
-        let named = least(&self.named, &ALL);
+        let named = least(&self.named, &ALL, 0);
         match named {
-            Some(name) => {
+            Some((_, name)) => {
                 put(&mut self.named, name, None);
                 Answer::Woken(Some((name as u64).wrapping_add(1)))
             }
