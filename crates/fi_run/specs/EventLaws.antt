@@ -39,22 +39,22 @@ told_seen (Some Ended) = refl
 
 module _ {W : Type 0} where
   -- Each step is a line of the table.
-  is_line : (old : EventMachine W) (call : EventCall W) (answer : Answer ℕ W) (new : EventMachine W) → Step old call answer new →
+  pub event_is_line : (old : EventMachine W) (call : EventCall W) (answer : Answer ℕ W) (new : EventMachine W) → Step old call answer new →
       Line rules (on_wakers (subject call) answer) old new
-  is_line old call (Refused fault) new did = unchanged rules old new did.1
-  is_line old Wait (Made slot) new did = inserts rules slot.0 tt old new did
-  is_line old (Poll slot waker) Ready new did = (laws.polled old slot.0 waker (polled.Ready tt) new did).line
-  is_line old (Poll slot waker) Pending new did = (laws.polled old slot.0 waker polled.Pending new did).line
-  is_line old (Cancel slot) Done new did = removes rules slot.0 old new did
-  is_line old Set Done new did = laws.was_set old new did
-  is_line old Reset Done new did = laws.was_reset old new did
-  is_line old IsSet (Flag flag) new did = unchanged rules old new did.1
-  is_line old NextWake (Woken waker) new did = pops rules waker old new did
-  is_line old call answer new did = absurd did
+  event_is_line old call (Refused fault) new did = unchanged rules old new did.1
+  event_is_line old Wait (Made slot) new did = inserts rules slot.0 tt old new did
+  event_is_line old (Poll slot waker) Ready new did = (laws.polled old slot.0 waker (polled.Ready tt) new did).line
+  event_is_line old (Poll slot waker) Pending new did = (laws.polled old slot.0 waker polled.Pending new did).line
+  event_is_line old (Cancel slot) Done new did = removes rules slot.0 old new did
+  event_is_line old Set Done new did = laws.was_set old new did
+  event_is_line old Reset Done new did = laws.was_reset old new did
+  event_is_line old IsSet (Flag flag) new did = unchanged rules old new did.1
+  event_is_line old NextWake (Woken waker) new did = pops rules waker old new did
+  event_is_line old call answer new did = absurd did
 
   pub event_keeps : (old : EventMachine W) (call : EventCall W) (answer : Answer ℕ W) (new : EventMachine W) →
       IsSound old → OwesNoWake old → Step old call answer new → IsSound new × OwesNoWake new
-  event_keeps old call answer new sound no_wake did = line_preserves rules old new (is_line old call answer new did) (sound, no_wake)
+  event_keeps old call answer new sound no_wake did = line_preserves rules old new (event_is_line old call answer new did) (sound, no_wake)
 
   -- What a poll did: the wait's phase now, and that it says what was seen since its first poll.
   record Polled (old new : EventMachine W) (name : ℕ) (answer : polls.Poll (Unit {0})) : Type 0 where
@@ -113,7 +113,7 @@ module _ {W : Type 0} where
     set_seen false sound no_wake is did q = phases_after rules true (NotifiesAll Tell) old new sound refl did q
 
   -- the flag after each step
-  flag_after_step : (old : EventMachine W) (call : EventCall W) (answer : Answer ℕ W) (new : EventMachine W) → IsSound old →
+  pub flag_after_step : (old : EventMachine W) (call : EventCall W) (answer : Answer ℕ W) (new : EventMachine W) → IsSound old →
       Step old call answer new → flag_step call answer old.own ≡ new.own
   flag_after_step old call (Refused fault) new sound did = ap (λ (s : EventMachine W). s.own) (sym did.1)
   flag_after_step old Wait (Made slot) new sound did = sym did.0
@@ -194,7 +194,7 @@ module _ {W : Type 0} where
           was.polls,
         );
         wakers = line_keeps_wakers rules (λ entry. on_wakers (subject entry.0) entry.1) first.waiting history (call, answer) old new sound
-            (is_line old call answer new did) was.wakers;
+            (event_is_line old call answer new did) was.wakers;
       }
 
 pub event_takes_oldest : {W : Type 0} (old : EventMachine W) (answer : Answer ℕ W) (new : EventMachine W)

@@ -31,3 +31,7 @@ pub mod ChannelOrder
 pub mod ChannelSteps
 pub mod ChannelStreams
 pub mod ChannelLaws
+pub mod Pool
+pub mod PoolHistory
+pub mod PoolFields
+pub mod PoolLaws
