@@ -8,6 +8,7 @@ mod channel;
 mod event;
 mod mutex;
 mod one_value;
+mod pool;
 mod semaphore;
 mod state;
 mod timer;
