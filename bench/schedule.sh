@@ -1,5 +1,5 @@
 #!/bin/sh
-# Times the built program on a script of N futures (100000 if not given): `bench/schedule.sh event|timer|semaphore|channel N`, and prints
+# Times the built program on a script of N futures (100000 if not given): `bench/schedule.sh event|timer|semaphore|channel|pool N`, and prints
 # the best of five runs in nanoseconds a line. `rt run` proves and builds the program first, if it is not up to date.
 set -eu
 here=$(cd "$(dirname "$0")" && pwd)

@@ -1,7 +1,8 @@
 #!/bin/sh
-# Writes a script of N futures (100000 if not given): `bench/script.sh event|timer|semaphore|channel N`. Each is made and polled, told
+# Writes a script of N futures (100000 if not given): `bench/script.sh event|timer|semaphore|channel|pool N`. Each is made and polled, told
 # and polled again: waits for an event by one `set`; deadlines in a drawn order, of which every tenth is cancelled, by a hundred checks;
-# acquires one by one, each when the one before it gives its permit back; sends on a full channel, each by a receive.
+# acquires one by one, each when the one before it gives its permit back; sends on a full channel, each by a receive. Of a pool, N jobs
+# are submitted, started and finished.
 kind=${1:-event}
 awk -v kind="$kind" -v n="${2:-100000}" '
 function drawn(place) { return (place * 40021 + 7919) % n }
@@ -29,5 +30,8 @@ BEGIN {
         print "try-send 1"; print "try-send 2"
         for (i = 1; i <= n; i++) { print "send w" i " " i; print "poll w" i " " i }
         for (i = 1; i <= n; i++) { print "try-receive"; print "poll w" i " 1" }
+    } else if (kind == "pool") {
+        print "pool 2 2"
+        for (i = 1; i <= n; i++) { print "submit " i; print "start"; print "finish" }
     } else exit 2
 }'
