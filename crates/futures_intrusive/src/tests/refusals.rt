@@ -6,4 +6,5 @@ mod buffers;
 mod hoard;
 mod journals;
 mod scene;
+mod shared;
 mod values;
