@@ -23,7 +23,11 @@ mod shared_semaphore;
 mod slot_future;
 mod state_broadcast;
 mod tally;
+#[cfg(test)]
+mod tests;
 mod timer;
+#[cfg(test)]
+mod uses;
 mod wakes;
 
 pub use channel::{Channel, GenericChannel, UnbufferedChannel};

@@ -8,4 +8,3 @@ mod paths;
 mod refusals;
 mod tasks;
 mod texts;
-mod threads;

@@ -1,4 +1,3 @@
 //! Small programs over the primitives, each run by a test.
 mod one_thread;
-mod threads;
 mod worker_pool;

@@ -88,7 +88,7 @@ fn four_threads_clone_and_drop_ends(rt: HostRuntime) {
     counts(rt)
 }
 
-// Ends, futures and streams of a channel are moved to another thread.
+// Ends and futures of a channel are moved to other threads.
 fn channel_crosses<R>(rt: R)
 where
     R: Wait + Threads + Abort + Drop + Copy + RandomSource + AllocGlobal + Send + Sync,
@@ -97,53 +97,93 @@ where
     let (sender, receiver) = (sends(sender), sends(receiver));
     let send = sends(sender.send(7).ok().expect(&rt, "memory"));
     let receive = sends(receiver.receive().expect(&rt, "memory"));
-    let stream = sends(receiver.into_stream().ok().expect(&rt, "memory"));
     let rt = &rt;
     let (received, is_sent) = thread::join(
         rt,
         move || {
-            let is_open = !stream.is_terminated();
-            drop(stream);
-            (block_on(rt, receive).ok(), is_open)
+            let received = block_on(rt, receive).ok();
+            drop(receiver);
+            received
         },
         move || {
+            let is_sent = matches!(block_on(rt, send), Ok(Ok(())));
             drop(sender);
-            matches!(block_on(rt, send), Ok(_))
+            is_sent
         },
     );
-    assert!(*rt; is_sent && received.1);
+    assert!(*rt; is_sent && received == Some(Ok(Some(7))));
 }
 
-// Ends and futures of the other channels are moved to another thread.
-fn others_cross<R>(rt: R)
+// A stream is moved to another thread.
+fn stream_crosses<R>(rt: R)
+where
+    R: Wait + Threads + Abort + Drop + Copy + RandomSource + AllocGlobal + Send + Sync,
+{
+    let (sender, receiver) = channel::<u64, R>(rt.alloc(), rt, 1).expect(&rt, "memory");
+    let stream = sends(receiver.into_stream().ok().expect(&rt, "memory"));
+    let (is_open, ()) = thread::join(&rt, move || !stream.is_terminated(), || ());
+    assert!(rt; is_open && sender.try_send(1).is_err());
+}
+
+// Ends and a receive of a channel of one value are moved to other threads.
+fn oneshot_crosses<R>(rt: R)
 where
     R: Wait + Threads + Abort + Drop + Copy + RandomSource + AllocGlobal + Send + Sync,
 {
     let (sender, receiver) = oneshot_channel::<u64, R>(rt.alloc(), rt).expect(&rt, "memory");
     let receive = sends(receiver.receive().expect(&rt, "memory"));
-    let ends = oneshot_broadcast_channel::<u64, R>(rt.alloc(), rt);
-    let (clone_sender, clone_receiver) = ends.expect(&rt, "memory");
-    let clone_receive = sends(clone_receiver.receive().expect(&rt, "memory"));
-    let ends = state_broadcast_channel::<u64, R>(rt.alloc(), rt);
-    let (state_sender, state_receiver) = ends.expect(&rt, "memory");
-    let state_receive = sends(state_receiver.receive(StateId::new()).expect(&rt, "memory"));
     let rt = &rt;
-    let receives = move || {
-        let is_received = matches!(block_on(rt, receive), Ok(Ok(Some(1))));
-        let is_cloned = matches!(block_on(rt, clone_receive), Ok(Ok(Some(2))));
-        let is_newest = matches!(block_on(rt, state_receive), Ok(Ok(Some((_, 3)))));
-        is_received && is_cloned && is_newest
+    let (received, is_sent) = thread::join(
+        rt,
+        move || block_on(rt, receive).ok(),
+        move || sender.send(7).is_ok(),
+    );
+    assert!(*rt; is_sent && received == Some(Ok(Some(7))));
+}
+
+// The same of a broadcast.
+fn broadcast_crosses<R>(rt: R)
+where
+    R: Wait + Threads + Abort + Drop + Copy + RandomSource + AllocGlobal + Send + Sync,
+{
+    let ends = oneshot_broadcast_channel::<u64, R>(rt.alloc(), rt);
+    let (sender, receiver) = ends.expect(&rt, "memory");
+    let receive = sends(receiver.receive().expect(&rt, "memory"));
+    let rt = &rt;
+    let (received, is_sent) = thread::join(
+        rt,
+        move || block_on(rt, receive).ok(),
+        move || sender.send(7).is_ok(),
+    );
+    assert!(*rt; is_sent && received == Some(Ok(Some(7))));
+}
+
+// The same of states.
+fn state_crosses<R>(rt: R)
+where
+    R: Wait + Threads + Abort + Drop + Copy + RandomSource + AllocGlobal + Send + Sync,
+{
+    let ends = state_broadcast_channel::<u64, R>(rt.alloc(), rt);
+    let (sender, receiver) = ends.expect(&rt, "memory");
+    let receive = sends(receiver.receive(StateId::new()).expect(&rt, "memory"));
+    let rt = &rt;
+    let received = move || match block_on(rt, receive) {
+        Ok(Ok(Some((_, value)))) => value,
+        _ => 0,
     };
-    let gives = move || {
-        let is_sent = sender.send(1).is_ok() && clone_sender.send(2).is_ok();
-        is_sent && state_sender.send(3).is_ok()
-    };
-    let (is_received, is_sent) = thread::join(rt, receives, gives);
-    assert!(*rt; is_received && is_sent);
+    let (value, is_sent) = thread::join(rt, received, move || sender.send(7).is_ok());
+    assert!(*rt; is_sent && value == 7);
 }
 
 #[test]
 fn ends_cross_threads(rt: HostRuntime) {
     channel_crosses(rt);
-    others_cross(rt)
+    stream_crosses(rt);
+}
+
+#[test]
+fn other_ends_cross_threads(rt: HostRuntime) {
+    oneshot_crosses(rt);
+    broadcast_crosses(rt);
+    state_crosses(rt);
 }

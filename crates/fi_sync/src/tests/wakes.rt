@@ -1,0 +1,92 @@
+//! How many wakers a payment takes, against a state of the test's own.
+ghost use Rattle.std.specs.Prelude.{◌≡◌, length};
+ghost use Rattle.fi_sync.specs.Wakes.{TakesOldest};
+
+use super::are_woken;
+use crate::{HasOutbox, Owed};
+use futures::task::{Doorbell, Poll, Queue, Source, Waker};
+use std::process::Abort;
+use std::sync::{Mutex, Wait};
+use std::test::Fail;
+
+// Wakers that are to be woken, the oldest first.
+#[derive(Drop)]
+struct Named {
+    wakers: Vec<Waker>,
+}
+
+impl HasOutbox for Named {
+    ghost use Rattle.std.specs.Vec.{vec_items};
+
+    ghost wakers = { λ named. vec_items named.wakers };
+
+    ghost wakes = { λ old answer new. TakesOldest (vec_items old.wakers) answer (vec_items new.wakers) };
+
+    fn next_wake(&mut self) -> Option<Waker> {
+        if self.wakers.is_empty() {
+            return None;
+        }
+        Some(self.wakers.remove(0))
+    }
+
+    fn wake_count(&self) -> usize {
+        self.wakers.len()
+    }
+}
+
+// A waker of a task of its own, and that task.
+fn waker<R: Wait + Abort>(rt: &R, tasks: &Queue, source: &Source) -> (Waker, usize) {
+    let vacancy = tasks.add().expect(rt, "memory");
+    let task = vacancy.task();
+    vacancy.schedule();
+    let mut cx = tasks.next(rt).expect(rt, "a task is queued");
+    let mut slot = None;
+    let _pending: Poll<()> = cx.register(source, &mut slot);
+    cx.park();
+    (slot.expect(rt, "a waker"), task)
+}
+
+// Six are named by the time that five wakes, which were owed, are paid: the five oldest are woken, and the sixth stays.
+#[test]
+fn a_payment_takes_what_was_owed(rt: HostRuntime) {
+    let tasks = &Queue::new(&rt, Doorbell::spinning()).expect(&rt, "memory");
+    let source = &Source::new();
+    let mut wakers = Vec::new(rt.alloc());
+    let mut owed_to = Vec::new(rt.alloc());
+    for _ in 0..5u64 {
+        let (waker, task) = waker(&rt, tasks, source);
+        wakers.push(waker).expect(&rt, "memory");
+        owed_to.push(task).expect(&rt, "memory");
+    }
+    let (newest, last) = waker(&rt, tasks, source);
+    let mut named = Named { wakers };
+    let ((), owed) = Owed::after(&mut named, (), |_named, ()| ());
+    named.wakers.push(newest).expect(&rt, "memory");
+    let named = Mutex::new(named);
+    owed.pay(&rt, &named);
+    assert!(rt; are_woken(&rt, tasks, owed_to.as_slice()));
+    assert_eq!(rt; named.lock(&rt).wake_count(), 1);
+    // A waker that is let go wakes its task.
+    drop(named);
+    assert!(rt; are_woken(&rt, tasks, &[last]));
+}
+
+// Where another thread took one out meanwhile, a payment ends without it.
+#[test]
+fn a_payment_ends_where_nobody_is_left(rt: HostRuntime) -> Result<(), Fail> {
+    let tasks = &Queue::new(&rt, Doorbell::spinning()).expect(&rt, "memory");
+    let source = &Source::new();
+    let (oldest, first) = waker(&rt, tasks, source);
+    let (other, second) = waker(&rt, tasks, source);
+    let mut named = Named {
+        wakers: vec![in rt.alloc(); oldest, other]?,
+    };
+    let ((), owed) = Owed::after(&mut named, (), |_named, ()| ());
+    let taken = named.next_wake();
+    let named = Mutex::new(named);
+    owed.pay(&rt, &named);
+    assert!(rt; are_woken(&rt, tasks, &[second]));
+    drop(taken);
+    assert!(rt; are_woken(&rt, tasks, &[first]));
+    Ok(())
+}

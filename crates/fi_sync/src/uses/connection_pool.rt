@@ -1,0 +1,107 @@
+//! Four threads share two connections. A permit of the semaphore stands for a free connection; the mutex keeps those that are free.
+ghost use Rattle.std.specs.Prelude.{◌≡◌};
+
+use crate::{Mutex, Semaphore};
+use futures::executor::block_on;
+use std::alloc::AllocGlobal;
+use std::marker::Brand;
+use std::process::Abort;
+use std::random::RandomSource;
+use std::sync::Wait;
+use std::sync::atomic::{AtomicU64, Ordering};
+use std::sync::ledger::{Blank, Ledger};
+use std::thread;
+use std::thread::Threads;
+
+/// The free connections, by number.
+type Pool<R, L> = Mutex<Vec<u64>, R, L>;
+
+/// Takes a connection from the pool.
+fn take<R: Wait + RandomSource + AllocGlobal, L: Ledger>(rt: &R, pool: &Pool<R, L>) -> Option<u64> {
+    match block_on(rt, pool.lock().ok()?) {
+        Ok(Ok(mut free)) => free.pop(),
+        _ => None,
+    }
+}
+
+/// Puts a connection back into the pool.
+fn put_back<R: Wait + RandomSource + AllocGlobal, L: Ledger>(
+    rt: &R,
+    pool: &Pool<R, L>,
+    connection: u64,
+) -> Option<()> {
+    match block_on(rt, pool.lock().ok()?) {
+        Ok(Ok(mut free)) => free.push(connection).ok(),
+        _ => None,
+    }
+}
+
+/// One request: waits for a permit, uses a connection, and gives both back.
+fn request<R, L: Ledger, K: Ledger>(
+    rt: &R,
+    permits: &Semaphore<R, L>,
+    pool: &Pool<R, K>,
+    uses: &AtomicU64,
+) -> Option<()>
+where
+    R: Wait + RandomSource + AllocGlobal,
+{
+    let Ok(Ok(_permit)) = block_on(rt, permits.acquire(1).ok()?) else {
+        return None;
+    };
+    let connection = take(rt, pool)?;
+    uses.fetch_add(1, Ordering::SeqCst);
+    put_back(rt, pool, connection)
+}
+
+/// Four clients, with 25 requests each.
+fn serve_all<'a, R, L, K>(
+    rt: &'a R,
+    permits: &'a Semaphore<R, L>,
+    pool: &'a Pool<R, K>,
+    uses: &'a AtomicU64,
+)
+where
+    R: Wait + Threads + RandomSource + AllocGlobal + Send + Sync,
+    L: Ledger + Send + Sync,
+    K: Ledger + Send + Sync,
+{
+    thread::scope(thread::scope_env(), rt, |scope| {
+        for _ in 0..4 {
+            let client = move || {
+                for _ in 0..25 {
+                    let _ = request(rt, permits, pool, uses);
+                }
+            };
+            let _ = scope.spawn(client);
+        }
+    });
+}
+
+fn serve<R, L, K>(rt: R, permits: Blank, lock: Blank)
+where
+    R: Wait + Threads + Abort + Copy + RandomSource + AllocGlobal + Send + Sync,
+    L: Ledger + Send + Sync,
+    K: Ledger + Send + Sync,
+    requires name { permits.name ≡ L.name }
+    requires parts { permits.parts ≡ L.parts }
+    requires all { permits.parts ≡ 18446744073709551615 }
+    requires lock_name { lock.name ≡ K.name }
+    requires lock_parts { lock.parts ≡ K.parts }
+    requires one { lock.parts ≡ 1 }
+{
+    let free = vec![in rt.alloc(); 0, 1].expect(&rt, "memory");
+    let pool = Mutex::<Vec<u64>, R, K>::new(rt.alloc(), rt, lock, free, true);
+    let permits = Semaphore::<R, L>::new(rt.alloc(), rt, permits, true, 2);
+    let uses = AtomicU64::new(0);
+    serve_all(&rt, &permits, &pool, &uses);
+    assert_eq!(rt; uses.load(Ordering::SeqCst), 100);
+    assert!(rt; permits.permits() == 2);
+    let free = pool.try_lock().expect(&rt, "free");
+    assert!(rt; free.len() == 2);
+}
+
+#[test]
+fn four_threads_share_two_connections(rt: HostRuntime) {
+    serve::<HostRuntime, Brand, Brand>(rt, Blank::new(u64::MAX), Blank::new(1))
+}
