@@ -124,11 +124,6 @@ pub fn sends<T: Send>(value: T) -> T
     value
 }
 
-/// What threads may share, as it was.
-pub fn shares<T: Sync>(value: &T) -> &T {
-    value
-}
-
 /// Counts the polls of a future.
 #[derive(Drop)]
 pub struct Counting<'a, F> {
