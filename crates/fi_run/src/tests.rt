@@ -12,6 +12,7 @@ mod channel;
 mod desks;
 mod drawn_schedules;
 mod journals;
+mod pools;
 
 // Whether a primitive of this opening answers the calls of these lines so.
 pub(crate) fn answers<P: Primitive + Drop>(
