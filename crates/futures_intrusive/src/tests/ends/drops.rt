@@ -1,11 +1,7 @@
 //! Each value is dropped once, whatever is dropped first, and with no lock held.
 
-use crate::channel::shared::{
-    ChannelReceiveFuture, ChannelSendFuture, Receiver, Sender, SharedChannelState, SharedStream,
-    channel,
-};
+use crate::channel::shared::channel;
 use fi_channels::TrySendError;
-use fi_parts::buffer::GrowingHeapBuf;
 use futures::test::MockTask;
 use std::alloc::AllocGlobal;
 use std::process::Abort;
@@ -17,24 +13,12 @@ use std::thread;
 
 type Counted = Rc<u64>;
 
-type State = SharedChannelState<Counted, GrowingHeapBuf<Counted>>;
-
-// What lives of a channel with a value buffered, one waiting, and one refused.
-#[derive(Drop)]
-struct Living<R: Wait + Drop> {
-    sender: Option<Sender<Counted, R>>,
-    receiver: Option<Receiver<Counted, R>>,
-    send: Option<ChannelSendFuture<State, R>>,
-    receive: Option<ChannelReceiveFuture<State, R>>,
-    stream: Option<SharedStream<Counted, GrowingHeapBuf<Counted>, R>>,
-    refused: Option<TrySendError<Counted>>,
-}
-
 fn owner(rt: &impl Abort, counted: &Counted) -> Counted {
     counted.clone().expect(rt, "memory")
 }
 
-fn make_living<R>(rt: R, counted: &Counted) -> Living<R>
+// Makes a channel with a value buffered, one waiting and one refused, and drops its parts: four in turn, and then what is left.
+fn drop_parts<R>(rt: R, counted: &Counted, order: u32)
 where
     R: Wait + Abort + Drop + Copy + RandomSource + AllocGlobal,
 {
@@ -44,48 +28,28 @@ where
     assert!(rt; sender.try_send(owner(&rt, counted)).is_ok());
     let mut send = sender.send(owner(&rt, counted)).ok().expect(&rt, "memory");
     assert!(rt; task.poll(&mut send).is_pending());
-    let refused = match sender.try_send(owner(&rt, counted)) {
-        Ok(()) => None,
-        Err(refused) => Some(refused),
-    };
-    let receive = receiver.receive().expect(&rt, "memory");
+    let _refused = sender.try_send(owner(&rt, counted));
+    assert_eq!(rt; Rc::strong_count(counted), 4);
+    let mut receive = Some(receiver.receive().expect(&rt, "memory"));
     let other = receiver.clone().expect(&rt, "memory");
-    let stream = other.into_stream().ok().expect(&rt, "memory");
-    Living {
-        sender: Some(sender),
-        receiver: Some(receiver),
-        send: Some(send),
-        receive: Some(receive),
-        stream: Some(stream),
-        refused,
-    }
-}
-
-impl<R: Wait + Drop> Living<R> {
-    // Drops the part of this number, if it is still there.
-    fn let_go(&mut self, part: u32) {
-        match part {
-            0 => drop(self.sender.take()),
-            1 => drop(self.receiver.take()),
-            2 => drop(self.send.take()),
-            3 => drop(self.receive.take()),
-            _ => drop(self.stream.take()),
+    let mut stream = Some(other.into_stream().ok().expect(&rt, "memory"));
+    let (mut sender, mut receiver, mut send) = (Some(sender), Some(receiver), Some(send));
+    for turn in [1, 5, 25, 125] {
+        match order / turn % 5 {
+            0 => drop(sender.take()),
+            1 => drop(receiver.take()),
+            2 => drop(send.take()),
+            3 => drop(receive.take()),
+            _ => drop(stream.take()),
         }
     }
 }
 
-// Every order in which the parts can be dropped: four in turn, any of them, and then what is left.
 #[test]
 fn each_value_is_dropped_once(rt: HostRuntime) {
     let counted = Rc::new(rt.alloc(), 7u64).expect(&rt, "memory");
     for order in 0..625u32 {
-        let mut living = make_living(rt, &counted);
-        assert_eq!(rt; Rc::strong_count(&counted), 4);
-        living.let_go(order % 5);
-        living.let_go(order / 5 % 5);
-        living.let_go(order / 25 % 5);
-        living.let_go(order / 125);
-        drop(living);
+        drop_parts(rt, &counted, order);
         assert_eq!(rt; Rc::strong_count(&counted), 1);
     }
 }
