@@ -5,7 +5,6 @@ ghost use Rattle.fi_channels.specs.ChannelErrors.{value_in};
 ghost use Rattle.fi_sync.specs.Waiting.{IsNew};
 
 use crate::channel_stream::ChannelStream;
-use crate::claim::Claim;
 use crate::monitor::Monitor;
 use crate::receive_future::ChannelReceiveFuture;
 use crate::send_future::ChannelSendFuture;
@@ -93,8 +92,8 @@ impl<T: Drop, B: RingBuf<Item = T>, R: Wait> GenericChannel<T, B, R> {
         ensures made { IfOk result (λ future. IsNew self.now future) }
         ensures handed_back { IfErr result (λ failed. failed.0 ≡ value) }
     {
-        let slot = self.monitor.call(value, ChannelState::claim_send)?;
-        Ok(SlotFuture::new(&self.monitor, Claim::of(slot)))
+        let claim = self.monitor.claim(value, ChannelState::claim_send)?;
+        Ok(SlotFuture::new(&self.monitor, claim))
     }
 
     /// A future that receives one value, or None once the channel is closed and empty. Refused only with `NoMemory`; then
@@ -103,10 +102,10 @@ impl<T: Drop, B: RingBuf<Item = T>, R: Wait> GenericChannel<T, B, R> {
         ensures made { IfOk result (λ future. IsNew self.now future) }
         ensures fault { IfErr result (λ fault. fault ≡ Fault.NoMemory) }
     {
-        let slot = self
+        let claim = self
             .monitor
-            .call((), |channel, ()| channel.claim_receive())?;
-        Ok(SlotFuture::new(&self.monitor, Claim::of(slot)))
+            .claim((), |channel, ()| channel.claim_receive())?;
+        Ok(SlotFuture::new(&self.monitor, claim))
     }
 
     /// A stream of the values, which ends once the channel is closed and empty. Refused only with `NoMemory`; then nothing has
@@ -114,8 +113,10 @@ impl<T: Drop, B: RingBuf<Item = T>, R: Wait> GenericChannel<T, B, R> {
     pub fn stream(&self) -> Result<ChannelStream<'_, T, B, R>, Fault>
         ensures fault { IfErr result (λ fault. fault ≡ Fault.NoMemory) }
     {
-        let slot = self.monitor.call((), |channel, ()| channel.claim_stream())?;
-        Ok(ChannelStream::new(&self.monitor, Claim::of(slot)))
+        let claim = self
+            .monitor
+            .claim((), |channel, ()| channel.claim_stream())?;
+        Ok(ChannelStream::new(&self.monitor, claim))
     }
 }
 

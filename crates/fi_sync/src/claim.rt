@@ -31,8 +31,8 @@ impl<K> Model for Claim<K> {
 }
 
 impl<K> Claim<K> {
-    /// The claim on a slot that its state has just given to a future.
-    pub fn of(slot: Slot) -> Self
+    /// The claim on a slot that its state has just given to a future. Only `Monitor::claim` makes one.
+    pub(crate) fn of(slot: Slot) -> Self
         ensures { result ≡ slot.0 }
     {
         Claim {

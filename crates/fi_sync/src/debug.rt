@@ -19,8 +19,9 @@ use crate::shared_semaphore::{
 use crate::slot_future::{PollSlot, SlotFuture};
 use crate::state_broadcast::StateBroadcastChannel;
 use crate::tally::{Grant, Tally};
-use crate::timer::{Timed, TimerService, TimerWait};
-use crate::wakes::Owed;
+use crate::timed::{Timed, TimerWait};
+use crate::timer::TimerService;
+use crate::wakes::{Guarded, HasOutbox, Owed};
 use fi_parts::buffer::RingBuf;
 use std::fmt;
 use std::sync::Wait;
@@ -215,7 +216,13 @@ impl<K> fmt::Debug for Claim<K> {
     }
 }
 
-impl fmt::Debug for Owed {
+impl<S> fmt::Debug for Guarded<S> {
+    fn fmt<F: fmt::Write>(&self, f: &mut fmt::Formatter<F>) -> fmt::Result {
+        f.debug_struct("Guarded").finish()
+    }
+}
+
+impl<S: HasOutbox> fmt::Debug for Owed<'_, S> {
     fn fmt<F: fmt::Write>(&self, f: &mut fmt::Formatter<F>) -> fmt::Result {
         f.debug_struct("Owed").finish()
     }

@@ -3,7 +3,6 @@ ghost use Rattle.std.specs.Prelude.{◌≡◌, IfOk, IfErr};
 ghost use Rattle.fi_parts.specs.declared.errors.Fault.{Fault};
 ghost use Rattle.fi_sync.specs.Waiting.{IsNew};
 
-use crate::claim::Claim;
 use crate::event_future::WaitForEventFuture;
 use crate::monitor::Monitor;
 use crate::slot_future::SlotFuture;
@@ -65,8 +64,8 @@ impl<R: Wait> ManualResetEvent<R> {
         ensures made { IfOk result (λ future. IsNew self.now future) }
         ensures fault { IfErr result (λ fault. fault ≡ Fault.NoMemory) }
     {
-        let slot = self.monitor.call((), |event, ()| event.claim_waiter())?;
-        Ok(SlotFuture::new(&self.monitor, Claim::of(slot)))
+        let claim = self.monitor.claim((), |event, ()| event.claim_waiter())?;
+        Ok(SlotFuture::new(&self.monitor, claim))
     }
 }
 

@@ -25,6 +25,7 @@ mod state_broadcast;
 mod tally;
 #[cfg(test)]
 mod tests;
+mod timed;
 mod timer;
 #[cfg(test)]
 mod uses;
@@ -52,5 +53,6 @@ pub use shared_semaphore::{
 pub use slot_future::{PollOutput, PollSlot, SlotFuture};
 pub use state_broadcast::{StateBroadcastChannel, StateReceiveFuture};
 pub use tally::{Grant, Tally};
-pub use timer::{Timed, TimerFuture, TimerService, TimerWait};
-pub use wakes::{HasOutbox, Owed};
+pub use timed::{Timed, TimerWait};
+pub use timer::{TimerFuture, TimerService};
+pub use wakes::{Guarded, HasOutbox, Owed};

@@ -1,23 +1,24 @@
 //! A state whose calls are made one at a time, each in one hold of a lock.
-ghost use Rattle.std.specs.Prelude.{◌≡◌, ℕ};
+ghost use Rattle.std.specs.Prelude.{◌≡◌, ℕ, Ok, Err, IfOk, IfErr};
 ghost use Rattle.std.specs.Borrow.{MutBor};
+ghost use Rattle.fi_parts.specs.declared.errors.Slot.{Slot};
 ghost use Rattle.fi_sync.specs.Waiting.{IsLeft};
 
 use crate::claim::{Cancel, Claim};
 use crate::slot_future::PollSlot;
-use crate::wakes::{HasOutbox, Owed};
+use crate::wakes::{Guarded, HasOutbox};
 use fi_parts::{Leftover, Slot};
 use futures::task::{Poll, Source, Waker};
 use std::alloc::Global;
 use std::marker::Model;
-use std::sync::{Arc, Mutex, Wait};
+use std::sync::{Arc, Wait};
 
 /// A state behind its lock, the runtime that waits for the lock, and the source that the state's futures register at.
 #[derive(Drop)]
 pub struct Monitor<S, R> {
     rt: R,
     source: Source,
-    state: Mutex<S>,
+    state: Guarded<S>,
 }
 
 impl<S, R> Model for Monitor<S, R> {
@@ -34,7 +35,7 @@ impl<S, R> Monitor<S, R> {
         Monitor {
             rt,
             source: Source::new(),
-            state: Mutex::new(state),
+            state: Guarded::new(state),
         }
     }
 
@@ -55,24 +56,37 @@ impl<S: HasOutbox, R: Wait> Monitor<S, R> {
         requires { F.IsAlwaysCallable call }
         ensures { (shown : MutBor S) × (left : MutBor S) × F.post call shown input result left }
     {
-        let (answer, owed) = Owed::after(&mut *self.state.lock(&self.rt), input, call);
-        owed.pay(&self.rt, &self.state);
+        let (answer, owed) = self.state.lend(&self.rt, input, call);
+        owed.pay(&self.rt);
         answer
     }
 
-    /// Polls the future of the kind `K` under this slot, as `call` makes a call.
-    pub fn poll<K>(&self, slot: Slot, waker: Waker) -> (Poll<S::Output>, Leftover<Waker>)
+    /// Makes a future of the kind `K`, as `call` makes a call: its claim on the slot that the state gave it.
+    pub fn claim<K, I, E, F: FnOnce(&mut S, I) -> Result<Slot, E>>(
+        &self,
+        input: I,
+        call: F,
+    ) -> Result<Claim<K>, E>
+        requires { F.IsAlwaysCallable call }
+        ensures made { IfOk result (λ claim. (shown : MutBor S) × (left : MutBor S) × (slot : Slot) × (claim ≡ slot.0)
+            × F.post call shown input (Ok slot) left) }
+        ensures refused { IfErr result (λ error. (shown : MutBor S) × (left : MutBor S) × F.post call shown input (Err error) left) }
+    {
+        match self.call(input, call) {
+            Ok(slot) => Ok(Claim::of(slot)),
+            Err(error) => Err(error),
+        }
+    }
+
+    /// Polls the future that has this claim, as `call` makes a call.
+    pub fn poll<K>(&self, claim: &Claim<K>, waker: Waker) -> (Poll<S::Output>, Leftover<Waker>)
     where
         S: PollSlot<K>,
-        ensures { (old : S) × (new : S) × S.polls old slot.0 waker result.0 new }
+        ensures { (old : S) × (new : S) × S.polls old claim.now waker result.0 new }
     {
-        let (polled, owed) = {
-            let state = &mut *self.state.lock(&self.rt);
-            let polled = state.poll_slot(slot, waker);
-            (polled, Owed::by(state))
-        };
-        owed.pay(&self.rt, &self.state);
-        polled
+        let (answer, leftover, owed) = self.state.poll(&self.rt, claim, waker);
+        owed.pay(&self.rt);
+        (answer, leftover)
     }
 
     /// Cancels the future that has this claim, as `call` makes a call, and answers what it leaves.

@@ -8,7 +8,6 @@ ghost use Rattle.fi_parts.specs.declared.errors.Fault.{Fault};
 ghost use Rattle.fi_sync.specs.Locked.{IsLockAnswer};
 ghost use Rattle.fi_sync.specs.Waiting.{IsNew, polled};
 
-use crate::claim::Claim;
 use crate::counted_mutex::{CountedMutex, Locked, MutexLock};
 use crate::monitor::Monitor;
 use crate::slot_future::SlotFuture;
@@ -60,10 +59,10 @@ impl<T: Drop, R: Wait, L: Ledger> Mutex<T, R, L> {
         ensures made { IfOk result (λ future. IsNew self.now future) }
         ensures fault { IfErr result (λ fault. fault ≡ Fault.NoMemory) }
     {
-        let slot = self.monitor.call((), |mutex, ()| mutex.claim_lock())?;
+        let claim = self.monitor.claim((), |mutex, ()| mutex.claim_lock())?;
         Ok(MutexLockFuture {
             monitor: &self.monitor,
-            future: SlotFuture::new(&self.monitor, Claim::of(slot)),
+            future: SlotFuture::new(&self.monitor, claim),
         })
     }
 

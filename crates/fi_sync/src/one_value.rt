@@ -3,7 +3,6 @@ ghost use Rattle.std.specs.Prelude.{◌≡◌, IfOk, IfErr};
 ghost use Rattle.fi_parts.specs.declared.errors.Fault.{Fault};
 ghost use Rattle.fi_sync.specs.Waiting.{IsNew};
 
-use crate::claim::Claim;
 use crate::monitor::Monitor;
 use crate::receive_future::ChannelReceiveFuture;
 use crate::slot_future::SlotFuture;
@@ -69,10 +68,10 @@ impl<T: Drop, G: GivesValue<T>, R: Wait> OneValueChannel<T, G, R> {
         ensures made { IfOk result (λ future. IsNew self.now future) }
         ensures fault { IfErr result (λ fault. fault ≡ Fault.NoMemory) }
     {
-        let slot = self
+        let claim = self
             .monitor
-            .call((), |channel, ()| channel.claim_receive())?;
-        Ok(SlotFuture::new(&self.monitor, Claim::of(slot)))
+            .claim((), |channel, ()| channel.claim_receive())?;
+        Ok(SlotFuture::new(&self.monitor, claim))
     }
 }
 

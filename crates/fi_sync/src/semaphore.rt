@@ -62,8 +62,10 @@ impl<R: Wait, L: Ledger> Semaphore<R, L> {
         ensures made { IfOk result (λ future. IsNew self.now future) }
         ensures fault { IfErr result (λ fault. fault ≡ Fault.NoMemory) }
     {
-        let slot = self.monitor.call(permits, CountedSemaphore::claim_acquire)?;
-        Ok(SemaphoreAcquireFutureOf::of(&self.monitor, &self.monitor, slot))
+        let claim = self
+            .monitor
+            .claim(permits, CountedSemaphore::claim_acquire)?;
+        Ok(SemaphoreAcquireFutureOf::of(&self.monitor, &self.monitor, claim))
     }
 
     /// Acquires this many permits if they are free and, in a fair semaphore, nobody waits; none at all are always granted. None

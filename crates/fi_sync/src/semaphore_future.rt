@@ -12,7 +12,7 @@ use crate::counted_semaphore::{CountedSemaphore, SemaphoreAcquire};
 use crate::monitor::HasMonitor;
 use crate::semaphore_releaser::SemaphoreReleaserOf;
 use crate::slot_future::SlotFuture;
-use fi_parts::{Fault, Slot};
+use fi_parts::Fault;
 use futures::Future;
 use futures::task::{Context, Poll};
 use std::marker::Model;
@@ -43,12 +43,12 @@ impl<M: HasMonitor<State = CountedSemaphore<L>>, L: Ledger> Model
 }
 
 impl<M: HasMonitor<State = CountedSemaphore<L>>, L: Ledger> SemaphoreAcquireFutureOf<M, L> {
-    /// The future under this slot. Both monitors are the semaphore's.
-    pub(crate) fn of(monitor: M, releaser_monitor: M, slot: Slot) -> Self
-        ensures { result ≡ record { source = M.source monitor; name = Some slot.0; has_ended = false } }
+    /// The future whose slot this is. Both monitors are the semaphore's.
+    pub(crate) fn of(monitor: M, releaser_monitor: M, claim: Claim<SemaphoreAcquire>) -> Self
+        ensures { result ≡ record { source = M.source monitor; name = Some claim; has_ended = false } }
     {
         SemaphoreAcquireFutureOf {
-            future: SlotFuture::new(monitor, Claim::of(slot)),
+            future: SlotFuture::new(monitor, claim),
             releaser_monitor: Some(releaser_monitor),
         }
     }

@@ -85,8 +85,10 @@ impl<R: Wait + Drop, L: Ledger> SharedSemaphore<R, L> {
     {
         let monitor = self.share()?;
         let releaser_monitor = self.share()?;
-        let slot = self.monitor.call(permits, CountedSemaphore::claim_acquire)?;
-        Ok(SemaphoreAcquireFutureOf::of(monitor, releaser_monitor, slot))
+        let claim = self
+            .monitor
+            .claim(permits, CountedSemaphore::claim_acquire)?;
+        Ok(SemaphoreAcquireFutureOf::of(monitor, releaser_monitor, claim))
     }
 
     /// Acquires this many permits if they are free and, in a fair semaphore, nobody waits; none at all are always granted. None

@@ -160,7 +160,7 @@ where
         let Some(waker) = self.spare.take() else {
             return Poll::Ready(<M::State as PollSlot<K>>::Output::refused(Fault::NoMemory));
         };
-        let (answer, leftover) = monitor.poll::<K>(claim.slot(), waker);
+        let (answer, leftover) = monitor.poll(claim, waker);
         self.spare = leftover.displaced.or(leftover.unused);
         if let Poll::Ready(output) = &answer {
             self.is_ended = output.ends();

@@ -3,7 +3,6 @@ ghost use Rattle.std.specs.Prelude.{◌≡◌, IfOk, IfErr};
 ghost use Rattle.fi_parts.specs.declared.errors.Fault.{Fault};
 ghost use Rattle.fi_sync.specs.Waiting.{IsNew};
 
-use crate::claim::Claim;
 use crate::monitor::Monitor;
 use crate::receive_future::ChannelReceiveFuture;
 use crate::slot_future::SlotFuture;
@@ -78,8 +77,10 @@ impl<T: Clone, R: Wait> StateBroadcastChannel<T, R> {
         ensures made { IfOk result (λ future. IsNew self.now future) }
         ensures fault { IfErr result (λ fault. fault ≡ Fault.NoMemory) }
     {
-        let slot = self.monitor.call(seen, StateBroadcastState::claim_receive)?;
-        Ok(SlotFuture::new(&self.monitor, Claim::of(slot)))
+        let claim = self
+            .monitor
+            .claim(seen, StateBroadcastState::claim_receive)?;
+        Ok(SlotFuture::new(&self.monitor, claim))
     }
 }
 

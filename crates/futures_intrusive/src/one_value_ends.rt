@@ -10,7 +10,7 @@ use crate::counted_ends::{ClosesByEnds, CountedEnds, ManyReceivers, ReceivesClos
 use crate::ends::{End, Receivers, Senders, two_ends};
 use fi_channels::{ClonesValue, GivesValue, OneValueState, TakesValue};
 use fi_parts::{ChannelSendError, Fault, Slot};
-use fi_sync::{Claim, SlotFuture};
+use fi_sync::SlotFuture;
 use futures::task::Waker;
 use std::alloc::Global;
 use std::sync::Wait;
@@ -73,8 +73,10 @@ impl<T: Drop, G: GivesValue<T>, R: Wait + Drop> OneValueReceiver<T, G, R> {
         ensures fault { IfErr result (λ fault. fault ≡ Fault.NoMemory) }
     {
         let shared = self.share()?;
-        let slot = self.channel().call((), |ends, ()| ends.claim_receive())?;
-        Ok(SlotFuture::new(shared, Claim::of(slot)))
+        let claim = self
+            .channel()
+            .claim((), |ends, ()| ends.claim_receive())?;
+        Ok(SlotFuture::new(shared, claim))
     }
 }
 

@@ -10,7 +10,7 @@ use crate::channel_ends::{GenericReceiver, SharedChannelState};
 use crate::ends::SharedFutureOf;
 use fi_parts::buffer::RingBuf;
 use fi_parts::{CloseStatus, Fault};
-use fi_sync::{ChannelStreaming, Claim, SlotFuture};
+use fi_sync::{ChannelStreaming, SlotFuture};
 use futures::task::{Context, Poll};
 use futures::{Future, Stream};
 use std::marker::Model;
@@ -49,10 +49,10 @@ impl<T: Drop, B: RingBuf<Item = T>, R: Wait + Drop> GenericReceiver<T, B, R> {
         let Ok(shared) = self.share() else {
             return Err(self);
         };
-        let claimed = self.channel().call((), |ends, ()| ends.claim_stream());
+        let claimed = self.channel().claim((), |ends, ()| ends.claim_stream());
         match claimed {
-            Ok(slot) => Ok(SharedStream {
-                future: SlotFuture::new(shared, Claim::of(slot)),
+            Ok(claim) => Ok(SharedStream {
+                future: SlotFuture::new(shared, claim),
                 is_ended: false,
                 receiver: self,
             }),

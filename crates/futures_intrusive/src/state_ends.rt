@@ -10,7 +10,7 @@ use crate::counted_ends::{ClosesByEnds, CountedEnds, ManyReceivers, ManySenders,
 use crate::ends::{End, Receivers, Senders, two_ends};
 use fi_channels::StateBroadcastState;
 use fi_parts::{ChannelSendError, Fault, Slot, StateId};
-use fi_sync::{Claim, SlotFuture};
+use fi_sync::SlotFuture;
 use futures::task::Waker;
 use std::alloc::Global;
 use std::sync::Wait;
@@ -55,10 +55,10 @@ impl<T: Clone + Drop, R: Wait + Drop> StateReceiver<T, R> {
         ensures fault { IfErr result (λ fault. fault ≡ Fault.NoMemory) }
     {
         let shared = self.share()?;
-        let slot = self
+        let claim = self
             .channel()
-            .call(seen, |ends, seen| ends.claim_receive(seen))?;
-        Ok(SlotFuture::new(shared, Claim::of(slot)))
+            .claim(seen, |ends, seen| ends.claim_receive(seen))?;
+        Ok(SlotFuture::new(shared, claim))
     }
 
     /// A clone of the newest state with its number, if that is greater than `seen`. As `StateBroadcastChannel::try_receive`. Keeps

@@ -8,3 +8,4 @@ mod paths;
 mod refusals;
 mod tasks;
 mod texts;
+mod threads;

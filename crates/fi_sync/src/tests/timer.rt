@@ -90,6 +90,20 @@ fn timer_passed_deadline(rt: HostRuntime) {
     assert!(rt; timer.next_expiration().is_none() && are_woken(&rt, tasks, &[task]));
 }
 
+// A future whose expiry is just the clock's time is ready at its first poll, and one a millisecond later is not.
+#[test]
+fn timer_first_poll_at_the_expiry(rt: HostRuntime) {
+    let tasks = &Queue::new(&rt, Doorbell::spinning()).expect(&rt, "memory");
+    let time = &AtomicU64::new(500);
+    let timer = TimerService::new(rt.alloc(), rt, Shown { time });
+    let mut due = timer.deadline(500).expect(&rt, "memory");
+    let mut later = timer.deadline(501).expect(&rt, "memory");
+    let (polled, _) = poll_once(&rt, tasks, &mut due);
+    assert!(rt; polled == Poll::Ready(Ok(())));
+    waits(&rt, tasks, &mut later);
+    assert!(rt; timer.next_expiration() == Some(501));
+}
+
 // The clock counts milliseconds: no fewer than a sleep takes, and no more than another clock shows.
 #[test]
 fn std_clock_counts_milliseconds(rt: HostRuntime) {

@@ -3,10 +3,10 @@ ghost use Rattle.std.specs.Prelude.{◌≡◌, length};
 ghost use Rattle.fi_sync.specs.Wakes.{TakesOldest};
 
 use super::are_woken;
-use crate::{HasOutbox, Owed};
+use crate::{Guarded, HasOutbox};
 use futures::task::{Doorbell, Poll, Queue, Source, Waker};
 use std::process::Abort;
-use std::sync::{Mutex, Wait};
+use std::sync::Wait;
 use std::test::Fail;
 
 // Wakers that are to be woken, the oldest first.
@@ -59,16 +59,17 @@ fn a_payment_takes_what_was_owed(rt: HostRuntime) {
         owed_to.push(task).expect(&rt, "memory");
     }
     let (newest, last) = waker(&rt, tasks, source);
-    let mut named = Named { wakers };
-    let ((), owed) = Owed::after(&mut named, (), |_named, ()| ());
-    named.wakers.push(newest).expect(&rt, "memory");
-    let named = Mutex::new(named);
-    owed.pay(&rt, &named);
+    let named = Guarded::new(Named { wakers });
+    let ((), owed) = named.lend(&rt, (), |_named, ()| ());
+    let (pushed, owed_later) = named.lend(&rt, newest, |named, newest| named.wakers.push(newest));
+    owed.pay(&rt);
+    pushed.expect(&rt, "memory");
     assert!(rt; are_woken(&rt, tasks, owed_to.as_slice()));
-    assert_eq!(rt; named.lock(&rt).wake_count(), 1);
-    // A waker that is let go wakes its task.
-    drop(named);
+    // Six were owed then, of whom one is left.
+    owed_later.pay(&rt);
     assert!(rt; are_woken(&rt, tasks, &[last]));
+    drop(named);
+    assert!(rt; are_woken(&rt, tasks, &[]));
 }
 
 // Where another thread took one out meanwhile, a payment ends without it.
@@ -78,14 +79,16 @@ fn a_payment_ends_where_nobody_is_left(rt: HostRuntime) -> Result<(), Fail> {
     let source = &Source::new();
     let (oldest, first) = waker(&rt, tasks, source);
     let (other, second) = waker(&rt, tasks, source);
-    let mut named = Named {
+    let named = Guarded::new(Named {
         wakers: vec![in rt.alloc(); oldest, other]?,
-    };
-    let ((), owed) = Owed::after(&mut named, (), |_named, ()| ());
-    let taken = named.next_wake();
-    let named = Mutex::new(named);
-    owed.pay(&rt, &named);
+    });
+    let ((), owed) = named.lend(&rt, (), |_named, ()| ());
+    let (taken, owed_later) = named.lend(&rt, (), |named, ()| named.next_wake());
+    owed.pay(&rt);
     assert!(rt; are_woken(&rt, tasks, &[second]));
+    // One was owed then, who is woken already.
+    owed_later.pay(&rt);
+    // A waker that is let go wakes its task.
     drop(taken);
     assert!(rt; are_woken(&rt, tasks, &[first]));
     Ok(())

@@ -1,0 +1,131 @@
+//! A timer with its clock: what stands behind the lock of the timer that threads share.
+ghost use Rattle.std.specs.Prelude.{◌≡◌, ℕ, Err, IfOk, IfErr, OnErr, is_some};
+ghost use Rattle.std.specs.Duration.{as_nanos};
+ghost use Rattle.fi_parts.specs.Machine.{phase_at, displaced_at};
+ghost use Rattle.fi_parts.specs.Deadlines.{IsNextExpiry};
+ghost use Rattle.fi_parts.specs.declared.errors.Fault.{Fault};
+ghost use Rattle.fi_locks.specs.Timer.{opened, can_be_polled, Makes, Checks, Cancels};
+ghost use Rattle.fi_sync.specs.Timed.{DelaysTimed, PollsTimed};
+ghost use Rattle.fi_sync.specs.Waiting.{PollsWhere, leftover_after, CancelsWhere};
+
+use crate::claim::Cancel;
+use crate::slot_future::PollSlot;
+use crate::wakes::HasOutbox;
+use fi_locks::TimerState;
+use fi_parts::{Clock, Fault, Leftover, Slot};
+use futures::task::{Poll, Waker};
+use std::alloc::Global;
+use std::time::Duration;
+
+/// A timer with its clock. Each call that needs the time reads the clock itself and hands it to nobody, so no time that was read in
+/// one hold of the lock is used in another.
+#[derive(Drop)]
+pub struct Timed<C> {
+    timer: TimerState<Waker>,
+    clock: C,
+}
+
+/// The kind of a timer's futures.
+pub struct TimerWait;
+
+impl<C: Clock> Timed<C> {
+    /// A timer by this clock, that nobody waits for. It takes no memory yet.
+    pub(crate) fn new(alloc: Global, clock: C) -> Self
+        ensures { result.timer ≡ opened }
+    {
+        Timed {
+            timer: TimerState::new(alloc),
+            clock,
+        }
+    }
+
+    /// Makes a future for this moment. Refused only with `NoMemory`; then nothing has changed.
+    pub(crate) fn claim_deadline(&mut self, expiry: u64) -> Result<Slot, Fault>
+        ensures made { IfOk result (λ slot. Makes self.old.timer expiry slot.0 self.new.timer) }
+        ensures refused { OnErr result (self.new.timer ≡ self.old.timer) }
+        ensures fault { IfErr result (λ fault. fault ≡ Fault.NoMemory) }
+    {
+        self.timer.claim_deadline(expiry)
+    }
+
+    /// Makes a future for the moment this long after the clock's time now. Refused only with `NoMemory`; then nothing has changed.
+    pub(crate) fn claim_delay(&mut self, delay: Duration) -> Result<Slot, Fault>
+        ensures made { IfOk result (λ slot. DelaysTimed self.old.timer (as_nanos delay) slot.0 self.new.timer) }
+        ensures refused { OnErr result (self.new.timer ≡ self.old.timer) }
+        ensures fault { IfErr result (λ fault. fault ≡ Fault.NoMemory) }
+    {
+        let now = self.clock.now();
+        self.timer.claim_delay(now, delay)
+    }
+
+    /// The least expiry of those that wait; None where none does.
+    pub(crate) fn next_expiration(&self) -> Option<u64>
+        ensures { IsNextExpiry self.now.timer.waiting.side result }
+    {
+        self.timer.next_expiration()
+    }
+
+    /// Tells those whose expiry is not after the clock's time now.
+    pub(crate) fn check_expirations(&mut self)
+        // At some moment: that it is the clock's is not said.
+        ensures { (now : ℕ) × Checks self.old.timer now self.new.timer }
+    {
+        let now = self.clock.now();
+        self.timer.check_expirations(now);
+    }
+}
+
+impl<C: Clock> PollSlot<TimerWait> for Timed<C> {
+    type Output = Result<(), Fault>;
+
+    // At some moment. A poll that the timer makes is never refused.
+    ghost polls = { λ old name waker answer new. PollsWhere (can_be_polled (phase_at old.timer name))
+        (PollsTimed (λ timed. timed.timer) old.timer name waker) (Err Fault.NoSlot) old answer new };
+
+    ghost leaves = { λ old name waker answer. leftover_after answer (displaced_at old.timer name) waker };
+
+    fn poll_slot(&mut self, slot: Slot, waker: Waker) -> (Poll<Self::Output>, Leftover<Waker>) {
+        if !self.timer.can_poll(slot) {
+            let answer = Poll::Ready(Err(Fault::NoSlot));
+            return (answer, Leftover::of(None, Some(waker)));
+        }
+        let now = self.clock.now();
+        match self.timer.try_wait(slot, now, waker) {
+            (Poll::Ready(()), leftover) => (Poll::Ready(Ok(())), leftover),
+            (Poll::Pending, leftover) => (Poll::Pending, leftover),
+        }
+    }
+}
+
+impl<C: Clock> Cancel<TimerWait> for Timed<C> {
+    type Left = Option<Waker>;
+
+    ghost cancels = { λ old name left new. CancelsWhere (is_some (phase_at old.timer name)) (Cancels old.timer name new.timer)
+        (displaced_at old.timer name) old left new };
+
+    fn cancel(&mut self, slot: Slot) -> Option<Waker> {
+        if !self.timer.is_live(slot) {
+            return None;
+        }
+        self.timer.remove_waiter(slot)
+    }
+}
+
+impl<C: Clock> HasOutbox for Timed<C> {
+    ghost use Rattle.fi_locks.specs.Timer.{Wakes};
+    ghost use Rattle.fi_parts.specs.Pairs.{wakers_of};
+
+    ghost wakers = { λ timed. wakers_of timed.timer.waiting.out };
+
+    ghost wakes = { λ old answer new. Wakes old.timer answer new.timer };
+
+    fn next_wake(&mut self) -> Option<Waker>
+        ensures { Wakes self.old.timer result self.new.timer }
+    {
+        self.timer.next_wake()
+    }
+
+    fn wake_count(&self) -> usize {
+        self.timer.wake_count()
+    }
+}

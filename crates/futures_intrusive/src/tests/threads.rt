@@ -1,0 +1,2 @@
+//! Thread-safe futures, where no clause says it.
+mod spent;
