@@ -73,9 +73,7 @@ impl<T: Drop, G: GivesValue<T>, R: Wait + Drop> OneValueReceiver<T, G, R> {
         ensures fault { IfErr result (λ fault. fault ≡ Fault.NoMemory) }
     {
         let shared = self.share()?;
-        let claim = self
-            .channel()
-            .claim((), |ends, ()| ends.claim_receive())?;
+        let claim = self.channel().claim((), |ends, ()| ends.claim_receive())?;
         Ok(SlotFuture::new(shared, claim))
     }
 }
