@@ -4,6 +4,7 @@ pub mod Bytes
 pub mod Collected
 pub mod Cuts
 pub mod FairOpenings
+pub mod PoolOpenings
 pub mod Numbered
 pub mod Answered
 pub mod Channels

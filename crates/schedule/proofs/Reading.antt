@@ -19,9 +19,10 @@ use Rattle.schedule.specs.declared.named.Named.TheVariants as named
 use Rattle.schedule.specs.declared.numbers.Numbers.{Numbers}
 use Rattle.schedule.specs.declared.numbers.Numbers.TheVariants.{Absent, One, Two}
 use Rattle.schedule.specs.declared.verb.Verb.{Verb}
-use Rattle.schedule.specs.declared.verb.Verb.TheVariants.{Acquire, Cancel, Check, Close, Deadline, Delay, Disarm, GiveBack}
+use Rattle.schedule.specs.declared.verb.Verb.TheVariants.{Acquire, Cancel, Check, Close, Deadline, Delay, Disarm, Finish, GiveBack}
 use Rattle.schedule.specs.declared.verb.Verb.TheVariants.{Held, IsLocked, IsSet, Lock, Next, Permits, Poll, Receive, Release}
-use Rattle.schedule.specs.declared.verb.Verb.TheVariants.{Reset, Send, Set, Stream, TryAcquire, TryLock, TryReceive, TrySend, Unlock, Wait}
+use Rattle.schedule.specs.declared.verb.Verb.TheVariants.{Reset, Send, Set, Shutdown, Start, Stream, Submit}
+use Rattle.schedule.specs.declared.verb.Verb.TheVariants.{TryAcquire, TryLock, TryReceive, TrySend, Unlock, Wait}
 use Rattle.schedule.proofs.Numerals.{own, numeral_digits}
 
 -- no byte is the separator
@@ -103,6 +104,7 @@ verb_lacks Close = lacks_by_test 32 (verb_text Close) refl
 verb_lacks Deadline = lacks_by_test 32 (verb_text Deadline) refl
 verb_lacks Delay = lacks_by_test 32 (verb_text Delay) refl
 verb_lacks Disarm = lacks_by_test 32 (verb_text Disarm) refl
+verb_lacks Finish = lacks_by_test 32 (verb_text Finish) refl
 verb_lacks GiveBack = lacks_by_test 32 (verb_text GiveBack) refl
 verb_lacks Held = lacks_by_test 32 (verb_text Held) refl
 verb_lacks IsLocked = lacks_by_test 32 (verb_text IsLocked) refl
@@ -116,7 +118,10 @@ verb_lacks Release = lacks_by_test 32 (verb_text Release) refl
 verb_lacks Reset = lacks_by_test 32 (verb_text Reset) refl
 verb_lacks Send = lacks_by_test 32 (verb_text Send) refl
 verb_lacks Set = lacks_by_test 32 (verb_text Set) refl
+verb_lacks Shutdown = lacks_by_test 32 (verb_text Shutdown) refl
+verb_lacks Start = lacks_by_test 32 (verb_text Start) refl
 verb_lacks Stream = lacks_by_test 32 (verb_text Stream) refl
+verb_lacks Submit = lacks_by_test 32 (verb_text Submit) refl
 verb_lacks TryAcquire = lacks_by_test 32 (verb_text TryAcquire) refl
 verb_lacks TryLock = lacks_by_test 32 (verb_text TryLock) refl
 verb_lacks TryReceive = lacks_by_test 32 (verb_text TryReceive) refl
@@ -134,6 +139,7 @@ name_lacks named.StateBroadcast = lacks_by_test 32 (name_of named.StateBroadcast
 name_lacks named.Timer = lacks_by_test 32 (name_of named.Timer) refl
 name_lacks named.Mutex = lacks_by_test 32 (name_of named.Mutex) refl
 name_lacks named.Semaphore = lacks_by_test 32 (name_of named.Semaphore) refl
+name_lacks named.Pool = lacks_by_test 32 (name_of named.Pool) refl
 
 pub fairness_lacks : (is_fair : Bool) → Lacks 32 (fairness_text is_fair)
 unfolding lacks_byte
@@ -165,6 +171,7 @@ same_verb Close Close e = refl
 same_verb Deadline Deadline e = refl
 same_verb Delay Delay e = refl
 same_verb Disarm Disarm e = refl
+same_verb Finish Finish e = refl
 same_verb GiveBack GiveBack e = refl
 same_verb Held Held e = refl
 same_verb IsLocked IsLocked e = refl
@@ -178,7 +185,10 @@ same_verb Release Release e = refl
 same_verb Reset Reset e = refl
 same_verb Send Send e = refl
 same_verb Set Set e = refl
+same_verb Shutdown Shutdown e = refl
+same_verb Start Start e = refl
 same_verb Stream Stream e = refl
+same_verb Submit Submit e = refl
 same_verb TryAcquire TryAcquire e = refl
 same_verb TryLock TryLock e = refl
 same_verb TryReceive TryReceive e = refl
@@ -196,6 +206,7 @@ same_name named.StateBroadcast named.StateBroadcast e = refl
 same_name named.Timer named.Timer e = refl
 same_name named.Mutex named.Mutex e = refl
 same_name named.Semaphore named.Semaphore e = refl
+same_name named.Pool named.Pool e = refl
 same_name v w e = absurd (omega (arith, ap code_of e))
 
 verb_is_no_hold : (v : Verb) → verb_text v ≡ codes "hold" → ⊥
@@ -206,6 +217,7 @@ verb_is_no_hold Close e = omega (arith, ap code_of e)
 verb_is_no_hold Deadline e = omega (arith, ap code_of e)
 verb_is_no_hold Delay e = omega (arith, ap code_of e)
 verb_is_no_hold Disarm e = omega (arith, ap code_of e)
+verb_is_no_hold Finish e = omega (arith, ap code_of e)
 verb_is_no_hold GiveBack e = omega (arith, ap code_of e)
 verb_is_no_hold Held e = omega (arith, ap code_of e)
 verb_is_no_hold IsLocked e = omega (arith, ap code_of e)
@@ -219,7 +231,10 @@ verb_is_no_hold Release e = omega (arith, ap code_of e)
 verb_is_no_hold Reset e = omega (arith, ap code_of e)
 verb_is_no_hold Send e = omega (arith, ap code_of e)
 verb_is_no_hold Set e = omega (arith, ap code_of e)
+verb_is_no_hold Shutdown e = omega (arith, ap code_of e)
+verb_is_no_hold Start e = omega (arith, ap code_of e)
 verb_is_no_hold Stream e = omega (arith, ap code_of e)
+verb_is_no_hold Submit e = omega (arith, ap code_of e)
 verb_is_no_hold TryAcquire e = omega (arith, ap code_of e)
 verb_is_no_hold TryLock e = omega (arith, ap code_of e)
 verb_is_no_hold TryReceive e = omega (arith, ap code_of e)
@@ -264,7 +279,7 @@ same_two n m first second fits fits' e =
     ap (λ k. Two k m) (same_number n first fits.0 fits'.0 same.0) ∙ ap (λ k. Two first k)
     (same_number m second fits.1 fits'.1 (some_same _ _ same.1))
 
-same_numerals : (n m : Numbers) → Fit n → Fit m → numerals n ≡ numerals m → n ≡ m
+pub same_numerals : (n m : Numbers) → Fit n → Fit m → numerals n ≡ numerals m → n ≡ m
 same_numerals Absent Absent fits fits' e = refl
 same_numerals Absent (One m) fits fits' e = cc
 same_numerals Absent (Two m k) fits fits' e = cc

@@ -8,11 +8,11 @@ use Rattle.schedule.specs.Lines.{joined}
 use Rattle.schedule.specs.Names.{name_of, IsNoName}
 use Rattle.schedule.specs.Outputs.{GoesOn, Tells, on_its_way}
 use Rattle.schedule.specs.Script.{OfPrimitive, IsFirst, IsNoFirst, AnswersScript, RefusesScript, StopsScript}
-use Rattle.schedule.specs.Tables.{buffer_text, event_text, fair_openings}
+use Rattle.schedule.specs.Tables.{buffer_text, event_text, fair_openings, pool_openings}
 use Rattle.schedule.specs.declared.fault.ScriptFault.{ScriptFault}
 use Rattle.schedule.specs.declared.named.Named.{Named}
 use Rattle.schedule.specs.declared.named.Named.TheVariants.{Channel, Event, Oneshot, OneshotBroadcast, StateBroadcast}
-use Rattle.schedule.specs.declared.named.Named.TheVariants.{Timer, Mutex, Semaphore}
+use Rattle.schedule.specs.declared.named.Named.TheVariants.{Timer, Mutex, Semaphore, Pool}
 use Rattle.schedule.specs.declared.output.Output.{Output}
 use Rattle.schedule.proofs.Answered.{if_stopped_more}
 use Rattle.schedule.proofs.Bytes.{appends_none}
@@ -93,6 +93,7 @@ on_primitive StateBroadcast P Q more holds = more _ _ _ _ holds
 on_primitive Timer P Q more holds = more _ _ _ _ holds
 on_primitive Mutex P Q more holds = more _ _ _ _ holds
 on_primitive Semaphore P Q more holds = more _ _ _ _ holds
+on_primitive Pool P Q more holds = more _ _ _ _ holds
 
 -- The words after the name ask for this opening.
 abbrev pub Asked : Option (List ℕ) → {S O C : Type 0} → Spoken S O C → O → Type 0
@@ -126,6 +127,8 @@ at_line words rest number text Mutex (inl it) = inl it
 at_line words rest number text Mutex (inr it) = inr it
 at_line words rest number text Semaphore (inl it) = inl it
 at_line words rest number text Semaphore (inr it) = inr it
+at_line words rest number text Pool (inl it) = inl it
+at_line words rest number text Pool (inr it) = inr it
 
 -- where memory was refused
 at_end : (words rest : Option (List ℕ)) (text : List ℕ) (named : Named)
@@ -139,6 +142,7 @@ at_end words rest text StateBroadcast short = short
 at_end words rest text Timer short = short
 at_end words rest text Mutex short = short
 at_end words rest text Semaphore short = short
+at_end words rest text Pool short = short
 
 module _ (first name : List ℕ) (words : Option (List ℕ)) (cut : IsCut 32 first name words) where
   parts : (named : Named) (text : Option (List ℕ)) → first ≡ joined (name_of named) text → (name ≡ name_of named)
@@ -155,6 +159,7 @@ module _ (first name : List ℕ) (words : Option (List ℕ)) (cut : IsCut 32 fir
   no_name none Timer = λ opening is. none Timer (parts Timer None is.1).0
   no_name none Mutex = λ opening is. none Mutex (parts Mutex (fair_openings.text opening) is.1).0
   no_name none Semaphore = λ opening is. none Semaphore (parts Semaphore (fair_openings.text opening) is.1).0
+  no_name none Pool = λ opening is. none Pool (parts Pool (pool_openings.text opening) is.1).0
 
   module _ (named : Named) (known : name ≡ name_of named) where
     is_first : {S O C : Type 0} (primitive : Spoken S O C) (opening : O) → Asked words primitive opening
@@ -184,6 +189,8 @@ module _ (first name : List ℕ) (words : Option (List ℕ)) (cut : IsCut 32 fir
         let it = parts Mutex (fair_openings.text opening) is.1 in of_other Mutex it.0 nothing opening (is.0, it.1)
     no_opening nothing Semaphore = λ opening is.
         let it = parts Semaphore (fair_openings.text opening) is.1 in of_other Semaphore it.0 nothing opening (is.0, it.1)
+    no_opening nothing Pool =
+        λ opening is. let it = parts Pool (pool_openings.text opening) is.1 in of_other Pool it.0 nothing opening (is.0, it.1)
 
 module _ {W : Type 0} (contents : W → Option (List ℕ)) (script first name : List ℕ) (rest words : Option (List ℕ))
     (line_cut : IsCut 10 script first rest) (cut : IsCut 32 first name words) (shown left : Output W) where

@@ -1,7 +1,7 @@
 -- No line of a script asks for the oldest waker.
 use Rattle.std.specs.Prelude.{◌≢◌, ℕ, Some}
 use Rattle.schedule.specs.Tables.{channel_call, channel_cancel, channel_poll}
-use Rattle.schedule.specs.Tables.{event_call, mutex_call, oneshot_call, semaphore_call, state_call, timer_call}
+use Rattle.schedule.specs.Tables.{event_call, mutex_call, oneshot_call, pool_call, semaphore_call, state_call, timer_call}
 use Rattle.schedule.specs.declared.numbers.Numbers.TheVariants.{Absent, One, Two}
 use Rattle.schedule.specs.declared.row.Row.{Row}
 use Rattle.schedule.specs.declared.row.Row.TheVariants.{Plain, Make, Poll, Cancel}
@@ -12,6 +12,7 @@ use Rattle.fi_run.specs.declared.channel.ChannelCall.TheVariants as channel_call
 use Rattle.fi_run.specs.declared.event.EventCall.TheVariants as event_calls
 use Rattle.fi_run.specs.declared.mutex.MutexCall.TheVariants as mutex_calls
 use Rattle.fi_run.specs.declared.oneshot.OneshotCall.TheVariants as oneshot_calls
+use Rattle.fi_run.specs.declared.pool.PoolCall.TheVariants as pool_calls
 use Rattle.fi_run.specs.declared.semaphore.SemaphoreCall.TheVariants as semaphore_calls
 use Rattle.fi_run.specs.declared.state.StateCall.TheVariants as state_calls
 use Rattle.fi_run.specs.declared.timer.TimerCall.TheVariants as timer_calls
@@ -71,6 +72,16 @@ semaphore_hides (Plain verb.Disarm (One n)) e = cc
 semaphore_hides (Plain verb.Permits Absent) e = cc
 semaphore_hides (Plain verb.Held Absent) e = cc
 semaphore_hides row e = cc
+
+pub pool_hides : (row : Row) → pool_call row ≢ Some pool_calls.NextWake
+pool_hides (Make verb.Wait Absent) e = cc
+pool_hides (Poll future (One waker)) e = cc
+pool_hides (Cancel future Absent) e = cc
+pool_hides (Plain verb.Submit (One job)) e = cc
+pool_hides (Plain verb.Start Absent) e = cc
+pool_hides (Plain verb.Finish Absent) e = cc
+pool_hides (Plain verb.Shutdown Absent) e = cc
+pool_hides row e = cc
 
 poll_hides : (made_by : Verb) (slot : Slot) (waker : ℕ) → channel_poll made_by slot waker ≢ Some channel_calls.NextWake
 poll_hides verb.Send slot waker e = cc

@@ -1,5 +1,5 @@
 -- What is on its way to a writer.
-use Rattle.std.specs.Prelude.{◌≡◌, ⊤, ℕ, List, ◌++◌, Option, Some, None}
+use Rattle.std.specs.Prelude.{◌≡◌, ℕ, List, ◌++◌, Option, Some, None}
 use Rattle.std.specs.Io.KnownBytes.{Appends, append_known}
 use Rattle.schedule.specs.declared.output.Output.{Output}
 

@@ -12,6 +12,9 @@ use Rattle.fi_run.specs.Event as event
 use Rattle.fi_run.specs.Mutex as mutex
 use Rattle.fi_run.specs.Oneshot as oneshot
 use Rattle.fi_run.specs.Outgoing.{machine_outgoing}
+use Rattle.fi_run.specs.Pool as pool
+use Rattle.fi_run.specs.Pool.{PoolMachine}
+use Rattle.fi_run.specs.PoolLaws.{pool_outgoing}
 use Rattle.fi_run.specs.Semaphore as semaphore
 use Rattle.fi_run.specs.State as state
 use Rattle.fi_run.specs.Timer as timer
@@ -19,6 +22,7 @@ use Rattle.fi_run.specs.declared.channel.ChannelCall.{ChannelCall}
 use Rattle.fi_run.specs.declared.event.EventCall.{EventCall}
 use Rattle.fi_run.specs.declared.mutex.MutexCall.{MutexCall}
 use Rattle.fi_run.specs.declared.oneshot.OneshotCall.{OneshotCall}
+use Rattle.fi_run.specs.declared.pool.PoolCall.{PoolCall}
 use Rattle.fi_run.specs.declared.semaphore.SemaphoreCall.{SemaphoreCall}
 use Rattle.fi_run.specs.declared.state.StateCall.{StateCall}
 use Rattle.fi_run.specs.declared.timer.TimerCall.{TimerCall}
@@ -27,14 +31,15 @@ use Rattle.schedule.specs.declared.fault.ScriptFault.{ScriptFault}
 use Rattle.schedule.specs.declared.fault.ScriptFault.TheVariants.{Read, Write, BadLine, NoMemory}
 use Rattle.schedule.specs.declared.named.Named.{Named}
 use Rattle.schedule.specs.declared.named.Named.TheVariants.{Channel, Event, Oneshot, OneshotBroadcast, StateBroadcast}
-use Rattle.schedule.specs.declared.named.Named.TheVariants.{Timer, Mutex, Semaphore}
+use Rattle.schedule.specs.declared.named.Named.TheVariants.{Timer, Mutex, Semaphore, Pool}
 use Rattle.schedule.specs.Names.{name_of}
 use Rattle.schedule.specs.Answered.{AnswersRest, AnswersFront, AnswersBeginning}
 use Rattle.schedule.specs.Channels.{spoken_channel}
 use Rattle.schedule.specs.Cuts.{IsCut}
 use Rattle.schedule.specs.Language.{Spoken, spoken}
 use Rattle.schedule.specs.Lines.{joined}
-use Rattle.schedule.specs.Tables.{event_language, mutex_language, oneshot_language, semaphore_language, state_language, timer_language}
+use Rattle.schedule.specs.Tables.{event_language, mutex_language, oneshot_language, pool_language, semaphore_language}
+use Rattle.schedule.specs.Tables.{state_language, timer_language}
 
 -- a number's clone is the number, and can't fail
 abbrev pub is_same : ℕ → ℕ → Type 0
@@ -62,6 +67,7 @@ OfPrimitive Mutex P =
 OfPrimitive Semaphore P =
     P (SemaphoreMachine ℕ) (ℕ × Bool) (SemaphoreCall ℕ)
     (spoken semaphore.Opens semaphore.Step machine_outgoing semaphore_language)
+OfPrimitive Pool P = P (PoolMachine ℕ) (ℕ × ℕ) (PoolCall ℕ) (spoken pool.Opens pool.Step pool_outgoing pool_language)
 
 -- The first line is the primitive's name, and what stands after it for the opening, which is one that scripts can name.
 abbrev pub IsFirst : {S O C : Type 0} → Named → Spoken S O C → List ℕ → O → Type 0

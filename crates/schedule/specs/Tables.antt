@@ -11,6 +11,8 @@ use Rattle.fi_run.specs.declared.mutex.MutexCall.{MutexCall}
 use Rattle.fi_run.specs.declared.mutex.MutexCall.TheVariants as mutex
 use Rattle.fi_run.specs.declared.oneshot.OneshotCall.{OneshotCall}
 use Rattle.fi_run.specs.declared.oneshot.OneshotCall.TheVariants as oneshot
+use Rattle.fi_run.specs.declared.pool.PoolCall.{PoolCall}
+use Rattle.fi_run.specs.declared.pool.PoolCall.TheVariants as pool
 use Rattle.fi_run.specs.declared.semaphore.SemaphoreCall.{SemaphoreCall}
 use Rattle.fi_run.specs.declared.semaphore.SemaphoreCall.TheVariants as semaphore
 use Rattle.fi_run.specs.declared.state.StateCall.{StateCall}
@@ -18,7 +20,7 @@ use Rattle.fi_run.specs.declared.state.StateCall.TheVariants as state
 use Rattle.fi_run.specs.declared.timer.TimerCall.{TimerCall}
 use Rattle.fi_run.specs.declared.timer.TimerCall.TheVariants as timer
 use Rattle.schedule.specs.Language.{Openings, Language}
-use Rattle.schedule.specs.Lines.{joined}
+use Rattle.schedule.specs.Lines.{joined, numerals}
 use Rattle.schedule.specs.declared.buffer.Buffer.{Buffer}
 use Rattle.schedule.specs.declared.buffer.Buffer.TheVariants.{Array0, Array1, Array2, Array5, Fixed, Growing}
 use Rattle.schedule.specs.declared.numbers.Numbers.TheVariants.{Absent, One, Two}
@@ -133,6 +135,27 @@ semaphore_call row = None
 
 abbrev pub semaphore_language : Language (ℕ × Bool) (SemaphoreCall ℕ)
 semaphore_language = record { openings = fair_openings; call_of = semaphore_call }
+
+-- ---- the worker pool
+-- The limit, a number of 64 bits, and the capacity, each in plain decimal.
+abbrev pub pool_openings : Openings (ℕ × ℕ)
+pool_openings = record {
+  is_nameable = λ opening. (opening.0 < 2 ^ 64) × (opening.1 ≤ 65536);
+  text = λ opening. numerals (Two opening.0 opening.1);
+}
+
+abbrev pub pool_call : Row → Option (PoolCall ℕ)
+pool_call (Make verb.Wait Absent) = Some pool.Wait
+pool_call (Poll future (One waker)) = Some (pool.Poll future.slot waker)
+pool_call (Cancel future Absent) = Some (pool.Cancel future.slot)
+pool_call (Plain verb.Submit (One job)) = Some (pool.Submit job)
+pool_call (Plain verb.Start Absent) = Some pool.Start
+pool_call (Plain verb.Finish Absent) = Some pool.Finish
+pool_call (Plain verb.Shutdown Absent) = Some pool.Shutdown
+pool_call row = None
+
+abbrev pub pool_language : Language (ℕ × ℕ) (PoolCall ℕ)
+pool_language = record { openings = pool_openings; call_of = pool_call }
 
 -- ---- the channel of many values
 -- the words after its name

@@ -1,9 +1,10 @@
 -- The verbs of script lines.
 use Rattle.std.specs.Prelude.{◌≢◌, ℕ, List, codes}
 use Rattle.schedule.specs.declared.verb.Verb.{Verb}
-use Rattle.schedule.specs.declared.verb.Verb.TheVariants.{Acquire, Cancel, Check, Close, Deadline, Delay, Disarm, GiveBack}
+use Rattle.schedule.specs.declared.verb.Verb.TheVariants.{Acquire, Cancel, Check, Close, Deadline, Delay, Disarm, Finish, GiveBack}
 use Rattle.schedule.specs.declared.verb.Verb.TheVariants.{Held, IsLocked, IsSet, Lock, Next, Permits, Poll, Receive, Release}
-use Rattle.schedule.specs.declared.verb.Verb.TheVariants.{Reset, Send, Set, Stream, TryAcquire, TryLock, TryReceive, TrySend, Unlock, Wait}
+use Rattle.schedule.specs.declared.verb.Verb.TheVariants.{Reset, Send, Set, Shutdown, Start, Stream, Submit}
+use Rattle.schedule.specs.declared.verb.Verb.TheVariants.{TryAcquire, TryLock, TryReceive, TrySend, Unlock, Wait}
 
 abbrev pub verb_text : Verb → List ℕ
 verb_text Acquire = codes "acquire"
@@ -13,6 +14,7 @@ verb_text Close = codes "close"
 verb_text Deadline = codes "deadline"
 verb_text Delay = codes "delay"
 verb_text Disarm = codes "disarm"
+verb_text Finish = codes "finish"
 verb_text GiveBack = codes "give-back"
 verb_text Held = codes "held"
 verb_text IsLocked = codes "is-locked"
@@ -26,7 +28,10 @@ verb_text Release = codes "release"
 verb_text Reset = codes "reset"
 verb_text Send = codes "send"
 verb_text Set = codes "set"
+verb_text Shutdown = codes "shutdown"
+verb_text Start = codes "start"
 verb_text Stream = codes "stream"
+verb_text Submit = codes "submit"
 verb_text TryAcquire = codes "try-acquire"
 verb_text TryLock = codes "try-lock"
 verb_text TryReceive = codes "try-receive"

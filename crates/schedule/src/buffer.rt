@@ -10,7 +10,7 @@ use crate::number::parse_number;
 use crate::words::split_at_first;
 
 /// The greatest capacity of a heap buffer.
-const MOST_PLACES: u64 = 65536;
+pub const MOST_PLACES: u64 = 65536;
 
 /// A channel's buffer: the arrays that scripts name, and the two heap buffers with their capacity.
 #[derive(Clone, Copy, Debug, PartialEq, Eq)]

@@ -30,7 +30,7 @@ use fi_channels::{
 };
 use fi_locks::{MutexState, SemaphoreState, TimerState};
 use fi_parts::buffer::{ArrayBuf, FixedHeapBuf, GrowingHeapBuf, RingBuf};
-use fi_run::Answer;
+use fi_run::{Answer, PoolState};
 use std::alloc::Global;
 use std::io::{Read, Write};
 
@@ -104,6 +104,7 @@ fn answer_script<W: Write>(
         Some(Named::Semaphore) => {
             answer_calls::<SemaphoreState<u64>, W>(alloc, words, lines, output)
         }
+        Some(Named::Pool) => answer_calls::<PoolState<u64>, W>(alloc, words, lines, output),
         None => Err(ScriptFault::BadLine(1)),
     }
 }

@@ -16,6 +16,7 @@ mod number;
 mod numbers;
 mod oneshot;
 mod output;
+mod pool;
 mod program;
 mod row;
 mod scripted;

@@ -13,6 +13,7 @@ pub enum Named {
     Timer,
     Mutex,
     Semaphore,
+    Pool,
 }
 
 impl Named {
@@ -36,6 +37,8 @@ impl Named {
             Some(Named::Mutex)
         } else if word == b"semaphore".as_slice() {
             Some(Named::Semaphore)
+        } else if word == b"pool".as_slice() {
+            Some(Named::Pool)
         } else {
             None
         }

@@ -14,6 +14,7 @@ mod edges;
 mod event;
 mod faults;
 mod mutex;
+mod pool;
 mod program;
 mod semaphore;
 mod timer;

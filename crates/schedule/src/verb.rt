@@ -12,6 +12,7 @@ pub enum Verb {
     Deadline,
     Delay,
     Disarm,
+    Finish,
     GiveBack,
     Held,
     IsLocked,
@@ -25,7 +26,10 @@ pub enum Verb {
     Reset,
     Send,
     Set,
+    Shutdown,
+    Start,
     Stream,
+    Submit,
     TryAcquire,
     TryLock,
     TryReceive,
@@ -49,6 +53,15 @@ impl Verb {
         }
         if word == b"stream".as_slice() {
             return Some(Verb::Stream);
+        }
+        if word == b"start".as_slice() {
+            return Some(Verb::Start);
+        }
+        if word == b"submit".as_slice() {
+            return Some(Verb::Submit);
+        }
+        if word == b"shutdown".as_slice() {
+            return Some(Verb::Shutdown);
         }
         match word {
             b"poll" => Some(Verb::Poll),
@@ -75,6 +88,7 @@ impl Verb {
             b"disarm" => Some(Verb::Disarm),
             b"permits" => Some(Verb::Permits),
             b"held" => Some(Verb::Held),
+            b"finish" => Some(Verb::Finish),
             _ => None,
         }
     }

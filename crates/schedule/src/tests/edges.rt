@@ -105,6 +105,26 @@ semaphore fair 18446744073709551616
 semaphore unfair 3 3
 semaphore unfairly 3
 semaphores fair 3
+pool
+pool\u{20}
+pool 1
+pool 1\u{20}
+pool 1 2 3
+pool 1 2\u{20}
+pool 1\u{20}\u{20}2
+pool 1 65537
+pool 18446744073709551616 2
+pool 01 2
+pool 1 02
+pool -1 2
+pool w 2
+pool 1 w
+pool fair 2
+pool 1\t2
+pool 1 2\r
+pools 1 2
+Pool 1 2
+hold pool 1 2
 channel
 channel 1
 channel array
@@ -188,6 +208,11 @@ disarm 1
 permits
 held
 semaphore fair 3
+submit 5
+start
+finish
+shutdown
+pool 1 2
 stream a
 send a 1
 try-send 1
@@ -362,6 +387,7 @@ fn a_thousand_wait(rt: HostRuntime) -> Result<(), Fail> {
         (passing, "lock", "", ""),
         ("semaphore fair 5", "acquire", most, ""),
         ("semaphore unfair 5", "acquire", " 6", ""),
+        ("pool 1 2", "wait", "", ""),
     ];
     for (beginning, verb, asks, moment) in kinds {
         check_all_wait(&rt, rt.alloc(), beginning, verb, asks, moment)?;

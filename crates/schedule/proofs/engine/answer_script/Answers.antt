@@ -1,6 +1,6 @@
 use Rattle.std.specs.Prelude.{option_copied}
 use Rattle.schedule.specs.declared.named.Named.TheVariants.{Channel, Event, Oneshot, OneshotBroadcast, StateBroadcast}
-use Rattle.schedule.specs.declared.named.Named.TheVariants.{Timer, Mutex, Semaphore}
+use Rattle.schedule.specs.declared.named.Named.TheVariants.{Timer, Mutex, Semaphore, Pool}
 use Rattle.schedule.proofs.Script.{script_answered, script_stopped, refused_first}
 use Rattle.schedule.proofs.engine.answer_script.Goals as goal
 
@@ -141,6 +141,24 @@ returns-in-Some-Semaphore-clause-stopped g c =
     c.answer_calls-in-Some-Semaphore.new.output Semaphore
     (rw c.in-Some-Semaphore.field-0-is at c.in-Some-Semaphore.ensures)
     c.answer_calls-in-Some-Semaphore.result c.answer_calls-in-Some-Semaphore.ensures.stopped
+
+pub returns-in-Some-Pool-clause-answered : goal.returns-in-Some-Pool-clause-answered
+returns-in-Some-Pool-clause-answered g c =
+    script_answered g.W.Write.contents c.args.script.now c.split_at_first.result.0.now c.split_at_first-2.result.0.now
+    (option_copied c.after-lines.result.rest) (option_copied c.split_at_first-2.result.1)
+    (rw c.after-lines.ensures c.split_at_first.ensures) c.split_at_first-2.ensures c.args.output.now
+    c.answer_calls-in-Some-Pool.new.output Pool
+    (rw c.in-Some-Pool.field-0-is at c.in-Some-Pool.ensures)
+    c.answer_calls-in-Some-Pool.result c.answer_calls-in-Some-Pool.ensures.answered
+
+pub returns-in-Some-Pool-clause-stopped : goal.returns-in-Some-Pool-clause-stopped
+returns-in-Some-Pool-clause-stopped g c =
+    script_stopped g.W.Write.contents c.args.script.now c.split_at_first.result.0.now c.split_at_first-2.result.0.now
+    (option_copied c.after-lines.result.rest) (option_copied c.split_at_first-2.result.1)
+    (rw c.after-lines.ensures c.split_at_first.ensures) c.split_at_first-2.ensures c.args.output.now
+    c.answer_calls-in-Some-Pool.new.output Pool
+    (rw c.in-Some-Pool.field-0-is at c.in-Some-Pool.ensures)
+    c.answer_calls-in-Some-Pool.result c.answer_calls-in-Some-Pool.ensures.stopped
 
 pub returns-in-None-clause-stopped : goal.returns-in-None-clause-stopped
 returns-in-None-clause-stopped g c =
