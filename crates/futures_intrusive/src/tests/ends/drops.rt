@@ -17,7 +17,39 @@ fn owner(rt: &impl Abort, counted: &Counted) -> Counted {
     counted.clone().expect(rt, "memory")
 }
 
-// Makes a channel with a value buffered, one waiting and one refused, and drops its parts: four in turn, and then what is left.
+// What lives of a channel: two ends and three futures.
+#[derive(Drop)]
+struct Living<A, B, C, D, E> {
+    sender: Option<A>,
+    receiver: Option<B>,
+    send: Option<C>,
+    receive: Option<D>,
+    stream: Option<E>,
+}
+
+impl<A: Drop, B: Drop, C: Drop, D: Drop, E: Drop> Living<A, B, C, D, E> {
+    // Drops the part of this number, if it is still there.
+    fn let_go(&mut self, part: u32) {
+        match part {
+            0 => self.sender = None,
+            1 => self.receiver = None,
+            2 => self.send = None,
+            3 => self.receive = None,
+            _ => self.stream = None,
+        }
+    }
+
+    // Drops four parts in turn, and then what is left.
+    fn let_all_go(self, order: u32) {
+        let mut living = self;
+        living.let_go(order % 5);
+        living.let_go(order / 5 % 5);
+        living.let_go(order / 25 % 5);
+        living.let_go(order / 125);
+    }
+}
+
+// Makes a channel with a value buffered, one waiting and one refused, and drops its parts.
 fn drop_parts<R>(rt: R, counted: &Counted, order: u32)
 where
     R: Wait + Abort + Drop + Copy + RandomSource + AllocGlobal,
@@ -28,21 +60,19 @@ where
     assert!(rt; sender.try_send(owner(&rt, counted)).is_ok());
     let mut send = sender.send(owner(&rt, counted)).ok().expect(&rt, "memory");
     assert!(rt; task.poll(&mut send).is_pending());
-    let _refused = sender.try_send(owner(&rt, counted));
-    assert_eq!(rt; Rc::strong_count(counted), 4);
-    let mut receive = Some(receiver.receive().expect(&rt, "memory"));
+    assert!(rt; sender.try_send(owner(&rt, counted)).is_err());
+    assert_eq!(rt; Rc::strong_count(counted), 3);
+    let receive = receiver.receive().expect(&rt, "memory");
     let other = receiver.clone().expect(&rt, "memory");
-    let mut stream = Some(other.into_stream().ok().expect(&rt, "memory"));
-    let (mut sender, mut receiver, mut send) = (Some(sender), Some(receiver), Some(send));
-    for turn in [1, 5, 25, 125] {
-        match order / turn % 5 {
-            0 => drop(sender.take()),
-            1 => drop(receiver.take()),
-            2 => drop(send.take()),
-            3 => drop(receive.take()),
-            _ => drop(stream.take()),
-        }
-    }
+    let stream = other.into_stream().ok().expect(&rt, "memory");
+    let living = Living {
+        sender: Some(sender),
+        receiver: Some(receiver),
+        send: Some(send),
+        receive: Some(receive),
+        stream: Some(stream),
+    };
+    living.let_all_go(order);
 }
 
 #[test]
