@@ -1,5 +1,5 @@
 //! The verbs of script lines.
-ghost use Rattle.std.specs.Prelude.{◌≡◌, MatchOption};
+ghost use Rattle.std.specs.Prelude.{◌≡◌, ◌≢◌, MatchOption, codes};
 ghost use Rattle.schedule.specs.Verbs.{verb_text, IsNoVerb};
 
 /// What a line asks for.
@@ -44,24 +44,8 @@ impl Verb {
     pub fn by(word: &[u8]) -> Option<Verb>
         ensures { MatchOption result (IsNoVerb word.now) (λ verb. word.now ≡ verb_text verb) }
     {
-        // As arms of the `match` these would take its proof past the prover's limits: they begin as others do.
-        if word == b"try-acquire".as_slice() {
-            return Some(Verb::TryAcquire);
-        }
-        if word == b"try-send".as_slice() {
-            return Some(Verb::TrySend);
-        }
-        if word == b"stream".as_slice() {
-            return Some(Verb::Stream);
-        }
-        if word == b"start".as_slice() {
-            return Some(Verb::Start);
-        }
-        if word == b"submit".as_slice() {
-            return Some(Verb::Submit);
-        }
-        if word == b"shutdown".as_slice() {
-            return Some(Verb::Shutdown);
+        if let Some(verb) = Verb::with_shared_beginning(word) {
+            return Some(verb);
         }
         match word {
             b"poll" => Some(Verb::Poll),
@@ -90,6 +74,31 @@ impl Verb {
             b"held" => Some(Verb::Held),
             b"finish" => Some(Verb::Finish),
             _ => None,
+        }
+    }
+
+    /// The verb that a word spells, of those that begin as others do: as arms of the `match` above they would take its proof past the
+    /// prover's limits.
+    #[inline(always)]
+    fn with_shared_beginning(word: &[u8]) -> Option<Verb>
+        ensures { MatchOption result ((word.now ≢ codes "try-acquire") × (word.now ≢ codes "try-send")
+            × (word.now ≢ codes "stream") × (word.now ≢ codes "start") × (word.now ≢ codes "submit")
+            × (word.now ≢ codes "shutdown")) (λ verb. word.now ≡ verb_text verb) }
+    {
+        if word == b"try-acquire".as_slice() {
+            Some(Verb::TryAcquire)
+        } else if word == b"try-send".as_slice() {
+            Some(Verb::TrySend)
+        } else if word == b"stream".as_slice() {
+            Some(Verb::Stream)
+        } else if word == b"start".as_slice() {
+            Some(Verb::Start)
+        } else if word == b"submit".as_slice() {
+            Some(Verb::Submit)
+        } else if word == b"shutdown".as_slice() {
+            Some(Verb::Shutdown)
+        } else {
+            None
         }
     }
 }
