@@ -1,8 +1,6 @@
 //! Ends that are owned and counted: the last of a side closes the channel, and wakes those who wait.
 
-mod debug;
 mod drops;
-mod flavours;
 mod threads;
 
 use crate::channel::shared::{
