@@ -6,6 +6,5 @@ mod pages;
 mod parts;
 mod paths;
 mod refusals;
-mod tasks;
 mod texts;
 mod threads;
