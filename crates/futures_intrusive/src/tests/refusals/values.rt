@@ -34,13 +34,9 @@ where
     expect_refusals(rt, alloc, hoard, scene);
 }
 
-#[test]
-fn makings(rt: HostRuntime) -> Result<(), Fail> {
-    let alloc = rt.alloc();
-    let mut hoard = Hoard::new(alloc)?;
-    let hoard = &mut hoard;
+fn making_of_event(rt: &impl Abort, alloc: Global, hoard: &mut Hoard) {
     is_refused::<EventState<u64>>(
-        &rt,
+        rt,
         alloc,
         hoard,
         &Plain {
@@ -56,8 +52,11 @@ fn makings(rt: HostRuntime) -> Result<(), Fail> {
             after: &[EventCall::Poll(B, 2), EventCall::Poll(A, 3), EventCall::Set],
         },
     );
+}
+
+fn making_of_oneshot(rt: &impl Abort, alloc: Global, hoard: &mut Hoard) {
     is_refused::<OneshotState<u64, u64>>(
-        &rt,
+        rt,
         alloc,
         hoard,
         &Plain {
@@ -72,8 +71,11 @@ fn makings(rt: HostRuntime) -> Result<(), Fail> {
             after: &[OneshotCall::Poll(B, 2), OneshotCall::Poll(A, 3)],
         },
     );
+}
+
+fn making_of_state_broadcast(rt: &impl Abort, alloc: Global, hoard: &mut Hoard) {
     is_refused::<StateBroadcastState<u64, u64>>(
-        &rt,
+        rt,
         alloc,
         hoard,
         &Plain {
@@ -92,8 +94,11 @@ fn makings(rt: HostRuntime) -> Result<(), Fail> {
             ],
         },
     );
+}
+
+fn making_of_mutex(rt: &impl Abort, alloc: Global, hoard: &mut Hoard) {
     is_refused::<MutexState<u64, u64>>(
-        &rt,
+        rt,
         alloc,
         hoard,
         &Plain {
@@ -113,8 +118,11 @@ fn makings(rt: HostRuntime) -> Result<(), Fail> {
             ],
         },
     );
+}
+
+fn making_of_semaphore(rt: &impl Abort, alloc: Global, hoard: &mut Hoard) {
     is_refused::<SemaphoreState<u64>>(
-        &rt,
+        rt,
         alloc,
         hoard,
         &Plain {
@@ -133,8 +141,11 @@ fn makings(rt: HostRuntime) -> Result<(), Fail> {
             ],
         },
     );
+}
+
+fn making_of_timer(rt: &impl Abort, alloc: Global, hoard: &mut Hoard) {
     is_refused::<TimerState<u64>>(
-        &rt,
+        rt,
         alloc,
         hoard,
         &Plain {
@@ -153,11 +164,26 @@ fn makings(rt: HostRuntime) -> Result<(), Fail> {
             ],
         },
     );
+}
+
+#[test]
+fn makings(rt: HostRuntime) -> Result<(), Fail> {
+    let mut hoard = Hoard::new(rt.alloc())?;
+    making_of_event(&rt, rt.alloc(), &mut hoard);
+    making_of_oneshot(&rt, rt.alloc(), &mut hoard);
+    making_of_state_broadcast(&rt, rt.alloc(), &mut hoard);
+    making_of_mutex(&rt, rt.alloc(), &mut hoard);
+    making_of_semaphore(&rt, rt.alloc(), &mut hoard);
+    making_of_timer(&rt, rt.alloc(), &mut hoard);
     Ok(())
 }
 
-// The makings of a channel, and the sends into a buffer that has no room yet.
-fn of_channel<R: RingBuf<Item = u64> + Drop>(rt: &impl Abort, alloc: Global, hoard: &mut Hoard) {
+// The makings of a receive and a stream.
+fn receives_of_channel<R: RingBuf<Item = u64> + Drop>(
+    rt: &impl Abort,
+    alloc: Global,
+    hoard: &mut Hoard,
+) {
     for call in [ChannelCall::Receive, ChannelCall::Stream] {
         is_refused::<ChannelState<u64, R, u64>>(
             rt,
@@ -181,6 +207,14 @@ fn of_channel<R: RingBuf<Item = u64> + Drop>(rt: &impl Abort, alloc: Global, hoa
             },
         );
     }
+}
+
+// The making of a send, whose value comes back.
+fn send_of_channel<R: RingBuf<Item = u64> + Drop>(
+    rt: &impl Abort,
+    alloc: Global,
+    hoard: &mut Hoard,
+) {
     is_refused::<ChannelState<u64, R, u64>>(
         rt,
         alloc,
@@ -206,20 +240,19 @@ fn of_channel<R: RingBuf<Item = u64> + Drop>(rt: &impl Abort, alloc: Global, hoa
 #[test]
 fn makings_of_channels(rt: HostRuntime) -> Result<(), Fail> {
     let mut hoard = Hoard::new(rt.alloc())?;
-    of_channel::<ArrayBuf<u64, 1>>(&rt, rt.alloc(), &mut hoard);
-    of_channel::<FixedHeapBuf<u64>>(&rt, rt.alloc(), &mut hoard);
-    of_channel::<GrowingHeapBuf<u64>>(&rt, rt.alloc(), &mut hoard);
+    receives_of_channel::<ArrayBuf<u64, 1>>(&rt, rt.alloc(), &mut hoard);
+    send_of_channel::<ArrayBuf<u64, 1>>(&rt, rt.alloc(), &mut hoard);
+    receives_of_channel::<FixedHeapBuf<u64>>(&rt, rt.alloc(), &mut hoard);
+    send_of_channel::<FixedHeapBuf<u64>>(&rt, rt.alloc(), &mut hoard);
+    receives_of_channel::<GrowingHeapBuf<u64>>(&rt, rt.alloc(), &mut hoard);
+    send_of_channel::<GrowingHeapBuf<u64>>(&rt, rt.alloc(), &mut hoard);
     Ok(())
 }
 
-#[test]
-fn growing_sends(rt: HostRuntime) -> Result<(), Fail> {
-    let alloc = rt.alloc();
-    let mut hoard = Hoard::new(alloc)?;
-    let hoard = &mut hoard;
+fn try_send_grows(rt: &impl Abort, alloc: Global, hoard: &mut Hoard) {
     let receive = [ChannelCall::Receive, ChannelCall::PollReceive(A, 1)];
     is_refused::<ChannelState<u64, GrowingHeapBuf<u64>, u64>>(
-        &rt,
+        rt,
         alloc,
         hoard,
         &Plain {
@@ -230,6 +263,9 @@ fn growing_sends(rt: HostRuntime) -> Result<(), Fail> {
             after: &[ChannelCall::PollReceive(A, 2), ChannelCall::TryReceive],
         },
     );
+}
+
+fn send_grows(rt: &impl Abort, alloc: Global, hoard: &mut Hoard) {
     let send = [
         ChannelCall::Receive,
         ChannelCall::PollReceive(A, 1),
@@ -237,7 +273,7 @@ fn growing_sends(rt: HostRuntime) -> Result<(), Fail> {
         ChannelCall::Send(6),
     ];
     is_refused::<ChannelState<u64, GrowingHeapBuf<u64>, u64>>(
-        &rt,
+        rt,
         alloc,
         hoard,
         &Plain {
@@ -253,9 +289,18 @@ fn growing_sends(rt: HostRuntime) -> Result<(), Fail> {
             ],
         },
     );
-    // The value of a send that was refused comes back at its cancel.
+}
+
+// The value of a send that was refused comes back at its cancel.
+fn refused_send_is_cancelled(rt: &impl Abort, alloc: Global, hoard: &mut Hoard) {
+    let send = [
+        ChannelCall::Receive,
+        ChannelCall::PollReceive(A, 1),
+        ChannelCall::Send(5),
+        ChannelCall::Send(6),
+    ];
     is_refused::<ChannelState<u64, GrowingHeapBuf<u64>, u64>>(
-        &rt,
+        rt,
         alloc,
         hoard,
         &Plain {
@@ -266,5 +311,13 @@ fn growing_sends(rt: HostRuntime) -> Result<(), Fail> {
             after: &[ChannelCall::CancelSend(A), ChannelCall::TryReceive],
         },
     );
+}
+
+#[test]
+fn growing_sends(rt: HostRuntime) -> Result<(), Fail> {
+    let mut hoard = Hoard::new(rt.alloc())?;
+    try_send_grows(&rt, rt.alloc(), &mut hoard);
+    send_grows(&rt, rt.alloc(), &mut hoard);
+    refused_send_is_cancelled(&rt, rt.alloc(), &mut hoard);
     Ok(())
 }
