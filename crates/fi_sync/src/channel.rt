@@ -4,6 +4,7 @@ ghost use Rattle.fi_parts.specs.declared.errors.Fault.{Fault};
 ghost use Rattle.fi_channels.specs.ChannelErrors.{value_in};
 ghost use Rattle.fi_sync.specs.Waiting.{IsNew};
 
+use crate::blocking::{Blocking, wait_for};
 use crate::channel_stream::ChannelStream;
 use crate::monitor::Monitor;
 use crate::receive_future::ChannelReceiveFuture;
@@ -42,14 +43,16 @@ impl<T: Drop, B: RingBuf<Item = T>, R> Model for GenericChannel<T, B, R> {
     ghost view = { λ channel. channel.monitor };
 }
 
-impl<T: Drop, B: RingBuf<Item = T>, R: Drop> GenericChannel<T, B, R> {
+impl<T: Drop, B: RingBuf<Item = T>, R> GenericChannel<T, B, R> {
     /// An open channel over the buffer that `RingBuf::new` makes, which has taken no memory yet. Keeps `GenericChannel::new`.
     pub fn new(alloc: Global, rt: R) -> Self {
         GenericChannel {
             monitor: Monitor::new(rt, ChannelState::new(alloc)),
         }
     }
+}
 
+impl<T: Drop, B: RingBuf<Item = T>, R: Drop> GenericChannel<T, B, R> {
     /// An open channel over a buffer for `capacity` values. Some buffers ignore the number and have a capacity of their own.
     /// Refused only with `NoMemory`. Keeps `GenericChannel::with_capacity`.
     pub fn with_capacity(alloc: Global, rt: R, capacity: usize) -> Result<Self, Fault>
@@ -117,6 +120,24 @@ impl<T: Drop, B: RingBuf<Item = T>, R: Wait> GenericChannel<T, B, R> {
             .monitor
             .claim((), |channel, ()| channel.claim_stream())?;
         Ok(ChannelStream::new(&self.monitor, claim))
+    }
+}
+
+impl<T: Drop, B: RingBuf<Item = T>, R: Blocking> GenericChannel<T, B, R> {
+    /// Blocks this thread until the value is stored or taken. Else the value comes back: with `Closed`, or with `NoMemory` where
+    /// there is none to wait with or the buffer could not grow; never with `Full`.
+    pub fn send_blocking(&self, value: T) -> Result<(), TrySendError<T>> {
+        match self.send(value) {
+            Ok(mut send) => send.wait_blocking(self.monitor.runtime()),
+            Err(NoRoom(value)) => Err(TrySendError::NoMemory(value)),
+        }
+    }
+
+    /// Blocks this thread until a value comes, and receives it; None once the channel is closed and empty. Refused with
+    /// `NoMemory` where there is none to wait with; then it took nothing.
+    pub fn receive_blocking(&self) -> Result<Option<T>, Fault> {
+        let receive = self.receive()?;
+        wait_for(self.monitor.runtime(), receive)?
     }
 }
 

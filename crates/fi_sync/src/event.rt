@@ -3,6 +3,7 @@ ghost use Rattle.std.specs.Prelude.{◌≡◌, IfOk, IfErr};
 ghost use Rattle.fi_parts.specs.declared.errors.Fault.{Fault};
 ghost use Rattle.fi_sync.specs.Waiting.{IsNew};
 
+use crate::blocking::{Blocking, wait_for};
 use crate::event_future::WaitForEventFuture;
 use crate::monitor::Monitor;
 use crate::slot_future::SlotFuture;
@@ -66,6 +67,14 @@ impl<R: Wait> ManualResetEvent<R> {
     {
         let claim = self.monitor.claim((), |event, ()| event.claim_waiter())?;
         Ok(SlotFuture::new(&self.monitor, claim))
+    }
+}
+
+impl<R: Blocking> ManualResetEvent<R> {
+    /// Blocks this thread until the event is set. Refused with `NoMemory` where there is none to wait with.
+    pub fn wait_blocking(&self) -> Result<(), Fault> {
+        let wait = self.wait()?;
+        wait_for(self.monitor.runtime(), wait)?
     }
 }
 

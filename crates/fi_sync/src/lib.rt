@@ -3,6 +3,7 @@
 //! "Keeps `X`" says which item of futures-intrusive an item stands for.
 #![tactic(auto)]
 
+mod blocking;
 mod channel;
 mod channel_stream;
 mod claim;
@@ -31,6 +32,7 @@ mod timer;
 mod uses;
 mod wakes;
 
+pub use blocking::{Blocking, wait_for};
 pub use channel::{Channel, GenericChannel, UnbufferedChannel};
 pub use channel_stream::{ChannelStream, ChannelStreaming};
 pub use claim::{Cancel, Claim};

@@ -45,6 +45,11 @@ impl<S, R> Monitor<S, R> {
     {
         &self.source
     }
+
+    /// The runtime that waits for the lock.
+    pub fn runtime(&self) -> &R {
+        &self.rt
+    }
 }
 
 impl<S: HasOutbox, R: Wait> Monitor<S, R> {

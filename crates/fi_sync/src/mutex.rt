@@ -8,6 +8,7 @@ ghost use Rattle.fi_parts.specs.declared.errors.Fault.{Fault};
 ghost use Rattle.fi_sync.specs.Locked.{IsLockAnswer};
 ghost use Rattle.fi_sync.specs.Waiting.{IsNew, polled};
 
+use crate::blocking::{Blocking, wait_for};
 use crate::counted_mutex::{CountedMutex, Locked, MutexLock};
 use crate::monitor::Monitor;
 use crate::slot_future::SlotFuture;
@@ -80,6 +81,15 @@ impl<T: Drop, R: Wait, L: Ledger> Mutex<T, R, L> {
     /// Somebody held the mutex when it was looked at. Keeps `GenericMutex::is_locked`.
     pub fn is_locked(&self) -> bool {
         self.monitor.call((), |mutex, ()| mutex.is_locked())
+    }
+}
+
+impl<T: Drop, R: Blocking, L: Ledger> Mutex<T, R, L> {
+    /// Blocks this thread until the mutex is free for it, and locks it: its guard. Refused with `NoMemory` where there is none to
+    /// wait with.
+    pub fn lock_blocking(&self) -> Result<MutexGuard<'_, T, R, L>, Fault> {
+        let lock = self.lock()?;
+        wait_for(self.monitor.runtime(), lock)?
     }
 }
 

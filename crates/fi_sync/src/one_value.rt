@@ -3,6 +3,7 @@ ghost use Rattle.std.specs.Prelude.{◌≡◌, IfOk, IfErr};
 ghost use Rattle.fi_parts.specs.declared.errors.Fault.{Fault};
 ghost use Rattle.fi_sync.specs.Waiting.{IsNew};
 
+use crate::blocking::{Blocking, wait_for};
 use crate::monitor::Monitor;
 use crate::receive_future::ChannelReceiveFuture;
 use crate::slot_future::SlotFuture;
@@ -72,6 +73,15 @@ impl<T: Drop, G: GivesValue<T>, R: Wait> OneValueChannel<T, G, R> {
             .monitor
             .claim((), |channel, ()| channel.claim_receive())?;
         Ok(SlotFuture::new(&self.monitor, claim))
+    }
+}
+
+impl<T: Drop, G: GivesValue<T>, R: Blocking> OneValueChannel<T, G, R> {
+    /// Blocks this thread until the value comes, and receives it as `receive`: None if none will come. Refused with `NoMemory`
+    /// where there is none to wait with or to clone the value into; then it took nothing.
+    pub fn receive_blocking(&self) -> Result<Option<T>, Fault> {
+        let receive = self.receive()?;
+        wait_for(self.monitor.runtime(), receive)?
     }
 }
 

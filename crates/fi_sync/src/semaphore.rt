@@ -3,6 +3,7 @@ ghost use Rattle.std.specs.Prelude.{◌≡◌, IfOk, IfErr, IfSome};
 ghost use Rattle.fi_parts.specs.declared.errors.Fault.{Fault};
 ghost use Rattle.fi_sync.specs.Waiting.{IsNew};
 
+use crate::blocking::{Blocking, wait_for};
 use crate::counted_semaphore::CountedSemaphore;
 use crate::monitor::Monitor;
 use crate::semaphore_future::SemaphoreAcquireFutureOf;
@@ -95,5 +96,14 @@ impl<R: Wait, L: Ledger> Semaphore<R, L> {
     /// How many permits were held when it was looked at. The Rust crate does not count them.
     pub fn held(&self) -> usize {
         self.monitor.call((), |semaphore, ()| semaphore.held())
+    }
+}
+
+impl<R: Blocking, L: Ledger> Semaphore<R, L> {
+    /// Blocks this thread until this many permits are granted: their releaser. Refused with `NoMemory` where there is none to wait
+    /// with.
+    pub fn acquire_blocking(&self, permits: usize) -> Result<SemaphoreReleaser<'_, R, L>, Fault> {
+        let acquire = self.acquire(permits)?;
+        wait_for(self.monitor.runtime(), acquire)?
     }
 }

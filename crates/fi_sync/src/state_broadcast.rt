@@ -3,6 +3,7 @@ ghost use Rattle.std.specs.Prelude.{◌≡◌, IfOk, IfErr};
 ghost use Rattle.fi_parts.specs.declared.errors.Fault.{Fault};
 ghost use Rattle.fi_sync.specs.Waiting.{IsNew};
 
+use crate::blocking::{Blocking, wait_for};
 use crate::monitor::Monitor;
 use crate::receive_future::ChannelReceiveFuture;
 use crate::slot_future::SlotFuture;
@@ -81,6 +82,16 @@ impl<T: Clone, R: Wait> StateBroadcastChannel<T, R> {
             .monitor
             .claim(seen, StateBroadcastState::claim_receive)?;
         Ok(SlotFuture::new(&self.monitor, claim))
+    }
+}
+
+impl<T: Clone, R: Blocking> StateBroadcastChannel<T, R> {
+    /// Blocks this thread until there is a state whose number is greater than `seen`, and receives the newest; None once the
+    /// channel is closed and has no such state. Refused with `NoMemory` where there is none to wait with or to clone the state
+    /// into.
+    pub fn receive_blocking(&self, seen: StateId) -> Result<Option<(StateId, T)>, Fault> {
+        let receive = self.receive(seen)?;
+        wait_for(self.monitor.runtime(), receive)?
     }
 }
 

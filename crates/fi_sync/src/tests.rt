@@ -2,6 +2,7 @@ ghost use Rattle.std.specs.Prelude.{◌≡◌};
 ghost use Rattle.futures.specs.Poll.{OnPending};
 ghost use Rattle.fi_channels.specs.Event.{IsSound, OwesNoWake};
 
+mod blocking;
 mod channel;
 mod channel_stream;
 mod contention;

@@ -3,10 +3,13 @@ ghost use Rattle.std.specs.Prelude.{◌≡◌, IfOk, IfErr};
 ghost use Rattle.fi_parts.specs.declared.errors.Fault.{Fault};
 ghost use Rattle.fi_sync.specs.Waiting.{IsNew};
 
+use crate::blocking::{Blocking, wait_for};
 use crate::monitor::Monitor;
 use crate::slot_future::SlotFuture;
 use crate::timed::{Timed, TimerWait};
 use fi_parts::{Clock, Fault};
+use futures::Future;
+use futures::future::{Either, select};
 use std::alloc::Global;
 use std::marker::Model;
 use std::sync::Wait;
@@ -72,5 +75,29 @@ impl<C: Clock + Drop, R: Wait> TimerService<C, R> {
     /// `GenericTimerService::check_expirations`.
     pub fn check_expirations(&self) {
         self.monitor.call((), |timed, ()| timed.check_expirations());
+    }
+}
+
+impl<C: Clock + Drop, R: Blocking> TimerService<C, R> {
+    /// Blocks this thread until the future is ready, but at most so long: its output, or None once the time is over. Then the future
+    /// goes on: it may be waited for again, cancelled or dropped.
+    ///
+    /// The time is over when a check finds it so, so another thread has to call `check_expirations`. Refused with `NoMemory` where
+    /// there is none to wait with; the future goes on then too.
+    pub fn wait_at_most<F: Future>(
+        &self,
+        limit: Duration,
+        future: &mut F,
+    ) -> Result<Option<F::Output>, Fault>
+        requires { F.can_poll future.old }
+    {
+        let delay = self.delay(limit)?;
+        match wait_for(self.monitor.runtime(), select(future, delay))? {
+            Either::Left((output, _delay)) => Ok(Some(output)),
+            Either::Right((elapsed, _future)) => {
+                elapsed?;
+                Ok(None)
+            }
+        }
     }
 }

@@ -1,13 +1,10 @@
 //! Four threads at one primitive: no value, no permit and no wake is lost.
 ghost use Rattle.std.specs.Prelude.{◌≡◌};
 
-use crate::{Channel, Mutex, Semaphore};
-use futures::executor::block_on;
+use crate::{Blocking, Channel, Mutex, Semaphore};
 use std::alloc::AllocGlobal;
 use std::marker::Brand;
 use std::process::Abort;
-use std::random::RandomSource;
-use std::sync::Wait;
 use std::sync::atomic::{AtomicU64, Ordering};
 use std::sync::ledger::{Blank, Ledger};
 use std::thread;
@@ -16,31 +13,29 @@ use std::thread::Threads;
 const ROUNDS: u64 = 2500;
 
 // Adds one to the value under the lock, in each round.
-fn adds<R: Wait + RandomSource + AllocGlobal, L: Ledger>(rt: &R, mutex: &Mutex<u64, R, L>) {
+fn adds<R: Blocking, L: Ledger>(mutex: &Mutex<u64, R, L>) {
     for _ in 0..ROUNDS {
-        if let Ok(lock) = mutex.lock() {
-            if let Ok(Ok(mut guard)) = block_on(rt, lock) {
-                *guard = guard.saturating_add(1);
-            }
+        if let Ok(mut guard) = mutex.lock_blocking() {
+            *guard = guard.saturating_add(1);
         }
     }
 }
 
 fn add_all<'a, R, L>(rt: &'a R, mutex: &'a Mutex<u64, R, L>)
 where
-    R: Wait + Threads + RandomSource + AllocGlobal + Send + Sync,
+    R: Blocking + Threads + Send + Sync,
     L: Ledger + Send + Sync,
 {
     thread::scope(thread::scope_env(), rt, |scope| {
         for _ in 0..4 {
-            let _ = scope.spawn(move || adds(rt, mutex));
+            let _ = scope.spawn(move || adds(mutex));
         }
     });
 }
 
 fn locks<R, L>(rt: R, blank: Blank, is_fair: bool)
 where
-    R: Wait + Threads + Abort + Copy + RandomSource + AllocGlobal + Send + Sync,
+    R: Blocking + Threads + Abort + Copy + Send + Sync,
     L: Ledger + Send + Sync,
     requires name { blank.name ≡ L.name }
     requires parts { blank.parts ≡ L.parts }
@@ -62,35 +57,29 @@ fn four_threads_lock_unfairly(rt: HostRuntime) {
 }
 
 // Takes two permits and gives them back, in each round. Counts the rounds in which it was granted them.
-fn takes<R: Wait + RandomSource + AllocGlobal, L: Ledger>(
-    rt: &R,
-    semaphore: &Semaphore<R, L>,
-    granted: &AtomicU64,
-) {
+fn takes<R: Blocking, L: Ledger>(semaphore: &Semaphore<R, L>, granted: &AtomicU64) {
     for _ in 0..ROUNDS {
-        if let Ok(acquire) = semaphore.acquire(2) {
-            if matches!(block_on(rt, acquire), Ok(Ok(_))) {
-                granted.fetch_add(1, Ordering::SeqCst);
-            }
+        if semaphore.acquire_blocking(2).is_ok() {
+            granted.fetch_add(1, Ordering::SeqCst);
         }
     }
 }
 
 fn take_all<'a, R, L>(rt: &'a R, semaphore: &'a Semaphore<R, L>, granted: &'a AtomicU64)
 where
-    R: Wait + Threads + RandomSource + AllocGlobal + Send + Sync,
+    R: Blocking + Threads + Send + Sync,
     L: Ledger + Send + Sync,
 {
     thread::scope(thread::scope_env(), rt, |scope| {
         for _ in 0..4 {
-            let _ = scope.spawn(move || takes(rt, semaphore, granted));
+            let _ = scope.spawn(move || takes(semaphore, granted));
         }
     });
 }
 
 fn acquires<R, L>(rt: R, blank: Blank)
 where
-    R: Wait + Threads + Abort + Copy + RandomSource + AllocGlobal + Send + Sync,
+    R: Blocking + Threads + Abort + Copy + Send + Sync,
     L: Ledger + Send + Sync,
     requires name { blank.name ≡ L.name }
     requires parts { blank.parts ≡ L.parts }
@@ -108,37 +97,29 @@ fn four_threads_acquire(rt: HostRuntime) {
 }
 
 // Sends a one in each round.
-fn sends_ones<R: Wait + RandomSource + AllocGlobal>(rt: &R, channel: &Channel<u64, 3, R>) {
+fn sends_ones<R: Blocking>(channel: &Channel<u64, 3, R>) {
     for _ in 0..ROUNDS {
-        if let Ok(send) = channel.send(1) {
-            let _ = matches!(block_on(rt, send), Ok(Ok(())));
-        }
+        let _ = channel.send_blocking(1);
     }
 }
 
 // Receives once in each round, and adds up what it received.
-fn receives<R: Wait + RandomSource + AllocGlobal>(
-    rt: &R,
-    channel: &Channel<u64, 3, R>,
-    sum: &AtomicU64,
-) {
+fn receives<R: Blocking>(channel: &Channel<u64, 3, R>, sum: &AtomicU64) {
     for _ in 0..ROUNDS {
-        if let Ok(receive) = channel.receive() {
-            if let Ok(Ok(Some(value))) = block_on(rt, receive) {
-                sum.fetch_add(value, Ordering::SeqCst);
-            }
+        if let Ok(Some(value)) = channel.receive_blocking() {
+            sum.fetch_add(value, Ordering::SeqCst);
         }
     }
 }
 
 fn pass_all<'a, R>(rt: &'a R, channel: &'a Channel<u64, 3, R>, sum: &'a AtomicU64)
 where
-    R: Wait + Threads + RandomSource + AllocGlobal + Send + Sync,
+    R: Blocking + Threads + Send + Sync,
 {
     thread::scope(thread::scope_env(), rt, |scope| {
         for _ in 0..2 {
-            let _ = scope.spawn(move || sends_ones(rt, channel));
-            let _ = scope.spawn(move || receives(rt, channel, sum));
+            let _ = scope.spawn(move || sends_ones(channel));
+            let _ = scope.spawn(move || receives(channel, sum));
         }
     });
 }

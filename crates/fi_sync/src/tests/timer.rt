@@ -16,8 +16,8 @@ use std::time::{Duration, Instant};
 
 // A clock that shows what stands in a cell.
 #[derive(Drop)]
-struct Shown<'a> {
-    time: &'a AtomicU64,
+pub(super) struct Shown<'a> {
+    pub(super) time: &'a AtomicU64,
 }
 
 impl Clock for Shown<'_> {

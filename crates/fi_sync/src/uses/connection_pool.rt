@@ -1,13 +1,10 @@
 //! Four threads share two connections. A permit of the semaphore stands for a free connection; the mutex keeps those that are free.
 ghost use Rattle.std.specs.Prelude.{◌≡◌};
 
-use crate::{Mutex, Semaphore};
-use futures::executor::block_on;
+use crate::{Blocking, Mutex, Semaphore};
 use std::alloc::AllocGlobal;
 use std::marker::Brand;
 use std::process::Abort;
-use std::random::RandomSource;
-use std::sync::Wait;
 use std::sync::atomic::{AtomicU64, Ordering};
 use std::sync::ledger::{Blank, Ledger};
 use std::thread;
@@ -17,41 +14,33 @@ use std::thread::Threads;
 type Pool<R, L> = Mutex<Vec<u64>, R, L>;
 
 /// Takes a connection from the pool.
-fn take<R: Wait + RandomSource + AllocGlobal, L: Ledger>(rt: &R, pool: &Pool<R, L>) -> Option<u64> {
-    match block_on(rt, pool.lock().ok()?) {
-        Ok(Ok(mut free)) => free.pop(),
-        _ => None,
+fn take<R: Blocking, L: Ledger>(pool: &Pool<R, L>) -> Option<u64> {
+    match pool.lock_blocking() {
+        Ok(mut free) => free.pop(),
+        Err(_) => None,
     }
 }
 
 /// Puts a connection back into the pool.
-fn put_back<R: Wait + RandomSource + AllocGlobal, L: Ledger>(
-    rt: &R,
-    pool: &Pool<R, L>,
-    connection: u64,
-) -> Option<()> {
-    match block_on(rt, pool.lock().ok()?) {
-        Ok(Ok(mut free)) => free.push(connection).ok(),
-        _ => None,
+fn put_back<R: Blocking, L: Ledger>(pool: &Pool<R, L>, connection: u64) -> Option<()> {
+    match pool.lock_blocking() {
+        Ok(mut free) => free.push(connection).ok(),
+        Err(_) => None,
     }
 }
 
 /// One request: waits for a permit, uses a connection, and gives both back.
-fn request<R, L: Ledger, K: Ledger>(
-    rt: &R,
+fn request<R: Blocking, L: Ledger, K: Ledger>(
     permits: &Semaphore<R, L>,
     pool: &Pool<R, K>,
     uses: &AtomicU64,
-) -> Option<()>
-where
-    R: Wait + RandomSource + AllocGlobal,
-{
-    let Ok(Ok(_permit)) = block_on(rt, permits.acquire(1).ok()?) else {
+) -> Option<()> {
+    let Ok(_permit) = permits.acquire_blocking(1) else {
         return None;
     };
-    let connection = take(rt, pool)?;
+    let connection = take(pool)?;
     uses.fetch_add(1, Ordering::SeqCst);
-    put_back(rt, pool, connection)
+    put_back(pool, connection)
 }
 
 /// Four clients, with 25 requests each.
@@ -62,7 +51,7 @@ fn serve_all<'a, R, L, K>(
     uses: &'a AtomicU64,
 )
 where
-    R: Wait + Threads + RandomSource + AllocGlobal + Send + Sync,
+    R: Blocking + Threads + Send + Sync,
     L: Ledger + Send + Sync,
     K: Ledger + Send + Sync,
 {
@@ -70,7 +59,7 @@ where
         for _ in 0..4 {
             let client = move || {
                 for _ in 0..25 {
-                    let _ = request(rt, permits, pool, uses);
+                    let _ = request(permits, pool, uses);
                 }
             };
             let _ = scope.spawn(client);
@@ -80,7 +69,7 @@ where
 
 fn serve<R, L, K>(rt: R, permits: Blank, lock: Blank)
 where
-    R: Wait + Threads + Abort + Copy + RandomSource + AllocGlobal + Send + Sync,
+    R: Blocking + Threads + Abort + Copy + Send + Sync,
     L: Ledger + Send + Sync,
     K: Ledger + Send + Sync,
     requires name { permits.name ≡ L.name }

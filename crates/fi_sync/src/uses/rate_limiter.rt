@@ -1,13 +1,11 @@
 //! Two requests in each period: a request takes a permit for good, and a timer gives the next two.
 ghost use Rattle.std.specs.Prelude.{◌≡◌};
 
-use crate::{Semaphore, TimerService};
+use crate::{Blocking, Semaphore, TimerService, wait_for};
 use fi_parts::Clock;
-use futures::executor::block_on;
 use std::alloc::AllocGlobal;
 use std::marker::Brand;
 use std::process::Abort;
-use std::random::RandomSource;
 use std::sync::Wait;
 use std::sync::atomic::{AtomicU64, Ordering};
 use std::sync::ledger::{Blank, Ledger};
@@ -31,21 +29,15 @@ impl Clock for Ticks<'_> {
 }
 
 /// One request: waits for a permit, and keeps it.
-fn request<R: Wait + RandomSource + AllocGlobal, L: Ledger>(
-    rt: &R,
-    permits: &Semaphore<R, L>,
-) -> bool {
-    let Ok(acquire) = permits.acquire(1) else {
-        return false;
-    };
-    match block_on(rt, acquire) {
-        Ok(Ok(mut permit)) => permit.disarm() == 1,
-        _ => false,
+fn request<R: Blocking, L: Ledger>(permits: &Semaphore<R, L>) -> bool {
+    match permits.acquire_blocking(1) {
+        Ok(mut permit) => permit.disarm() == 1,
+        Err(_) => false,
     }
 }
 
 /// Gives two permits at the end of each of two periods.
-fn refill<R: Wait + RandomSource + AllocGlobal, L: Ledger>(
+fn refill<R: Blocking, L: Ledger>(
     rt: &R,
     timer: &TimerService<Ticks<'_>, R>,
     permits: &Semaphore<R, L>,
@@ -54,7 +46,7 @@ fn refill<R: Wait + RandomSource + AllocGlobal, L: Ledger>(
         let Ok(wait) = timer.delay(Duration::from_millis(PERIOD)) else {
             return false;
         };
-        if !matches!(block_on(rt, wait), Ok(Ok(()))) || permits.release(2).is_err() {
+        if !matches!(wait_for(rt, wait), Ok(Ok(()))) || permits.release(2).is_err() {
             return false;
         }
     }
@@ -82,13 +74,13 @@ fn serve_all<'a, 'b, R, L>(
     served: &'a AtomicU64,
 )
 where
-    R: Wait + Threads + RandomSource + AllocGlobal + Send + Sync,
+    R: Blocking + Threads + Send + Sync,
     L: Ledger + Send + Sync,
 {
     thread::scope(thread::scope_env(), rt, |scope| {
         let client = move || {
             for _ in 0..6 {
-                if request(rt, permits) {
+                if request(permits) {
                     served.fetch_add(1, Ordering::SeqCst);
                 }
             }
@@ -103,7 +95,7 @@ where
 
 fn limit<R, L>(rt: R, blank: Blank)
 where
-    R: Wait + Threads + Abort + Copy + RandomSource + AllocGlobal + Send + Sync,
+    R: Blocking + Threads + Abort + Copy + Send + Sync,
     L: Ledger + Send + Sync,
     requires name { blank.name ≡ L.name }
     requires parts { blank.parts ≡ L.parts }

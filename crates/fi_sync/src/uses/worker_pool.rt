@@ -1,11 +1,8 @@
 //! Three workers take jobs from a channel. Once all jobs are sent the channel is closed, and the worker that finds it empty reports it
 //! by an event.
 
-use crate::{Channel, ManualResetEvent};
-use futures::executor::block_on;
+use crate::{Blocking, Channel, ManualResetEvent};
 use std::alloc::AllocGlobal;
-use std::random::RandomSource;
-use std::sync::Wait;
 use std::sync::atomic::{AtomicU64, Ordering};
 use std::thread;
 use std::thread::Threads;
@@ -15,55 +12,22 @@ type Jobs<R> = Channel<u64, 2, R>;
 
 const JOBS: u64 = 60;
 
-/// What a worker meets next.
-enum Next {
-    Job(u64),
-    /// The channel is closed and empty.
-    End,
-    NoMemory,
-}
-
-/// Waits for the next job.
-fn next_job<R: Wait + RandomSource + AllocGlobal>(rt: &R, jobs: &Jobs<R>) -> Next {
-    let Ok(receive) = jobs.receive() else {
-        return Next::NoMemory;
-    };
-    match block_on(rt, receive) {
-        Ok(Ok(Some(job))) => Next::Job(job),
-        Ok(Ok(None)) => Next::End,
-        Ok(Err(_)) | Err(_) => Next::NoMemory,
-    }
-}
-
 /// Works until there are no more jobs.
-fn work<R: Wait + RandomSource + AllocGlobal>(
-    rt: &R,
-    jobs: &Jobs<R>,
-    finished: &ManualResetEvent<R>,
-    sum: &AtomicU64,
-) {
+fn work<R: Blocking>(jobs: &Jobs<R>, finished: &ManualResetEvent<R>, sum: &AtomicU64) {
     for _ in 0..JOBS + 1 {
-        match next_job(rt, jobs) {
-            Next::Job(job) => sum.fetch_add(job, Ordering::SeqCst),
-            Next::End => {
+        match jobs.receive_blocking() {
+            Ok(Some(job)) => sum.fetch_add(job, Ordering::SeqCst),
+            Ok(None) => {
                 finished.set();
                 return;
             }
-            Next::NoMemory => {
+            Err(_) => {
                 // The other workers take what is left, and no more is sent.
                 jobs.close();
                 finished.set();
                 return;
             }
         };
-    }
-}
-
-/// Sends a job, and waits for a place as long as there is none.
-fn send<R: Wait + RandomSource + AllocGlobal>(rt: &R, jobs: &Jobs<R>, job: u64) -> bool {
-    match jobs.send(job) {
-        Ok(send) => matches!(block_on(rt, send), Ok(Ok(()))),
-        Err(_) => false,
     }
 }
 
@@ -76,19 +40,17 @@ fn share_work<'a, R>(
     sum: &'a AtomicU64,
 )
 where
-    R: Wait + Threads + RandomSource + AllocGlobal + Send + Sync,
+    R: Blocking + Threads + Send + Sync,
 {
     thread::scope(thread::scope_env(), rt, |scope| {
         for _ in 0..3 {
-            let _ = scope.spawn(move || work(rt, jobs, finished, sum));
+            let _ = scope.spawn(move || work(jobs, finished, sum));
         }
         for job in 0..JOBS {
-            let _ = send(rt, jobs, job);
+            let _ = jobs.send_blocking(job);
         }
         jobs.close();
-        if let Ok(wait) = finished.wait() {
-            let _ = block_on(rt, wait);
-        }
+        let _ = finished.wait_blocking();
     });
 }
 
