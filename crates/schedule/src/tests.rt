@@ -13,9 +13,11 @@ mod channels;
 mod edges;
 mod event;
 mod faults;
+mod hoard;
 mod mutex;
 mod pool;
 mod program;
+mod refusals;
 mod semaphore;
 mod timer;
 

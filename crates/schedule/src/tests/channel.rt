@@ -78,9 +78,8 @@ poll c 3 -> no-slot";
     check_over_each(&rt, rt.alloc(), "2", lines)
 }
 
-#[test]
-fn channel_rendezvous(rt: HostRuntime) -> Result<(), Fail> {
-    let lines = "receive a
+/// A channel without room, whose receives and send meet.
+pub(super) const RENDEZVOUS: &str = "receive a
 receive b
 poll a 1 -> pending
 poll b 2 -> pending
@@ -89,7 +88,10 @@ poll s 3 -> pending wakes 1
 cancel a -> ok wakes 2
 poll b 2 -> some 7 wakes 3
 poll s 3 -> ok";
-    check_over_each(&rt, rt.alloc(), "0", lines)
+
+#[test]
+fn channel_rendezvous(rt: HostRuntime) -> Result<(), Fail> {
+    check_over_each(&rt, rt.alloc(), "0", RENDEZVOUS)
 }
 
 #[test]
@@ -112,9 +114,8 @@ close -> already-closed";
     check_over_each(&rt, rt.alloc(), "1", lines)
 }
 
-#[test]
-fn channel_cancelled_send(rt: HostRuntime) -> Result<(), Fail> {
-    let lines = "send a 1
+/// A channel with one place, and sends that are cancelled.
+pub(super) const CANCELLED_SEND: &str = "send a 1
 poll a 1 -> ok
 send b 2
 poll b 2 -> pending
@@ -125,7 +126,10 @@ try-receive -> some 1 wakes 3
 cancel c -> none
 try-receive -> some 3
 try-receive -> empty";
-    check_over_each(&rt, rt.alloc(), "1", lines)
+
+#[test]
+fn channel_cancelled_send(rt: HostRuntime) -> Result<(), Fail> {
+    check_over_each(&rt, rt.alloc(), "1", CANCELLED_SEND)
 }
 
 #[test]

@@ -1,11 +1,15 @@
 //! Readers and writers that fail, and how a fault is reported.
 ghost use Rattle.std.specs.Prelude.{◌≡◌};
 
-use super::answer;
+use super::channel::RENDEZVOUS;
+use super::timer::EXPIRATIONS;
+use super::{answer, answers_of, script_of};
 use crate::engine::run_script;
 use crate::fault::{ScriptFault, report};
+use std::alloc::{AllocError, Global};
 use std::io;
 use std::io::{ErrorKind, Read, Write};
+use std::process::Abort;
 use std::test::Fail;
 
 /// Gives at most `most` bytes a read, and fails after `reads` reads.
@@ -73,6 +77,16 @@ const SCRIPT: &[u8] = b"event reset\nwait w\npoll w 7\nset\npoll w 8\nis-set\n";
 
 const ANSWERS: &[u8] = b"made\npending\nok wakes 7\nready\ntrue\n";
 
+// The rows on which each read and each write fails.
+fn rows(alloc: Global) -> Result<Vec<String>, AllocError> {
+    let mut rendezvous = String::from_str(alloc, "channel array 0\n")?;
+    rendezvous.push_str(RENDEZVOUS)?;
+    let mut rows = Vec::new(alloc);
+    rows.push(rendezvous)?;
+    rows.push(String::from_str(alloc, EXPIRATIONS)?)?;
+    Ok(rows)
+}
+
 #[test]
 fn short_reads(rt: HostRuntime) -> Result<(), Fail> {
     for most in 1..9 {
@@ -89,18 +103,35 @@ fn short_reads(rt: HostRuntime) -> Result<(), Fail> {
     Ok(())
 }
 
-#[test]
-fn each_read_fails(rt: HostRuntime) -> Result<(), Fail> {
-    for reads in 0..8 {
+// Each read of a script fails in turn, and nothing is written, until none fails.
+fn check_reads(rt: &impl Abort, alloc: Global, script: &[u8], answers: &[u8]) {
+    let mut failed = 0;
+    for reads in 0..1000 {
         let mut reader = FailingReader {
-            rest: SCRIPT,
+            rest: script,
             most: 7,
             reads,
         };
-        let mut output: Vec<u8> = Vec::new(rt.alloc());
-        let ended = run_script(rt.alloc(), &mut reader, &mut output);
+        let mut output: Vec<u8> = Vec::new(alloc);
+        let ended = run_script(alloc, &mut reader, &mut output);
+        if ended.is_ok() {
+            assert!(rt; output.as_slice() == answers);
+            break;
+        }
         assert_eq!(rt; ended, Err(ScriptFault::Read));
         assert!(rt; output.is_empty());
+        failed = reads;
+    }
+    assert!(rt; failed > 5 && failed < 999, "{failed} reads");
+}
+
+#[test]
+fn each_read_fails(rt: HostRuntime) -> Result<(), Fail> {
+    check_reads(&rt, rt.alloc(), SCRIPT, ANSWERS);
+    for row in rows(rt.alloc())? {
+        let script = script_of(rt.alloc(), row.as_str())?;
+        let answers = answers_of(rt.alloc(), row.as_str())?;
+        check_reads(&rt, rt.alloc(), script.as_bytes(), answers.as_bytes());
     }
     Ok(())
 }
@@ -124,24 +155,47 @@ fn short_writes(rt: HostRuntime) -> Result<(), Fail> {
     Ok(())
 }
 
+// Each write of a script's answers fails in turn, and a beginning of them was written, until none fails.
+fn check_writes(rt: &impl Abort, alloc: Global, failure: Failure, script: &[u8], answers: &[u8]) {
+    let mut failed = 0;
+    for writes in 0..1000 {
+        let mut reader = script;
+        let mut writer = FailingWriter {
+            taken: Vec::new(alloc),
+            most: 5,
+            writes,
+            failure,
+            has_failed: false,
+            was_asked_again: false,
+        };
+        let ended = run_script(alloc, &mut reader, &mut writer);
+        if ended.is_ok() {
+            assert!(rt; writer.taken.as_slice() == answers);
+            break;
+        }
+        assert_eq!(rt; ended, Err(ScriptFault::Write));
+        assert!(rt; answers.starts_with(writer.taken.as_slice()));
+        assert_eq!(rt; writer.taken.len(), 5 * writes);
+        assert!(rt; !writer.was_asked_again);
+        failed = writes;
+    }
+    assert!(rt; failed > 5 && failed < 999, "{failed} writes");
+}
+
 #[test]
 fn each_write_fails(rt: HostRuntime) -> Result<(), Fail> {
     for failure in [Failure::Interrupted, Failure::TakesNothing] {
-        for writes in 0..7 {
-            let mut reader = SCRIPT;
-            let mut writer = FailingWriter {
-                taken: Vec::new(rt.alloc()),
-                most: 5,
-                writes,
+        check_writes(&rt, rt.alloc(), failure, SCRIPT, ANSWERS);
+        for row in rows(rt.alloc())? {
+            let script = script_of(rt.alloc(), row.as_str())?;
+            let answers = answers_of(rt.alloc(), row.as_str())?;
+            check_writes(
+                &rt,
+                rt.alloc(),
                 failure,
-                has_failed: false,
-                was_asked_again: false,
-            };
-            let ended = run_script(rt.alloc(), &mut reader, &mut writer);
-            assert_eq!(rt; ended, Err(ScriptFault::Write));
-            assert!(rt; ANSWERS.starts_with(writer.taken.as_slice()));
-            assert_eq!(rt; writer.taken.len(), 5 * writes);
-            assert!(rt; !writer.was_asked_again);
+                script.as_bytes(),
+                answers.as_bytes(),
+            );
         }
     }
     Ok(())

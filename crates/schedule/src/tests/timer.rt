@@ -4,9 +4,8 @@ use super::{answer, check_row};
 use crate::fault::ScriptFault;
 use std::test::Fail;
 
-#[test]
-fn timer_expirations(rt: HostRuntime) -> Result<(), Fail> {
-    let row = "timer
+/// Deadlines and delays that pass.
+pub(super) const EXPIRATIONS: &str = "timer
 deadline a 999
 poll a 200 1 -> pending
 next -> some 999
@@ -21,7 +20,10 @@ poll b 500 2 -> ready
 next -> some 700
 check 699 -> ok
 check 700 -> ok wakes 3";
-    check_row(&rt, rt.alloc(), row)
+
+#[test]
+fn timer_expirations(rt: HostRuntime) -> Result<(), Fail> {
+    check_row(&rt, rt.alloc(), EXPIRATIONS)
 }
 
 #[test]
