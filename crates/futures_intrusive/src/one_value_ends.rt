@@ -10,7 +10,7 @@ use crate::counted_ends::{ClosesByEnds, CountedEnds, ManyReceivers, ReceivesClos
 use crate::ends::{End, Receivers, Senders, two_ends};
 use fi_channels::{ClonesValue, GivesValue, OneValueState, TakesValue};
 use fi_parts::{ChannelSendError, Fault, Slot};
-use fi_sync::SlotFuture;
+use fi_sync::{Blocking, SlotFuture, wait_for};
 use futures::task::Waker;
 use std::alloc::Global;
 use std::sync::Wait;
@@ -75,6 +75,15 @@ impl<T: Drop, G: GivesValue<T>, R: Wait + Drop> OneValueReceiver<T, G, R> {
         let shared = self.share()?;
         let claim = self.channel().claim((), |ends, ()| ends.claim_receive())?;
         Ok(SlotFuture::new(shared, claim))
+    }
+
+    /// Blocks this thread until the value comes, and receives it. As `OneValueChannel::receive_blocking`.
+    pub fn receive_blocking(&self) -> Result<Option<T>, Fault>
+    where
+        R: Blocking,
+    {
+        let receive = self.receive()?;
+        wait_for(self.channel().runtime(), receive)?
     }
 }
 

@@ -10,7 +10,7 @@ use crate::counted_ends::{ClosesByEnds, CountedEnds, ManyReceivers, ManySenders,
 use crate::ends::{End, Receivers, Senders, two_ends};
 use fi_channels::StateBroadcastState;
 use fi_parts::{ChannelSendError, Fault, Slot, StateId};
-use fi_sync::SlotFuture;
+use fi_sync::{Blocking, SlotFuture, wait_for};
 use futures::task::Waker;
 use std::alloc::Global;
 use std::sync::Wait;
@@ -59,6 +59,16 @@ impl<T: Clone + Drop, R: Wait + Drop> StateReceiver<T, R> {
             .channel()
             .claim(seen, |ends, seen| ends.claim_receive(seen))?;
         Ok(SlotFuture::new(shared, claim))
+    }
+
+    /// Blocks this thread until there is a state newer than the one seen, and receives the newest. As
+    /// `StateBroadcastChannel::receive_blocking`.
+    pub fn receive_blocking(&self, seen: StateId) -> Result<Option<(StateId, T)>, Fault>
+    where
+        R: Blocking,
+    {
+        let receive = self.receive(seen)?;
+        wait_for(self.channel().runtime(), receive)?
     }
 
     /// A clone of the newest state with its number, if that is greater than `seen`. As `StateBroadcastChannel::try_receive`. Keeps

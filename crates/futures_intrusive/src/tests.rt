@@ -6,5 +6,6 @@ mod pages;
 mod parts;
 mod paths;
 mod refusals;
+mod tasks;
 mod texts;
 mod threads;

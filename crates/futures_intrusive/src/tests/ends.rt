@@ -1,6 +1,7 @@
 //! Ends that are owned and counted: the last of a side closes the channel, and wakes those who wait.
 
 mod drops;
+mod threads;
 
 use crate::channel::shared::{
     channel, oneshot_broadcast_channel, oneshot_channel, state_broadcast_channel,

@@ -1,2 +1,3 @@
 //! Thread-safe futures, where no clause says it.
 mod spent;
+mod stress;
