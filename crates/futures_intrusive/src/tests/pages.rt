@@ -2,6 +2,7 @@
 
 use crate::Fault;
 use crate::buffer::{FixedHeapBuf, RingBuf};
+use crate::channel::shared::channel;
 use crate::channel::{Channel, TryReceiveError};
 use crate::heap::PairingHeap;
 use crate::list::LinkedList;
@@ -34,6 +35,15 @@ fn page_of_channel(rt: HostRuntime) {
     channel.close();
     assert!(rt; channel.try_receive() == Ok(1) && channel.try_receive() == Ok(2));
     assert!(rt; channel.try_receive() == Err(TryReceiveError::Closed));
+}
+
+#[test]
+fn page_of_blocking(rt: HostRuntime) {
+    let (sender, receiver) = channel::<u64, HostRuntime>(rt.alloc(), rt, 1).expect(&rt, "memory");
+    assert!(rt; sender.send_blocking(7) == Ok(()));
+    assert!(rt; receiver.receive_blocking() == Ok(Some(7)));
+    drop(sender);
+    assert!(rt; receiver.receive_blocking() == Ok(None));
 }
 
 #[test]

@@ -1,49 +1,29 @@
 //! Three workers, each with a receiver of its own, take jobs from a channel. They end by themselves once the only sender is dropped.
 
+use crate::blocking::Blocking;
 use crate::channel::shared::{Receiver, Sender, channel};
-use futures::executor::block_on;
 use std::alloc::AllocGlobal;
 use std::process::Abort;
-use std::random::RandomSource;
-use std::sync::Wait;
 use std::sync::atomic::{AtomicU64, Ordering};
 use std::thread;
 use std::thread::Threads;
 
 const JOBS: u64 = 60;
 
-/// The next job; None once the channel is closed and empty, or where there is no memory to wait.
-fn next_job<R: Wait + RandomSource + AllocGlobal + Drop>(
-    rt: &R,
-    jobs: &Receiver<u64, R>,
-) -> Option<u64> {
-    let receive = jobs.receive().ok()?;
-    match block_on(rt, receive) {
-        Ok(Ok(job)) => job,
-        _ => None,
-    }
-}
-
-/// Works until there are no more jobs.
-fn work<R: Wait + RandomSource + AllocGlobal + Drop>(
-    rt: &R,
-    jobs: Receiver<u64, R>,
-    sum: &AtomicU64,
-) {
+/// Works until there are no more jobs, or no memory to wait with.
+fn work<R: Blocking + Drop>(jobs: Receiver<u64, R>, sum: &AtomicU64) {
     for _ in 0..JOBS + 1 {
-        match next_job(rt, &jobs) {
-            Some(job) => sum.fetch_add(job, Ordering::SeqCst),
-            None => return,
+        match jobs.receive_blocking() {
+            Ok(Some(job)) => sum.fetch_add(job, Ordering::SeqCst),
+            Ok(None) | Err(_) => return,
         };
     }
 }
 
 /// Sends all jobs, and drops the sender.
-fn send_all<R: Wait + RandomSource + AllocGlobal + Drop>(rt: &R, jobs: Sender<u64, R>) {
+fn send_all<R: Blocking + Drop>(jobs: Sender<u64, R>) {
     for job in 0..JOBS {
-        if let Ok(send) = jobs.send(job) {
-            let _ = matches!(block_on(rt, send), Ok(Ok(())));
-        }
+        let _ = jobs.send_blocking(job);
     }
 }
 
@@ -55,22 +35,22 @@ fn share_work<'a, R>(
     sum: &'a AtomicU64,
 )
 where
-    R: Wait + Threads + RandomSource + AllocGlobal + Drop + Send + Sync,
+    R: Blocking + Threads + Drop + Send + Sync,
 {
     thread::scope(thread::scope_env(), rt, |scope| {
         for _ in 0..3 {
             if let Ok(jobs) = receiver.clone() {
-                let _ = scope.spawn(move || work(rt, jobs, sum));
+                let _ = scope.spawn(move || work(jobs, sum));
             }
         }
         drop(receiver);
-        send_all(rt, sender);
+        send_all(sender);
     });
 }
 
 fn pools<R>(rt: R)
 where
-    R: Wait + Threads + Abort + Drop + Copy + RandomSource + AllocGlobal + Send + Sync,
+    R: Blocking + Threads + Abort + Drop + Copy + Send + Sync,
 {
     let (sender, receiver) = channel::<u64, R>(rt.alloc(), rt, 2).expect(&rt, "memory");
     let sum = AtomicU64::new(0);
