@@ -1,5 +1,6 @@
 //! Tests of the shared ends, and of the crates below through their public names.
 mod channels;
+mod drawn_threads;
 mod ends;
 mod locks;
 mod pages;
