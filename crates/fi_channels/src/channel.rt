@@ -1,12 +1,12 @@
 //! The channel of many values, with sends and receives that wait.
-ghost use Rattle.std.specs.Prelude.{◌≡◌, ℕ, Bool, true, false, Option, Some, None, IfOk, IfErr, OnErr, is_some, length};
+ghost use Rattle.std.specs.Prelude.{◌≡◌, ℕ, ◌==◌, not, Bool, true, false, Option, Some, None, IfOk, IfErr, OnErr, is_some, length};
 ghost use Rattle.fi_parts.specs.Buffer.{Fits, empty};
 ghost use Rattle.fi_channels.specs.Polled.{unused_after, Answered, displaced_by};
 ghost use Rattle.fi_channels.specs.Channel as channel;
 ghost use Rattle.fi_channels.specs.Channel.{opened, send_phase, receive_phase, kind_of, displaced_send, displaced_receive};
 ghost use Rattle.fi_channels.specs.Channel.{displaced_by_send, MakesSend, MakesReceive, PollsSend};
 ghost use Rattle.fi_channels.specs.Channel.{PollsReceive, PollsNext, CancelsSend, CancelsReceive, TriesSend, TriesReceive};
-ghost use Rattle.fi_channels.specs.Channel.{Closes, Wakes, IsSound, OwesNoWake};
+ghost use Rattle.fi_channels.specs.Channel.{Closes, Wakes, IsSound, OwesNoWake, has_room};
 ghost use Rattle.fi_channels.specs.Cleared.{ClosesAndClears, NoSendWaits};
 ghost use Rattle.fi_channels.specs.declared.channel_fields.ReceiveKind.TheVariants.{Single, Stream};
 
@@ -114,6 +114,41 @@ impl<T: Drop, B: RingBuf<Item = T>, W: Drop> ChannelState<T, B, W> {
         ensures { Closes self.old result self.new }
     {
         self.fields.close()
+    }
+
+    /// Returns `true` if the channel was closed.
+    pub fn is_closed(&self) -> bool
+        ensures { result ≡ not self.now.own.is_open }
+    {
+        self.fields.is_closed()
+    }
+
+    /// Returns the number of values in the buffer. Those of sends that wait are not counted.
+    pub fn len(&self) -> usize
+        ensures { result ≡ length self.now.own.buffer.items }
+    {
+        self.fields.len()
+    }
+
+    /// Returns `true` if the buffer holds no value. With capacity 0 a send may wait nevertheless.
+    pub fn is_empty(&self) -> bool
+        ensures { result ≡ (length self.now.own.buffer.items == 0) }
+    {
+        self.fields.is_empty()
+    }
+
+    /// Returns `true` if the buffer has no room for one more value. With capacity 0 it is both full and empty.
+    pub fn is_full(&self) -> bool
+        ensures { result ≡ not (has_room self.now.own) }
+    {
+        self.fields.is_full()
+    }
+
+    /// Returns the most values that the buffer can hold.
+    pub fn capacity(&self) -> usize
+        ensures { result ≡ self.now.own.buffer.capacity }
+    {
+        self.fields.capacity()
     }
 
     /// A future that sends the value: it is ready once the value is stored, or was taken from it.

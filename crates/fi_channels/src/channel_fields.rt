@@ -1,5 +1,5 @@
 //! The fields of a channel of many values, over any bounded buffer, and the calls on them.
-ghost use Rattle.std.specs.Prelude.{◌≡◌, Bool, true, false, Option, Some, None, length, IfOk, IfErr, OnErr, is_some};
+ghost use Rattle.std.specs.Prelude.{◌≡◌, ◌==◌, not, Bool, true, false, Option, Some, None, length, IfOk, IfErr, OnErr, is_some};
 ghost use Rattle.fi_parts.specs.Buffer.{Fits, empty};
 ghost use Rattle.fi_parts.specs.Waiting.{phase_of, asks_of};
 ghost use Rattle.fi_parts.specs.declared.phase.Phase.TheVariants.{Fresh};
@@ -7,7 +7,7 @@ ghost use Rattle.fi_channels.specs.Polled.{unused_after};
 ghost use Rattle.fi_channels.specs.Channel.{opened, can_send, can_take, can_receive, can_stream, MakesSend, MakesReceive};
 ghost use Rattle.fi_channels.specs.Channel.{PollsSend, displaced_by_send, CancelsSend, PollsReceive, PollsNext};
 ghost use Rattle.fi_channels.specs.Channel.{CancelsReceive, TriesSend, TriesReceive, Closes, Wakes};
-ghost use Rattle.fi_channels.specs.Channel.{IsSound, displaced_send, displaced_receive, value_of};
+ghost use Rattle.fi_channels.specs.Channel.{IsSound, has_room, displaced_send, displaced_receive, value_of};
 ghost use Rattle.fi_channels.specs.ChannelFields.{machine_of, phase_given, Takes};
 ghost use Rattle.fi_channels.specs.Clearable.{bounded_of};
 ghost use Rattle.fi_channels.specs.Cleared.{ClosesAndClears};
@@ -341,6 +341,41 @@ impl<T: Drop, B: RingBuf<Item = T>, W: Drop> ChannelFields<T, B, W> {
         self.waiters.notice_all_receives(Notice::Renew);
         self.waiters.notice_all_sends(Notice::Renew);
         CloseStatus::NewlyClosed
+    }
+
+    /// The channel was closed.
+    pub fn is_closed(&self) -> bool
+        ensures { result ≡ not self.now.is_open }
+    {
+        !self.is_open
+    }
+
+    /// How many values are buffered.
+    pub fn len(&self) -> usize
+        ensures { result ≡ length (B.bounded self.now.buffer).items }
+    {
+        self.buffer.len()
+    }
+
+    /// No value is buffered.
+    pub fn is_empty(&self) -> bool
+        ensures { result ≡ (length (B.bounded self.now.buffer).items == 0) }
+    {
+        self.buffer.is_empty()
+    }
+
+    /// The buffer has no room for one more value.
+    pub fn is_full(&self) -> bool
+        ensures { result ≡ not (has_room (machine_of B.bounded self.now).own) }
+    {
+        !self.buffer.can_push()
+    }
+
+    /// The most values that the buffer can hold.
+    pub fn capacity(&self) -> usize
+        ensures { result ≡ (B.bounded self.now.buffer).capacity }
+    {
+        self.buffer.capacity()
     }
 
     /// The oldest waker to be woken.
