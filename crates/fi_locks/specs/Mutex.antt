@@ -73,6 +73,10 @@ module _ {T W : Type 0} where
   abbrev pub opened : T → Bool → MutexMachine T W
   opened value is_fair = initial (record { is_fair = is_fair; value = Some value })
 
+  -- the same mutex, free with this value
+  abbrev pub with_value : MutexMachine T W → T → MutexMachine T W
+  with_value mutex value = record mutex { own = freed mutex.own value }
+
   -- What there is for one who isn't queued: the value of a free mutex, and of a fair one only while nobody is queued.
   abbrev pub for_newcomer : MutexMachine T W → Option T
   for_newcomer mutex = if mutex.own.is_fair && not (is_empty (queue_of mutex)) then None else mutex.own.value

@@ -29,7 +29,7 @@ use Rattle.fi_locks.specs.Mutex.{MutexMachine, MutexData, held, freed, is_empty,
 use Rattle.fi_locks.specs.Mutex.{is_free, queue_of, opened}
 use Rattle.fi_locks.specs.Mutex.{for_newcomer, for_registered, Makes, GrantsOr, PollsAs, Polls, CancelsAs, Cancels, TriesFor}
 use Rattle.fi_locks.specs.Mutex.{TriesLock}
-use Rattle.fi_locks.specs.Mutex.{UnlocksFrom, Unlocks, Wakes, IsSound, OwesNoWakeAs, OwesNoWake, IsLockedIfReady}
+use Rattle.fi_locks.specs.Mutex.{with_value, UnlocksFrom, Unlocks, Wakes, IsSound, OwesNoWakeAs, OwesNoWake, IsLockedIfReady}
 use Rattle.fi_locks.specs.Mutex.{IsLockedIfGiven}
 
 -- The oldest of a queue.
@@ -235,6 +235,11 @@ module _ {T W : Type 0} where
             none_left mid.side.queue did.0 none did.1 in absurd (cc (rest, left, at))
         each (x ∷ xs) some next later at =
             (x, ap is_told (become.these x (ap (λ q. holds x (first_of q)) some ∙ or_left (eqb x x) false (eq-eqb x x refl))))
+
+  -- The value of a free mutex may be exchanged for another.
+  pub revalued : (mutex : MutexMachine T W) (value : T) → is_free mutex ≡ true → IsWell mutex → IsWell (with_value mutex value)
+  revalued mutex value free was =
+      (was.0, owes_same mutex (with_value mutex value) mutex.own.is_fair (λ q. refl) (sym free) refl was.1)
 
   -- What the table's lines say of who is told.
 

@@ -195,6 +195,33 @@ impl<T: Drop, W: Drop> MutexState<T, W> {
     }
 }
 
+impl<T, W: Drop> MutexState<T, W> {
+    ghost use Rattle.std.specs.Borrow.{LendsIf, sem};
+    ghost use Rattle.std.specs.Option.{option_copied_mut};
+    ghost use Rattle.fi_locks.specs.Mutex.{with_value};
+    ghost use Rattle.fi_locks.specs.contracts.mutex.MutexState.{the_row};
+
+    /// Takes the value out of a mutex that is used no more. None if it is locked: then its holder has the value.
+    pub fn into_inner(self) -> Option<T>
+        ensures { result ≡ self.own.value }
+    {
+        let MutexState { fields } = self;
+        let Fields { value, .. } = fields;
+        value
+    }
+
+    /// Lends the value out, to be changed in place. None if the mutex is locked: then its holder has the value.
+    pub fn get_mut(&mut self) -> Option<&mut T>
+        ensures* writes_back { sem 𝓛 (LendsIf (the_row T.row W.row) T.row self.entry result (with_value self.old) self.old) }
+        ensures shows { option_copied_mut result ≡ self.old.own.value }
+    {
+        match &mut self.fields.value {
+            Some(value) => Some(value),
+            None => None,
+        }
+    }
+}
+
 impl<T: Drop, W: Drop> Fields<T, W> {
     ghost use Rattle.fi_parts.specs.Order.{holds};
     ghost use Rattle.fi_parts.specs.Places.{is_told};
