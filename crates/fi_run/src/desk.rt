@@ -63,7 +63,8 @@ where
     P::Call: ExactEq,
     P::Answer: ExactEq,
 {
-    fn number(&self) -> u64
+    /// Returns the seat's number: the `seat` of the entries of its calls.
+    pub fn number(&self) -> u64
         ensures { result ≡ self.now.number }
     {
         self.number
