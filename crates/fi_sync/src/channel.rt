@@ -86,6 +86,31 @@ impl<T: Drop, B: RingBuf<Item = T>, R: Wait> GenericChannel<T, B, R> {
         self.monitor.call((), |channel, ()| channel.close())
     }
 
+    /// Returns `true` if the channel was closed when it was looked at.
+    pub fn is_closed(&self) -> bool {
+        self.monitor.call((), |channel, ()| channel.is_closed())
+    }
+
+    /// Returns the number of values that were buffered when it was looked at. Those of sends that wait are not counted.
+    pub fn len(&self) -> usize {
+        self.monitor.call((), |channel, ()| channel.len())
+    }
+
+    /// Returns `true` if no value was buffered when it was looked at.
+    pub fn is_empty(&self) -> bool {
+        self.monitor.call((), |channel, ()| channel.is_empty())
+    }
+
+    /// Returns `true` if the buffer had no room for one more value when it was looked at; with capacity 0 always.
+    pub fn is_full(&self) -> bool {
+        self.monitor.call((), |channel, ()| channel.is_full())
+    }
+
+    /// Returns the most values that the buffer can hold.
+    pub fn capacity(&self) -> usize {
+        self.monitor.call((), |channel, ()| channel.capacity())
+    }
+
     /// A future that sends the value. Its making is refused only for want of memory; then the value comes back. Keeps
     /// `GenericChannel::send`.
     pub fn send(

@@ -63,6 +63,11 @@ impl<T: Drop, G: GivesValue<T>, R: Wait> OneValueChannel<T, G, R> {
         self.monitor.call((), |channel, ()| channel.close())
     }
 
+    /// Returns `true` if the channel took no value any more when it was looked at: one was sent, or it was closed.
+    pub fn is_closed(&self) -> bool {
+        self.monitor.call((), |channel, ()| channel.is_closed())
+    }
+
     /// A future that receives the value, or None if none will come: the channel was closed without one, or (of a oneshot)
     /// another receive took it. Refused only with `NoMemory`; then nothing has changed. Keeps `OneshotChannel::receive`.
     pub fn receive(&self) -> Result<ChannelReceiveFuture<'_, OneValueState<T, Waker, G>, R>, Fault>

@@ -65,6 +65,11 @@ impl<T: Clone, R: Wait> StateBroadcastChannel<T, R> {
         self.monitor.call((), |channel, ()| channel.close())
     }
 
+    /// Returns `true` if the channel was closed when it was looked at.
+    pub fn is_closed(&self) -> bool {
+        self.monitor.call((), |channel, ()| channel.is_closed())
+    }
+
     /// A clone of the newest state with its number, if that is greater than `seen`. Refused with `NoMemory` where the clone could
     /// not be allocated. Keeps `StateBroadcastChannel::try_receive`.
     pub fn try_receive(&self, seen: StateId) -> Result<Option<(StateId, T)>, Fault> {
