@@ -5,3 +5,4 @@ pub mod Streams
 pub mod Timed
 pub mod Locked
 pub mod Granted
+pub mod Blanks

@@ -3,6 +3,7 @@ ghost use Rattle.std.specs.Prelude.{◌≡◌, false, Ok, IfOk, IfSome, IfErr, O
 ghost use Rattle.fi_parts.specs.declared.errors.Fault.{Fault};
 ghost use Rattle.fi_locks.specs.Mutex.{opened, is_free, can_be_polled, Makes, Polls, Cancels, TriesLock, Unlocks};
 ghost use Rattle.fi_sync.specs.Waiting.{PollsAt, leftover_at, CancelsAt};
+ghost use Rattle.fi_sync.specs.Blanks.{IsLockBlank};
 
 use crate::claim::Cancel;
 use crate::slot_future::PollSlot;
@@ -72,9 +73,7 @@ pub struct MutexLock;
 impl<T: Drop, L: Ledger> CountedMutex<T, L> {
     /// A free mutex with this value, fair or not.
     pub fn new(alloc: Global, blank: Blank, value: T, is_fair: bool) -> Self
-        requires name { blank.name ≡ L.name }
-        requires parts { blank.parts ≡ L.parts }
-        requires one { blank.parts ≡ 1 }
+        requires blank { IsLockBlank L.Ledger blank }
         ensures { result ≡ opened value is_fair }
     {
         CountedMutex {

@@ -3,6 +3,7 @@ ghost use Rattle.std.specs.Prelude.{◌≡◌, ◌+◌, ◌≤◌, ◌^◌, IfOk
 ghost use Rattle.fi_parts.specs.declared.errors.Fault.{Fault};
 ghost use Rattle.fi_locks.specs.Semaphore.{opened, can_be_polled, Makes, Polls, Cancels, TriesAcquire, Releases, GivesBack, Disarms};
 ghost use Rattle.fi_sync.specs.Waiting.{PollsAt, leftover_at, CancelsAt};
+ghost use Rattle.fi_sync.specs.Blanks.{IsPermitBlank};
 
 use crate::claim::Cancel;
 use crate::slot_future::PollSlot;
@@ -45,9 +46,7 @@ pub struct SemaphoreAcquire;
 impl<L: Ledger> CountedSemaphore<L> {
     /// A semaphore with this many free permits, fair or unfair.
     pub fn new(alloc: Global, blank: Blank, is_fair: bool, permits: usize) -> Self
-        requires name { blank.name ≡ L.name }
-        requires parts { blank.parts ≡ L.parts }
-        requires all { blank.parts ≡ 18446744073709551615 }
+        requires blank { IsPermitBlank L.Ledger blank }
         ensures { result ≡ opened is_fair permits }
     {
         CountedSemaphore {

@@ -7,6 +7,7 @@ ghost use Rattle.futures.specs.Task.{Covers, Keeps};
 ghost use Rattle.fi_parts.specs.declared.errors.Fault.{Fault};
 ghost use Rattle.fi_sync.specs.Locked.{IsLockAnswer};
 ghost use Rattle.fi_sync.specs.Waiting.{IsNew, polled};
+ghost use Rattle.fi_sync.specs.Blanks.{IsLockBlank};
 
 use crate::blocking::{Blocking, wait_for};
 use crate::counted_mutex::{CountedMutex, Locked, MutexLock};
@@ -44,9 +45,7 @@ impl<T: Drop, R, L: Ledger> Mutex<T, R, L> {
     ///
     /// The blank is of the mutex's own ledger `L`, and has one part, for the guard.
     pub fn new(alloc: Global, rt: R, blank: Blank, value: T, is_fair: bool) -> Self
-        requires name { blank.name ≡ L.name }
-        requires parts { blank.parts ≡ L.parts }
-        requires one { blank.parts ≡ 1 }
+        requires blank { IsLockBlank L.Ledger blank }
     {
         Mutex {
             monitor: Monitor::new(rt, CountedMutex::new(alloc, blank, value, is_fair)),

@@ -2,6 +2,7 @@
 ghost use Rattle.std.specs.Prelude.{◌≡◌, IfOk, IfErr, IfSome};
 ghost use Rattle.fi_parts.specs.declared.errors.Fault.{Fault};
 ghost use Rattle.fi_sync.specs.Waiting.{IsNew};
+ghost use Rattle.fi_sync.specs.Blanks.{IsPermitBlank};
 
 use crate::blocking::{Blocking, wait_for};
 use crate::counted_semaphore::CountedSemaphore;
@@ -37,9 +38,7 @@ impl<R, L: Ledger> Semaphore<R, L> {
     ///
     /// The blank is of the semaphore's own ledger `L`, and has a part for each permit that can be held: `u64::MAX`.
     pub fn new(alloc: Global, rt: R, blank: Blank, is_fair: bool, permits: usize) -> Self
-        requires name { blank.name ≡ L.name }
-        requires parts { blank.parts ≡ L.parts }
-        requires all { blank.parts ≡ 18446744073709551615 }
+        requires blank { IsPermitBlank L.Ledger blank }
     {
         Semaphore {
             monitor: Monitor::new(rt, CountedSemaphore::new(alloc, blank, is_fair, permits)),

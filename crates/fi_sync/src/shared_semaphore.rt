@@ -3,6 +3,7 @@ ghost use Rattle.std.specs.Arc.{arc_value};
 ghost use Rattle.std.specs.Prelude.{◌≡◌, IfOk, IfErr, IfSome};
 ghost use Rattle.fi_parts.specs.declared.errors.Fault.{Fault};
 ghost use Rattle.fi_sync.specs.Waiting.{IsNew};
+ghost use Rattle.fi_sync.specs.Blanks.{IsPermitBlank};
 
 use crate::blocking::{Blocking, wait_for};
 use crate::counted_semaphore::CountedSemaphore;
@@ -55,9 +56,7 @@ impl<R: Wait + Drop, L: Ledger> SharedSemaphore<R, L> {
         is_fair: bool,
         permits: usize,
     ) -> Result<Self, Fault>
-        requires name { blank.name ≡ L.name }
-        requires parts { blank.parts ≡ L.parts }
-        requires all { blank.parts ≡ 18446744073709551615 }
+        requires blank { IsPermitBlank L.Ledger blank }
         ensures { IfErr result (λ fault. fault ≡ Fault.NoMemory) }
     {
         let counted = CountedSemaphore::new(alloc, blank, is_fair, permits);
