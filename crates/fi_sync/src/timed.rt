@@ -1,5 +1,5 @@
 //! A timer with its clock: what stands behind the lock of the timer that threads share.
-ghost use Rattle.std.specs.Prelude.{◌≡◌, ℕ, Err, IfOk, IfErr, OnErr, is_some};
+ghost use Rattle.std.specs.Prelude.{◌≡◌, ◌≤◌, ℕ, Err, IfOk, IfErr, OnErr, is_some};
 ghost use Rattle.std.specs.Duration.{as_nanos};
 ghost use Rattle.fi_parts.specs.Machine.{phase_at, displaced_at};
 ghost use Rattle.fi_parts.specs.Deadlines.{IsNextExpiry};
@@ -15,6 +15,8 @@ use fi_locks::TimerState;
 use fi_parts::{Clock, Fault, Leftover, Slot};
 use futures::task::{Poll, Waker};
 use std::alloc::Global;
+use std::sync::Arc;
+use std::thread::Parker;
 use std::time::Duration;
 
 /// A timer with its clock. Each call that needs the time reads the clock itself and hands it to nobody, so no time that was read in
@@ -23,6 +25,14 @@ use std::time::Duration;
 pub struct Timed<C> {
     timer: TimerState<Waker>,
     clock: C,
+    runner: Option<Runner>,
+}
+
+/// The thread that runs a timer: it sleeps until its next check, unless it is roused.
+#[derive(Drop)]
+struct Runner {
+    parker: Arc<Parker, Global>,
+    next_check: u64,
 }
 
 /// The kind of a timer's futures.
@@ -36,6 +46,7 @@ impl<C: Clock> Timed<C> {
         Timed {
             timer: TimerState::new(alloc),
             clock,
+            runner: None,
         }
     }
 
@@ -73,6 +84,49 @@ impl<C: Clock> Timed<C> {
         let now = self.clock.now();
         self.timer.check_expirations(now);
     }
+
+    /// Rouses whoever sleeps at this parker, once a future waits for an earlier moment than the next check's.
+    pub(crate) fn run_by(&mut self, parker: Arc<Parker, Global>)
+        ensures { self.new.timer ≡ self.old.timer }
+    {
+        self.runner = Some(Runner {
+            parker,
+            next_check: 0,
+        });
+    }
+
+    /// Rouses nobody any more.
+    pub(crate) fn end_running(&mut self)
+        ensures { self.new.timer ≡ self.old.timer }
+    {
+        self.runner = None;
+    }
+
+    /// Tells those whose expiry is not after the clock's time now, and plans the runner's next check for the next expiry, or for this
+    /// many milliseconds from now if that is earlier. Answers how many milliseconds are left until then.
+    pub(crate) fn check_and_plan(&mut self, at_most: u64) -> u64
+        ensures checked { (now : ℕ) × Checks self.old.timer now self.new.timer }
+        ensures bounded { result ≤ at_most }
+    {
+        let moment = self.clock.now();
+        self.timer.check_expirations(moment);
+        let next = self.timer.next_expiration().unwrap_or(u64::MAX);
+        let left = next.saturating_sub(moment).min(at_most);
+        if let Some(runner) = &mut self.runner {
+            runner.next_check = moment.saturating_add(left);
+        }
+        left
+    }
+
+    // Rouses the runner, if a future waits for an earlier moment than that of its next check.
+    fn rouse(&self) {
+        let next = self.timer.next_expiration().unwrap_or(u64::MAX);
+        if let Some(runner) = &self.runner {
+            if next < runner.next_check {
+                runner.parker.unpark();
+            }
+        }
+    }
 }
 
 impl<C: Clock> PollSlot<TimerWait> for Timed<C> {
@@ -92,7 +146,10 @@ impl<C: Clock> PollSlot<TimerWait> for Timed<C> {
         let now = self.clock.now();
         match self.timer.try_wait(slot, now, waker) {
             (Poll::Ready(()), leftover) => (Poll::Ready(Ok(())), leftover),
-            (Poll::Pending, leftover) => (Poll::Pending, leftover),
+            (Poll::Pending, leftover) => {
+                self.rouse();
+                (Poll::Pending, leftover)
+            }
         }
     }
 }

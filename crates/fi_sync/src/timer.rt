@@ -4,6 +4,7 @@ ghost use Rattle.fi_parts.specs.declared.errors.Fault.{Fault};
 ghost use Rattle.fi_sync.specs.Waiting.{IsNew};
 
 use crate::blocking::{Blocking, wait_for};
+use crate::event::ManualResetEvent;
 use crate::monitor::Monitor;
 use crate::slot_future::SlotFuture;
 use crate::timed::{Timed, TimerWait};
@@ -12,12 +13,17 @@ use futures::Future;
 use futures::future::{Either, select};
 use std::alloc::Global;
 use std::marker::Model;
-use std::sync::Wait;
+use std::sync::{Arc, Wait};
+use std::thread::Parker;
 use std::time::Duration;
+
+/// How long `TimerService::run` sleeps at most before it looks at its event again, in milliseconds.
+const LONGEST_SLEEP: u64 = 10;
 
 /// A timer whose futures end when their time has come. Threads share it by reference.
 ///
-/// Only a check tells futures. Each call but `new` takes the lock, and wakes those who were told and not woken yet. Keeps
+/// Only a check tells futures, so some thread has to `run` the timer, or to call `check_expirations` as time
+/// passes. Each call but `new` takes the lock, and wakes those who were told and not woken yet. Keeps
 /// `GenericTimerService` of futures-intrusive's `timer`.
 #[derive(Drop)]
 pub struct TimerService<C, R> {
@@ -79,11 +85,43 @@ impl<C: Clock + Drop, R: Wait> TimerService<C, R> {
 }
 
 impl<C: Clock + Drop, R: Blocking> TimerService<C, R> {
+    /// Runs the timer on this thread until the event is set: wakes each future once its time has come.
+    ///
+    /// The thread sleeps until the next expiry, and is roused if a future comes to wait for an earlier one.
+    /// An event wakes tasks, and no thread that sleeps with a time limit: so this one looks at the event every
+    /// 10 milliseconds, and ends so much later at most. If several threads run one timer, only the one that
+    /// began last is roused.
+    ///
+    /// Refused with `NoMemory` if there is none for what the thread is roused by; then it did nothing.
+    pub fn run(&self, until: &ManualResetEvent<R>) -> Result<(), Fault>
+        ensures fault { IfErr result (λ fault. fault ≡ Fault.NoMemory) }
+    {
+        let rt = self.monitor.runtime();
+        let Ok(parker) = Arc::new(rt.alloc(), Parker::new()) else {
+            return Err(Fault::NoMemory);
+        };
+        let Ok(shared) = Arc::try_clone(&parker) else {
+            return Err(Fault::NoMemory);
+        };
+        self.monitor.call(shared, Timed::run_by);
+        for _ in rt.forever() {
+            let left = self
+                .monitor
+                .call(LONGEST_SLEEP, Timed::check_and_plan);
+            if until.is_set() {
+                break;
+            }
+            parker.park_timeout(rt, Duration::from_millis(left));
+        }
+        self.monitor.call((), |timed, ()| timed.end_running());
+        Ok(())
+    }
+
     /// Blocks this thread until the future is ready, but at most so long: its output, or None once the time is over. Then the future
     /// goes on: it may be waited for again, cancelled or dropped.
     ///
-    /// The time is over when a check finds it so, so another thread has to call `check_expirations`. Refused with `NoMemory` where
-    /// there is none to wait with; the future goes on then too.
+    /// The time is over when a check finds it so: another thread has to `run` the timer, or to call
+    /// `check_expirations`. Refused with `NoMemory` where there is none to wait with; the future goes on then too.
     pub fn wait_at_most<F: Future>(
         &self,
         limit: Duration,
