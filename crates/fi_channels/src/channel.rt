@@ -1,7 +1,7 @@
 //! The channel of many values, with sends and receives that wait.
 ghost use Rattle.std.specs.Prelude.{◌≡◌, ℕ, ◌==◌, not, Bool, true, false, Option, Some, None, IfOk, IfErr, OnErr, is_some, length};
 ghost use Rattle.fi_parts.specs.Buffer.{Fits, empty};
-ghost use Rattle.fi_channels.specs.Polled.{unused_after, Answered, displaced_by};
+ghost use Rattle.fi_channels.specs.Polled.{unused_after, Answered, displaced_by, WouldBeReady};
 ghost use Rattle.fi_channels.specs.Channel as channel;
 ghost use Rattle.fi_channels.specs.Channel.{opened, send_phase, receive_phase, kind_of, displaced_send, displaced_receive};
 ghost use Rattle.fi_channels.specs.Channel.{displaced_by_send, MakesSend, MakesReceive, PollsSend};
@@ -244,6 +244,13 @@ impl<T: Drop, B: RingBuf<Item = T>, W: Drop> ChannelState<T, B, W> {
         self.fields.can_stream(slot)
     }
 
+    /// Returns `true` if a poll of the stream under this slot would be ready now, so that it needs no waker.
+    pub fn next_ends_now(&self, slot: Slot) -> bool
+        ensures { WouldBeReady (PollsNext self.now slot.0) result }
+    {
+        self.fields.next_ends_now(slot)
+    }
+
     /// Polls the stream under this slot: ready with its next item, or with None once the channel is closed and empty, and
     /// ever after; else it is registered with this waker. `remove_receive_waiter` cancels it.
     pub fn next_or_register(&mut self, slot: Slot, waker: W) -> (Poll<Option<T>>, Leftover<W>)
@@ -255,6 +262,26 @@ impl<T: Drop, B: RingBuf<Item = T>, W: Drop> ChannelState<T, B, W> {
         ensures live { channel.can_stream (kind_of self.new slot.0) (receive_phase self.new slot.0) ≡ true }
     {
         self.fields.next_or_register(slot, waker)
+    }
+
+    /// Polls the stream under this slot as `next_or_register` does, if one lives there. Else the waker comes back, and nothing has
+    /// changed: so it asks its caller for nothing. `leave_receive` cancels it so.
+    pub fn next_checked(
+        &mut self,
+        slot: Slot,
+        waker: W,
+    ) -> Result<(Poll<Option<T>>, Leftover<W>), W>
+        ensures polled { IfOk result (λ polled. PollsNext self.old slot.0 waker polled.0 self.new) }
+        ensures displaced { IfOk result (λ polled. polled.1.displaced ≡ displaced_receive self.old slot.0) }
+        ensures unused { IfOk result (λ polled. polled.1.unused ≡ unused_after polled.0 waker) }
+        ensures refused { OnErr result
+            ((channel.can_stream (kind_of self.old slot.0) (receive_phase self.old slot.0) ≡ false) × (self.new ≡ self.old)) }
+        ensures handed_back { IfErr result (λ back. back ≡ waker) }
+    {
+        if !self.can_stream(slot) {
+            return Err(waker);
+        }
+        Ok(self.next_or_register(slot, waker))
     }
 }
 
@@ -282,6 +309,12 @@ impl<T: Drop, B: RingBuf<Item = T>, W: Drop> ChannelSendAccess for ChannelState<
 
     fn has_send(&self, slot: Slot) -> bool {
         self.fields.has_send(slot)
+    }
+
+    fn send_ends_now(&self, slot: Slot) -> bool
+        ensures { WouldBeReady (PollsSend self.now slot.0) result }
+    {
+        self.fields.send_ends_now(slot)
     }
 
     fn send_or_register(&mut self, slot: Slot, waker: W) -> Sent<T, W>
@@ -329,6 +362,12 @@ impl<T: Drop, B: RingBuf<Item = T>, W: Drop> ChannelReceiveAccess for ChannelSta
 
     fn has_receive(&self, slot: Slot) -> bool {
         self.fields.has_receive(slot)
+    }
+
+    fn receive_ends_now(&self, slot: Slot) -> bool
+        ensures { WouldBeReady (λ waker. Answered (PollsReceive self.now slot.0 waker) (λ fault state. ⊥)) result }
+    {
+        self.fields.receive_ends_now(slot)
     }
 
     fn receive_or_register(&mut self, slot: Slot, waker: W) -> Received<T, W>

@@ -3,11 +3,11 @@ ghost use Rattle.std.specs.Prelude.{◌≡◌, ◌==◌, not, Bool, true, false,
 ghost use Rattle.fi_parts.specs.Buffer.{Fits, empty};
 ghost use Rattle.fi_parts.specs.Waiting.{phase_of, asks_of};
 ghost use Rattle.fi_parts.specs.declared.phase.Phase.TheVariants.{Fresh};
-ghost use Rattle.fi_channels.specs.Polled.{unused_after};
+ghost use Rattle.fi_channels.specs.Polled.{unused_after, WouldBeReady};
 ghost use Rattle.fi_channels.specs.Channel.{opened, can_send, can_take, can_receive, can_stream, MakesSend, MakesReceive};
 ghost use Rattle.fi_channels.specs.Channel.{PollsSend, displaced_by_send, CancelsSend, PollsReceive, PollsNext};
 ghost use Rattle.fi_channels.specs.Channel.{CancelsReceive, TriesSend, TriesReceive, Closes, Wakes};
-ghost use Rattle.fi_channels.specs.Channel.{IsSound, has_room, displaced_send, displaced_receive, value_of};
+ghost use Rattle.fi_channels.specs.Channel.{IsSound, has_room, displaced_send, displaced_receive, next_of, value_of};
 ghost use Rattle.fi_channels.specs.ChannelFields.{machine_of, phase_given, Takes};
 ghost use Rattle.fi_channels.specs.Clearable.{bounded_of};
 ghost use Rattle.fi_channels.specs.Cleared.{ClosesAndClears};
@@ -124,6 +124,51 @@ impl<T: Drop, B: RingBuf<Item = T>, W: Drop> ChannelFields<T, B, W> {
         ensures { result ≡ is_some (phase_of self.now.waiters.receives slot.0) }
     {
         self.waiters.receive_phase(slot).is_some()
+    }
+
+    /// Whether a poll of the send under this slot would be ready now.
+    pub fn send_ends_now(&self, slot: Slot) -> bool
+        ensures { WouldBeReady (PollsSend (machine_of B.bounded self.now) slot.0) result }
+    {
+        match self.waiters.send_phase(slot) {
+            Some(Phase::Fresh) => !self.is_open || self.buffer.can_push(),
+            Some(Phase::Complete) => true,
+            None | Some(Phase::Registered(_) | Phase::Told | Phase::Ended) => false,
+        }
+    }
+
+    // Whether there is a value to be received: one that is buffered, or of a send that waits.
+    fn has_next(&self) -> bool
+        ensures { result ≡ is_some (next_of (machine_of B.bounded self.now)) }
+    {
+        if !self.buffer.is_empty() {
+            return true;
+        }
+        match self.waiters.oldest_send_asks() {
+            Some(value) => value.is_some(),
+            None => false,
+        }
+    }
+
+    /// Whether a poll of the receive or the stream under this slot would be ready now, if it has not ended.
+    pub fn receive_ends_now(&self, slot: Slot) -> bool
+        ensures { WouldBeReady (PollsReceive (machine_of B.bounded self.now) slot.0) result }
+    {
+        match self.waiters.receive_phase(slot) {
+            Some(Phase::Fresh | Phase::Told) => self.has_next() || !self.is_open,
+            None | Some(Phase::Registered(_) | Phase::Complete | Phase::Ended) => false,
+        }
+    }
+
+    /// Whether a poll of the stream under this slot would be ready now: one that has ended ends again.
+    pub fn next_ends_now(&self, slot: Slot) -> bool
+        ensures { WouldBeReady (PollsNext (machine_of B.bounded self.now) slot.0) result }
+    {
+        match self.waiters.receive_phase(slot) {
+            Some(Phase::Fresh | Phase::Told) => self.has_next() || !self.is_open,
+            Some(Phase::Ended) => true,
+            None | Some(Phase::Registered(_) | Phase::Complete) => false,
+        }
     }
 
     /// A fresh send of this value. Refused only for want of memory; then the value comes back and nothing has changed.

@@ -1,5 +1,5 @@
 //! A stream of a local channel's values.
-ghost use Rattle.std.specs.Prelude.{◌≡◌, Bool, true, is_some};
+ghost use Rattle.std.specs.Prelude.{◌≡◌, Bool, true, false, is_some, IfSome, IfNone};
 ghost use Rattle.fi_channels.specs.Channel.{can_stream, kind_of, receive_phase, PollsNext, CancelsReceive, is_end};
 
 use crate::access::ChannelReceiveAccess;
@@ -37,6 +37,36 @@ impl LocalFutureOf<ChannelStreaming> {
             Poll::Ready(Some(_)) | Poll::Pending => false,
         };
         answer
+    }
+
+    /// Polls the stream as `poll_next` does, if it lives in this channel. Else None, and nothing has changed: so it asks its caller
+    /// for nothing.
+    pub fn poll_next_if_live<T: Drop, B: RingBuf<Item = T>, W: Drop>(
+        &mut self,
+        channel: &mut ChannelState<T, B, W>,
+        waker: W,
+    ) -> Option<Poll<Option<T>>>
+        ensures polled { IfSome result (λ answer. PollsNext channel.old self.old.name waker answer channel.new) }
+        ensures ended { IfSome result (λ answer. self.new ≡ record { name = self.old.name; has_ended = is_end answer }) }
+        ensures refused { IfNone result (can_stream (kind_of channel.old self.old.name) (receive_phase channel.old self.old.name) ≡ false) }
+        ensures unchanged { IfNone result ((channel.new ≡ channel.old) × (self.new ≡ self.old)) }
+    {
+        let (answer, _leftover) = channel.next_checked(self.slot, waker).ok()?;
+        self.is_ended = matches!(&answer, Poll::Ready(None));
+        Some(answer)
+    }
+
+    /// Ends the stream as `cancel` does, if it lives in this channel. Else nothing changes: so it asks its caller for nothing.
+    pub fn leave<T: Drop, B: RingBuf<Item = T>, W: Drop>(self, channel: &mut ChannelState<T, B, W>)
+        ensures cancelled { is_some (receive_phase channel.old self.name) ≡ true → CancelsReceive channel.old self.name channel.new }
+        ensures unchanged { is_some (receive_phase channel.old self.name) ≡ false → channel.new ≡ channel.old }
+    {
+        let LocalFutureOf {
+            slot,
+            is_ended: _,
+            kind: _,
+        } = self;
+        channel.leave_receive(slot);
     }
 
     /// Ends the stream: it leaves its channel. The caller lends the stream's own channel.

@@ -1,5 +1,5 @@
 //! A send on a local channel.
-ghost use Rattle.std.specs.Prelude.{◌≡◌, Bool, true};
+ghost use Rattle.std.specs.Prelude.{◌≡◌, Bool, true, false, None, IfSome, IfNone};
 ghost use Rattle.fi_channels.specs.Channel.{has_sent};
 
 use crate::access::ChannelSendAccess;
@@ -14,6 +14,16 @@ pub struct ChannelSend;
 ///
 /// Keeps `ChannelSendFuture` of futures-intrusive's `channel`.
 pub type LocalSendFuture = LocalFutureOf<ChannelSend>;
+
+// Whether a poll of a send with this answer ended it.
+fn is_end<T>(answer: &Poll<Result<(), SendFault<T>>>) -> bool
+    ensures { result ≡ has_sent answer.now }
+{
+    match answer {
+        Poll::Ready(Ok(())) | Poll::Ready(Err(SendFault::Closed(_))) => true,
+        Poll::Ready(Err(SendFault::Fault(_))) | Poll::Pending => false,
+    }
+}
 
 impl LocalFutureOf<ChannelSend> {
     /// Ready once the value is stored or was taken; ready with the value where the channel is closed; else the send waits
@@ -35,11 +45,44 @@ impl LocalFutureOf<ChannelSend> {
         ensures live { C.is_sending channel.new self.old.name ≡ true }
     {
         let (answer, _leftover) = channel.send_or_register(self.slot, waker);
-        self.is_ended = match &answer {
-            Poll::Ready(Ok(())) | Poll::Ready(Err(SendFault::Closed(_))) => true,
-            Poll::Ready(Err(SendFault::Fault(_))) | Poll::Pending => false,
-        };
+        self.is_ended = is_end(&answer);
         answer
+    }
+
+    /// Polls the send as `poll` does, if it lives in this channel and has not ended. Else None, and nothing has changed: so it asks
+    /// its caller for nothing.
+    pub fn poll_if_live<C: ChannelSendAccess>(
+        &mut self,
+        channel: &mut C,
+        waker: C::Waker,
+    ) -> Option<Poll<Result<(), SendFault<C::Item>>>>
+    where
+        C::Waker: Drop,
+        ensures polled { IfSome result (λ answer. C.sends channel.old self.old.name waker answer channel.new) }
+        ensures ended { IfSome result (λ answer. self.new ≡ record { name = self.old.name; has_ended = has_sent answer }) }
+        ensures refused { IfNone result (C.is_sendable channel.old self.old.name ≡ false) }
+        ensures unchanged { IfNone result ((channel.new ≡ channel.old) × (self.new ≡ self.old)) }
+    {
+        let (answer, _leftover) = channel.send_checked(self.slot, waker).ok()?;
+        self.is_ended = is_end(&answer);
+        Some(answer)
+    }
+
+    /// Ends the send as `cancel` does, if it lives in this channel. Else None, and nothing changes: so it asks its caller for
+    /// nothing.
+    pub fn leave<C: ChannelSendAccess>(self, channel: &mut C) -> Option<C::Item>
+    where
+        C::Waker: Drop,
+        ensures cancelled { C.is_sending channel.old self.name ≡ true → C.withdraws channel.old self.name result channel.new }
+        ensures unchanged { C.is_sending channel.old self.name ≡ false → (channel.new ≡ channel.old) × (result ≡ None) }
+    {
+        let LocalFutureOf {
+            slot,
+            is_ended: _,
+            kind: _,
+        } = self;
+        let (value, _waker) = channel.leave_send(slot);
+        value
     }
 
     /// Ends the send: it leaves its channel. Returns its value if that was neither accepted into the buffer, taken nor handed

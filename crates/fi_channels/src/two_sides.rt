@@ -147,6 +147,14 @@ impl<D: Drop, E: Drop, W: Drop> TwoSides<D, E, W> {
         Some(slot)
     }
 
+    /// What the oldest send asks for that is queued; None if none is.
+    pub fn oldest_send_asks(&self) -> Option<&D>
+        ensures { option_copied result ≡ asks_of_oldest self.now.sends }
+    {
+        let slot = self.sends.oldest()?;
+        self.sends.asks(slot)
+    }
+
     // Sets the phase of a registered send, and names it with the waker that it was registered with.
     fn notice_send(&mut self, slot: Slot, phase: Phase<W>)
         requires registered { is_registered (phase_of self.old.sends slot.0) ≡ true }

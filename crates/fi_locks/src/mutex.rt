@@ -1,7 +1,7 @@
 //! A mutex.
 ghost use Rattle.std.specs.Prelude.{◌≡◌, true, false, Option, Some, None, Result, Ok, Err, IfOk, IfErr, OnErr, is_some, length, not};
 ghost use Rattle.fi_parts.specs.Machine.{phase_at, displaced_at};
-ghost use Rattle.fi_parts.specs.Polled.{unused_after};
+ghost use Rattle.fi_parts.specs.Polled.{unused_after, WouldBeReady, LeavesWhere};
 ghost use Rattle.fi_parts.specs.Waiting.{phase_of, displaced};
 ghost use Rattle.fi_locks.specs.Mutex.{opened, is_free, can_be_polled, Makes, Polls, Cancels, TriesLock};
 ghost use Rattle.fi_locks.specs.Mutex.{Unlocks, Wakes, IsLockedIfReady, IsLockedIfGiven, IsSound, OwesNoWake};
@@ -168,6 +168,13 @@ impl<T: Drop, W: Drop> MutexState<T, W> {
         }
     }
 
+    /// Returns `true` if a poll of the future under this slot would be ready now, so that it needs no waker.
+    pub fn ends_now(&self, slot: Slot) -> bool
+        ensures { WouldBeReady (Polls self.now slot.0) result }
+    {
+        self.fields.ends_now(slot)
+    }
+
     /// Polls the future under this slot: ready with the value where the mutex is free for it, else registered with this waker.
     ///
     /// The caller has seen that the future lives and has not ended, and gives the value back by `unlock`. The wakers of no more
@@ -181,6 +188,35 @@ impl<T: Drop, W: Drop> MutexState<T, W> {
         ensures live { is_some (phase_at self.new slot.0) ≡ true }
     {
         self.fields.try_wait(slot, waker)
+    }
+
+    /// Polls the future under this slot as `try_wait` does, if one lives there that has not ended. Else the waker comes back, and
+    /// nothing has changed: so it asks its caller for nothing.
+    pub fn poll_checked(&mut self, slot: Slot, waker: W) -> Result<(Poll<T>, Leftover<W>), W>
+        ensures polled { IfOk result (λ polled. Polls self.old slot.0 waker polled.0 self.new) }
+        ensures displaced { IfOk result (λ polled. polled.1.displaced ≡ displaced_at self.old slot.0) }
+        ensures unused { IfOk result (λ polled. polled.1.unused ≡ unused_after polled.0 waker) }
+        ensures locked { IfOk result (λ polled. IsLockedIfReady polled.0 self.new) }
+        ensures refused { OnErr result ((can_be_polled (phase_at self.old slot.0) ≡ false) × (self.new ≡ self.old)) }
+        ensures handed_back { IfErr result (λ back. back ≡ waker) }
+    {
+        if !self.can_poll(slot) {
+            return Err(waker);
+        }
+        Ok(self.try_wait(slot, waker))
+    }
+
+    /// Cancels the future under this slot as `remove_waiter` does, if one lives there. Else None, and nothing changes: so it asks its
+    /// caller for nothing.
+    pub fn leave(&mut self, slot: Slot) -> Option<W>
+        ensures left { LeavesWhere (is_some (phase_at self.old slot.0)) (Cancels self.old slot.0 self.new) (displaced_at self.old slot.0)
+            self.old result self.new }
+        ensures own { self.new.own ≡ self.old.own }
+    {
+        if !self.is_live(slot) {
+            return None;
+        }
+        self.remove_waiter(slot)
     }
 
     /// Cancels the future under this slot, which is live, and gives back the waker that it had. If it was told, the oldest queued
@@ -230,7 +266,8 @@ impl<T: Drop, W: Drop> Fields<T, W> {
     ghost use Rattle.fi_parts.specs.Effects.WaiterEffect.{EndsPlaced, Registers};
     ghost use Rattle.futures.specs.declared.task.Poll.TheVariants as polled;
     ghost use Rattle.fi_parts.specs.declared.phase.Phase.TheVariants as phases;
-    ghost use Rattle.fi_locks.specs.Mutex.{for_newcomer, PollsAs, tells_oldest};
+    ghost use Rattle.std.specs.Prelude.{◌&&◌};
+    ghost use Rattle.fi_locks.specs.Mutex.{for_newcomer, is_empty, queue_of, PollsAs, tells_oldest};
     ghost use Rattle.fi_locks.specs.MutexFields.{machine_of, left_of};
 
     fn is_locked(&self) -> bool
@@ -255,10 +292,28 @@ impl<T: Drop, W: Drop> Fields<T, W> {
         ensures value { result ≡ for_newcomer (machine_of self.old) }
         ensures rest { self.new ≡ record self.old { value = left_of result self.old.value } }
     {
-        if self.is_fair && self.locks.oldest().is_some() {
+        if self.is_promised() {
             return None;
         }
         self.value.take()
+    }
+
+    // Whether a newcomer has to wait, though the mutex may be free.
+    fn is_promised(&self) -> bool
+        ensures { result ≡ (self.now.is_fair && not (is_empty (queue_of (machine_of self.now)))) }
+    {
+        self.is_fair && self.locks.oldest().is_some()
+    }
+
+    fn ends_now(&self, slot: Slot) -> bool
+        ensures { WouldBeReady (Polls (machine_of self.now) slot.0) result }
+    {
+        match self.locks.phase(slot) {
+            Some(Phase::Fresh) => self.value.is_some() && !self.is_promised(),
+            Some(Phase::Registered(_)) => self.value.is_some() && !self.is_fair,
+            Some(Phase::Told) => self.value.is_some(),
+            None | Some(Phase::Complete | Phase::Ended) => false,
+        }
     }
 
     fn try_take(&mut self) -> Option<T>

@@ -1,5 +1,5 @@
 //! A future that locks a mutex, polled with the mutex lent to it.
-ghost use Rattle.std.specs.Prelude.{◌≡◌, true, false, is_some};
+ghost use Rattle.std.specs.Prelude.{◌≡◌, true, false, is_some, IfSome, IfNone};
 ghost use Rattle.fi_parts.specs.Machine.{phase_at};
 ghost use Rattle.fi_parts.specs.Polled.{is_ready};
 ghost use Rattle.fi_locks.specs.Mutex.{can_be_polled, Polls, Cancels, IsLockedIfReady};
@@ -73,6 +73,37 @@ impl LocalMutexLockFuture {
             Poll::Ready(value) => Poll::Ready(LocalMutexGuard::of(value)),
             Poll::Pending => Poll::Pending,
         }
+    }
+
+    /// Polls the future as `poll` does, if it lives in this mutex and has not ended. Else None, and nothing has changed: so it asks its
+    /// caller for nothing.
+    pub fn poll_if_live<T: Drop, W: Drop>(
+        &mut self,
+        mutex: &mut LocalMutex<T, W>,
+        waker: W,
+    ) -> Option<Poll<LocalMutexGuard<T>>>
+        ensures polled { IfSome result (λ answer. Polls mutex.old self.old.name waker answer mutex.new) }
+        ensures ended { IfSome result (λ answer. self.new ≡ record { name = self.old.name; has_ended = is_ready answer }) }
+        ensures locked { IfSome result (λ answer. IsLockedIfReady answer mutex.new) }
+        ensures refused { IfNone result (can_be_polled (phase_at mutex.old self.old.name) ≡ false) }
+        ensures unchanged { IfNone result ((mutex.new ≡ mutex.old) × (self.new ≡ self.old)) }
+    {
+        let (answer, _leftover) = mutex.poll_checked(self.slot, waker).ok()?;
+        self.is_ended = !answer.is_pending();
+        match answer {
+            Poll::Ready(value) => Some(Poll::Ready(LocalMutexGuard::of(value))),
+            Poll::Pending => Some(Poll::Pending),
+        }
+    }
+
+    /// Ends the future as `cancel` does, if it lives in this mutex. Else nothing changes: so it asks its caller for nothing.
+    pub fn leave<T: Drop, W: Drop>(self, mutex: &mut LocalMutex<T, W>)
+        ensures cancelled { is_some (phase_at mutex.old self.name) ≡ true → Cancels mutex.old self.name mutex.new }
+        ensures own { mutex.new.own ≡ mutex.old.own }
+        ensures unchanged { is_some (phase_at mutex.old self.name) ≡ false → mutex.new ≡ mutex.old }
+    {
+        let LocalMutexLockFuture { slot, is_ended: _ } = self;
+        mutex.leave(slot);
     }
 
     /// Ends the future, which leaves its mutex. If it was told, the oldest queued future is told in its place. The caller lends

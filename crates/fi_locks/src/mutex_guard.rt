@@ -47,6 +47,16 @@ impl<T: Drop> LocalMutexGuard<T> {
             Err(_value) => unreachable!(),
         }
     }
+
+    /// Unlocks the mutex as `unlock` does, if it is locked. Else the value comes back, and nothing has changed: so it asks its caller
+    /// for nothing.
+    pub fn unlock_checked<W: Drop>(self, mutex: &mut LocalMutex<T, W>) -> Result<(), T>
+        ensures unlocked { Unlocks mutex.old self result mutex.new }
+        ensures live { AllStayLive mutex.old mutex.new }
+    {
+        let LocalMutexGuard { value } = self;
+        mutex.unlock(value)
+    }
 }
 
 impl<T> Deref for LocalMutexGuard<T> {

@@ -5,7 +5,7 @@ ghost use Rattle.fi_parts.specs.Effects.{TakesEffect};
 ghost use Rattle.fi_parts.specs.Effects.WaiterEffect.{EndsPlaced};
 ghost use Rattle.fi_parts.specs.Machine.{phase_at, displaced_at};
 ghost use Rattle.fi_parts.specs.Places.{is_told};
-ghost use Rattle.fi_parts.specs.Polled.{unused_after};
+ghost use Rattle.fi_parts.specs.Polled.{unused_after, WouldBeReady, LeavesWhere};
 ghost use Rattle.fi_parts.specs.Waiting.{phase_of, displaced, is_registered, is_queued, IsOrderedBy};
 ghost use Rattle.fi_parts.specs.declared.phase.Phase.TheVariants as phases;
 ghost use Rattle.fi_locks.specs.Semaphore.{opened, can_be_polled, need_of, can_take, granted};
@@ -196,6 +196,13 @@ impl<W: Drop> SemaphoreState<W> {
         }
     }
 
+    /// Returns `true` if a poll of the future under this slot would be ready now, so that it needs no waker.
+    pub fn ends_now(&self, slot: Slot) -> bool
+        ensures { WouldBeReady (Polls self.now slot.0) result }
+    {
+        self.fields.ends_now(slot)
+    }
+
     /// Polls the future under this slot: ready with the permits that it needs if they are granted, else registered with this
     /// waker.
     ///
@@ -209,6 +216,35 @@ impl<W: Drop> SemaphoreState<W> {
         ensures live { is_some (phase_at self.new slot.0) ≡ true }
     {
         self.fields.acquire_or_register(slot, waker)
+    }
+
+    /// Polls the future under this slot as `acquire_or_register` does, if one lives there that has not ended. Else the waker comes
+    /// back, and nothing has changed: so it asks its caller for nothing.
+    pub fn poll_checked(&mut self, slot: Slot, waker: W) -> Result<(Poll<usize>, Leftover<W>), W>
+        ensures polled { IfOk result (λ polled. Polls self.old slot.0 waker polled.0 self.new) }
+        ensures held { IfOk result (λ polled. AreHeld polled.0 self.new.own.held) }
+        ensures displaced { IfOk result (λ polled. polled.1.displaced ≡ displaced_at self.old slot.0) }
+        ensures unused { IfOk result (λ polled. polled.1.unused ≡ unused_after polled.0 waker) }
+        ensures refused { OnErr result ((can_be_polled (phase_at self.old slot.0) ≡ false) × (self.new ≡ self.old)) }
+        ensures handed_back { IfErr result (λ back. back ≡ waker) }
+    {
+        if !self.can_poll(slot) {
+            return Err(waker);
+        }
+        Ok(self.acquire_or_register(slot, waker))
+    }
+
+    /// Cancels the future under this slot as `remove_waiter` does, if one lives there. Else None, and nothing changes: so it asks its
+    /// caller for nothing.
+    pub fn leave(&mut self, slot: Slot) -> Option<W>
+        ensures left { LeavesWhere (is_some (phase_at self.old slot.0)) (Cancels self.old slot.0 self.new) (displaced_at self.old slot.0)
+            self.old result self.new }
+        ensures held { self.new.own.held ≡ self.old.own.held }
+    {
+        if !self.is_live(slot) {
+            return None;
+        }
+        self.remove_waiter(slot)
     }
 
     /// Cancels the future under this slot, which is live, and gives back the waker that it had. A notice that it had not used
@@ -314,6 +350,18 @@ impl<W: Drop> Fields<W> {
             return true;
         }
         self.waits.oldest().is_none()
+    }
+
+    fn ends_now(&self, slot: Slot) -> bool
+        ensures { WouldBeReady (Polls (machine_of self.now) slot.0) result }
+    {
+        let need = self.need(slot);
+        match self.waits.phase(slot) {
+            Some(Phase::Fresh) => self.can_take(need),
+            Some(Phase::Registered(_)) => !self.is_fair && need <= self.free,
+            Some(Phase::Told) => need <= self.free,
+            None | Some(Phase::Complete | Phase::Ended) => false,
+        }
     }
 
     // Free permits are held now.

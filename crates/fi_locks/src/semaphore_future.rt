@@ -1,5 +1,5 @@
 //! A future of a semaphore, polled with the semaphore lent to it, and the permits that it acquires.
-ghost use Rattle.std.specs.Prelude.{◌≡◌, ◌≤◌, true, false, is_some};
+ghost use Rattle.std.specs.Prelude.{◌≡◌, ◌≤◌, nat_le, true, false, is_some, IfSome, IfNone};
 ghost use Rattle.fi_parts.specs.Machine.{phase_at};
 ghost use Rattle.fi_parts.specs.Polled.{is_ready};
 ghost use Rattle.fi_locks.specs.Live.{AllStayLive};
@@ -91,6 +91,37 @@ impl LocalSemaphoreAcquireFuture {
         Poll::Ready(LocalSemaphoreReleaser::of(permits))
     }
 
+    /// Polls the future as `poll` does, if it lives in this semaphore and has not ended. Else None, and nothing has changed: so it asks
+    /// its caller for nothing.
+    pub fn poll_if_live<W: Drop>(
+        &mut self,
+        semaphore: &mut LocalSemaphore<W>,
+        waker: W,
+    ) -> Option<Poll<LocalSemaphoreReleaser>>
+        ensures polled { IfSome result (λ answer. Polls semaphore.old self.old.name waker answer semaphore.new) }
+        ensures held { IfSome result (λ answer. AreHeld answer semaphore.new.own.held) }
+        ensures ended { IfSome result (λ answer. self.new ≡ record { name = self.old.name; has_ended = is_ready answer }) }
+        ensures refused { IfNone result (can_be_polled (phase_at semaphore.old self.old.name) ≡ false) }
+        ensures unchanged { IfNone result ((semaphore.new ≡ semaphore.old) × (self.new ≡ self.old)) }
+    {
+        let (answer, _leftover) = semaphore.poll_checked(self.slot, waker).ok()?;
+        self.is_ended = !answer.is_pending();
+        match answer {
+            Poll::Ready(permits) => Some(Poll::Ready(LocalSemaphoreReleaser::of(permits))),
+            Poll::Pending => Some(Poll::Pending),
+        }
+    }
+
+    /// Gives up as `cancel` does, if the future lives in this semaphore. Else nothing changes: so it asks its caller for nothing.
+    pub fn leave<W: Drop>(self, semaphore: &mut LocalSemaphore<W>)
+        ensures cancelled { is_some (phase_at semaphore.old self.name) ≡ true → Cancels semaphore.old self.name semaphore.new }
+        ensures held { semaphore.new.own.held ≡ semaphore.old.own.held }
+        ensures unchanged { is_some (phase_at semaphore.old self.name) ≡ false → semaphore.new ≡ semaphore.old }
+    {
+        let LocalSemaphoreAcquireFuture { slot, is_ended: _ } = self;
+        semaphore.leave(slot);
+    }
+
     /// Gives up: the future leaves its semaphore, and a notice that it had not used is passed on to those who wait. If it waited
     /// in a fair semaphore, those behind it are told whose needs are free then. The caller lends the future's own semaphore.
     ///
@@ -130,6 +161,21 @@ impl LocalSemaphoreReleaser {
     {
         let LocalSemaphoreReleaser { permits } = self;
         semaphore.give_back(permits);
+    }
+
+    /// Gives the permits back as `give_back` does and returns `true`, if so many are held. Else `false`, and nothing changes: so it
+    /// asks its caller for nothing.
+    pub fn give_back_checked<W: Drop>(self, semaphore: &mut LocalSemaphore<W>) -> bool
+        ensures held { result ≡ nat_le self semaphore.old.own.held }
+        ensures given_back { result ≡ true → GivesBack semaphore.old self semaphore.new }
+        ensures unchanged { result ≡ false → semaphore.new ≡ semaphore.old }
+    {
+        let LocalSemaphoreReleaser { permits: count } = self;
+        if count > semaphore.held() {
+            return false;
+        }
+        semaphore.give_back(count);
+        true
     }
 
     /// Leaves no permits here, and says how many there were: they are no longer held, and will not be given back.

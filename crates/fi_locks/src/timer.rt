@@ -4,7 +4,7 @@ ghost use Rattle.std.specs.Duration.{as_nanos};
 ghost use Rattle.fi_parts.specs.Waiting.{phase_of, displaced};
 ghost use Rattle.fi_parts.specs.Machine.{phase_at, displaced_at};
 ghost use Rattle.fi_parts.specs.Deadlines.{IsNextExpiry};
-ghost use Rattle.fi_parts.specs.Polled.{unused_after};
+ghost use Rattle.fi_parts.specs.Polled.{unused_after, WouldBeReady, LeavesWhere};
 ghost use Rattle.fi_locks.specs.Live.{AllStayLive};
 ghost use Rattle.fi_locks.specs.Timer.{opened, expiry_after, can_be_polled, Makes, Polls, Cancels, Checks, Wakes, IsSound, OwesNoWake};
 
@@ -169,6 +169,13 @@ impl<W: Drop> TimerState<W> {
         }
     }
 
+    /// Returns `true` if a poll of the future under this slot would be ready at this moment, so that it needs no waker.
+    pub fn ends_now(&self, slot: Slot, now: u64) -> bool
+        ensures { WouldBeReady (Polls self.now slot.0 now) result }
+    {
+        self.fields.ends_now(slot, now)
+    }
+
     /// Polls the future under this slot at this moment: ready where it was told, or where it is fresh and its expiry is not after
     /// the moment; else registered with this waker.
     ///
@@ -181,6 +188,38 @@ impl<W: Drop> TimerState<W> {
         ensures live { is_some (phase_at self.new slot.0) ≡ true }
     {
         self.fields.try_wait(slot, now, waker)
+    }
+
+    /// Polls the future under this slot as `try_wait` does, if one lives there that has not ended. Else the waker comes back, and
+    /// nothing has changed: so it asks its caller for nothing.
+    pub fn poll_checked(
+        &mut self,
+        slot: Slot,
+        now: u64,
+        waker: W,
+    ) -> Result<(Poll<()>, Leftover<W>), W>
+        ensures polled { IfOk result (λ polled. Polls self.old slot.0 now waker polled.0 self.new) }
+        ensures displaced { IfOk result (λ polled. polled.1.displaced ≡ displaced_at self.old slot.0) }
+        ensures unused { IfOk result (λ polled. polled.1.unused ≡ unused_after polled.0 waker) }
+        ensures refused { OnErr result ((can_be_polled (phase_at self.old slot.0) ≡ false) × (self.new ≡ self.old)) }
+        ensures handed_back { IfErr result (λ back. back ≡ waker) }
+    {
+        if !self.can_poll(slot) {
+            return Err(waker);
+        }
+        Ok(self.try_wait(slot, now, waker))
+    }
+
+    /// Cancels the future under this slot as `remove_waiter` does, if one lives there. Else None, and nothing changes: so it asks its
+    /// caller for nothing.
+    pub fn leave(&mut self, slot: Slot) -> Option<W>
+        ensures { LeavesWhere (is_some (phase_at self.old slot.0)) (Cancels self.old slot.0 self.new) (displaced_at self.old slot.0)
+            self.old result self.new }
+    {
+        if !self.is_live(slot) {
+            return None;
+        }
+        self.remove_waiter(slot)
     }
 
     /// Cancels the future under this slot, which is live, and gives back the waker that it had. Nobody is told.
@@ -216,6 +255,16 @@ impl<W: Drop> Fields<W> {
         ensures fault { IfErr result (λ fault. fault ≡ Fault.NoMemory) }
     {
         self.deadlines.insert(expiry)
+    }
+
+    fn ends_now(&self, slot: Slot, now: u64) -> bool
+        ensures { WouldBeReady (Polls (machine_of self.now) slot.0 now) result }
+    {
+        match self.deadlines.phase(slot) {
+            Some(Phase::Fresh) => self.deadlines.has_come(slot, now),
+            Some(Phase::Told) => true,
+            None | Some(Phase::Registered(_) | Phase::Complete | Phase::Ended) => false,
+        }
     }
 
     fn try_wait(&mut self, slot: Slot, now: u64, waker: W) -> (Poll<()>, Leftover<W>)

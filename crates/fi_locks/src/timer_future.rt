@@ -1,5 +1,5 @@
 //! A future of a timer, polled with the timer lent to it.
-ghost use Rattle.std.specs.Prelude.{◌≡◌, true, false, is_some};
+ghost use Rattle.std.specs.Prelude.{◌≡◌, true, false, is_some, IfSome, IfNone};
 ghost use Rattle.fi_parts.specs.Machine.{phase_at};
 ghost use Rattle.fi_parts.specs.Polled.{is_ready};
 ghost use Rattle.fi_locks.specs.Timer.{can_be_polled, Polls, Cancels};
@@ -71,6 +71,33 @@ impl LocalTimerFuture {
         let (answer, _leftover) = timer.try_wait(self.slot, now, waker);
         self.is_ended = answer.is_ready();
         answer
+    }
+
+    /// Polls the future as `poll` does, if it lives in this timer and has not ended. Else None, and nothing has changed: so it asks its
+    /// caller for nothing.
+    pub fn poll_if_live<W: Drop>(
+        &mut self,
+        timer: &mut LocalTimerService<W>,
+        now: u64,
+        waker: W,
+    ) -> Option<Poll<()>>
+        ensures polled { IfSome result (λ answer. Polls timer.old self.old.name now waker answer timer.new) }
+        ensures ended { IfSome result (λ answer. self.new ≡ record { name = self.old.name; has_ended = is_ready answer }) }
+        ensures refused { IfNone result (can_be_polled (phase_at timer.old self.old.name) ≡ false) }
+        ensures unchanged { IfNone result ((timer.new ≡ timer.old) × (self.new ≡ self.old)) }
+    {
+        let (answer, _leftover) = timer.poll_checked(self.slot, now, waker).ok()?;
+        self.is_ended = !answer.is_pending();
+        Some(answer)
+    }
+
+    /// Ends the wait as `cancel` does, if the future lives in this timer. Else nothing changes: so it asks its caller for nothing.
+    pub fn leave<W: Drop>(self, timer: &mut LocalTimerService<W>)
+        ensures cancelled { is_some (phase_at timer.old self.name) ≡ true → Cancels timer.old self.name timer.new }
+        ensures unchanged { is_some (phase_at timer.old self.name) ≡ false → timer.new ≡ timer.old }
+    {
+        let LocalTimerFuture { slot, is_ended: _ } = self;
+        timer.leave(slot);
     }
 
     /// Ends the wait: the future leaves its timer, and nobody is told. The caller lends the future's own timer.

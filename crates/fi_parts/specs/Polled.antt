@@ -1,5 +1,5 @@
 -- What a poll leaves behind.
-use Rattle.std.specs.Prelude.{ℕ, Bool, true, false, Option, Some, None}
+use Rattle.std.specs.Prelude.{◌≡◌, ℕ, Bool, true, false, Option, Some, None}
 use Rattle.futures.specs.declared.task.Poll.{Poll}
 use Rattle.futures.specs.declared.task.Poll.TheVariants.{Ready, Pending}
 
@@ -16,3 +16,13 @@ is_ready Pending = false
 abbrev pub unused_after : {A W : Type 0} → Poll A → W → Option W
 unused_after (Ready x) waker = Some waker
 unused_after Pending waker = None
+
+-- Whether a poll would be ready: it would be if this is true, and else it would wait, whatever its waker is.
+abbrev pub WouldBeReady : {A S W : Type 0} → (W → Poll A → S → Type 0) → Bool → Type 0
+WouldBeReady {A} {S} {W} polls is_ready_now =
+    (waker : W) (answer : Poll A) (new : S) → polls waker answer new → is_ready answer ≡ is_ready_now
+
+-- A cancel where the future lives, which leaves the waker that it had; else nothing changes, and nothing is left.
+abbrev pub LeavesWhere : {S W : Type 0} → Bool → Type 0 → Option W → S → Option W → S → Type 0
+LeavesWhere true cancels had old left new = cancels × (left ≡ had)
+LeavesWhere false cancels had old left new = (new ≡ old) × (left ≡ None)

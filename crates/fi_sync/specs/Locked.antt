@@ -12,7 +12,7 @@ holds_if true = 0
 holds_if false = 1
 
 -- What a future that locks a mutex answers: it stays pending where it has ended. Else it answers as its mutex did in some hold of the
--- lock, where it was polled under the future's own name, or that it has no memory where no waker could be made.
+-- lock, where it was polled under the future's own name, or that it has no memory where it had to wait and no waker could be made.
 abbrev pub IsLockAnswer : {T : Type 0} → Option ℕ → Bool → Bool → Poll (Result T Fault) → Type 0
 IsLockAnswer {T} own has_ended lacks_waker answer =
-    IsAnswer (PollsAt can_be_polled (Polls {T = T} {W = Waker})) (Err Fault.NoMemory) own has_ended lacks_waker answer
+    IsAnswer (PollsAt can_be_polled (Polls {T = T} {W = Option Waker})) (Err Fault.NoMemory) own has_ended lacks_waker answer

@@ -35,8 +35,8 @@ abbrev pub streamed : {A : Type 0} → SharedFuture → Poll (Option A) → Shar
 streamed stream answer = record stream { has_ended = stream.has_ended || is_end answer }
 
 -- A stream that has ended answers its end. Another answers as its channel did in some hold of the lock, where it was polled under the
--- stream's own name, or that it has no memory where no waker could be made.
-abbrev pub IsStreamAnswer : {S T W : Type 0} → (S → ℕ → W → Poll (Option (Result T Fault)) → S → Type 0)
+-- stream's own name, or that it has no memory where it had to wait and no waker could be made.
+abbrev pub IsStreamAnswer : {S T W : Type 0} → (S → ℕ → Option W → Poll (Option (Result T Fault)) → S → Type 0)
     → Option ℕ → Bool → Bool → Poll (Option (Result T Fault)) → Type 0
 IsStreamAnswer polls own true lacks_waker answer = answer ≡ Ready None
 IsStreamAnswer polls own false lacks_waker answer = IsAnswer polls (Some (Err Fault.NoMemory)) own false lacks_waker answer

@@ -1,9 +1,11 @@
 -- What a contract sees of a future of a primitive that threads share.
 use Rattle.std.specs.Prelude.{◌≡◌, ◌⊎◌, ℕ, Bool, true, false, Option, Some, None, is_some, Result, Err, ◌||◌}
+use Rattle.futures.specs.Poll.{OnPending}
 use Rattle.futures.specs.declared.task.Poll.{Poll}
 use Rattle.futures.specs.declared.task.Poll.TheVariants.{Ready, Pending}
 use Rattle.fi_channels.specs.Polled.{Answered, displaced_by, unused_after}
 use Rattle.fi_parts.specs.Machine.{Machine, phase_at, displaced_at}
+use Rattle.fi_parts.specs.Polled.{LeavesWhere}
 use Rattle.fi_parts.specs.declared.errors.Fault.{Fault}
 use Rattle.fi_parts.specs.declared.phase.Leftover.{Leftover}
 use Rattle.fi_parts.specs.declared.phase.Phase.{Phase}
@@ -38,11 +40,6 @@ abbrev pub leftover_after : {A W : Type 0} → Poll (Result A Fault) → Option 
 leftover_after answer had waker =
     record { displaced = displaced_by answer had; unused = unused_after answer waker }
 
--- A cancel is the state's where the future lives, and leaves this; else nothing changes and nothing is left.
-abbrev pub CancelsWhere : {S L : Type 0} → Bool → Type 0 → Option L → S → Option L → S → Type 0
-CancelsWhere true cancels had old left new = cancels × (left ≡ had)
-CancelsWhere false cancels had old left new = (new ≡ old) × (left ≡ None)
-
 module _ {S D W : Type 0} where
   -- A poll of a machine's future: the machine's, which refuses none, where one can be polled under this name; else it is refused.
   abbrev pub PollsAt : {A : Type 0} → (Option (Phase W) → Bool) → (Machine S D W → ℕ → W → Poll A → Machine S D W → Type 0)
@@ -57,7 +54,7 @@ module _ {S D W : Type 0} where
   -- A cancel of a machine's future: the machine's, and leaves its waker, where one lives under this name; else nothing changes.
   abbrev pub CancelsAt : (Machine S D W → ℕ → Machine S D W → Type 0) → Machine S D W → ℕ → Option W → Machine S D W → Type 0
   CancelsAt cancels old name left new =
-      CancelsWhere (is_some (phase_at old name)) (cancels old name new) (displaced_at old name) old left new
+      LeavesWhere (is_some (phase_at old name)) (cancels old name new) (displaced_at old name) old left new
 
 -- A cancel under this name, in some hold of the lock, left this.
 abbrev pub IsLeft : {S L : Type 0} → (S → ℕ → L → S → Type 0) → ℕ → L → Type 0
@@ -67,10 +64,15 @@ IsLeft {S} cancels name left = (old : S) × (new : S) × cancels old name left n
 abbrev pub IsLeftBy : {S L : Type 0} → (S → ℕ → L → S → Type 0) → Option ℕ → L → Type 0
 IsLeftBy cancels own left = (name : ℕ) × (own ≡ Some name) × IsLeft cancels name left
 
+-- A poll under this name gave this answer and led from old to new. If it waits, it has a waker.
+abbrev pub IsPolled : {S W A : Type 0} → (S → ℕ → Option W → Poll A → S → Type 0) → ℕ → Poll A → S → S → Type 0
+IsPolled {S} {W} polls name answer old new =
+    (waker : Option W) × polls old name waker answer new × OnPending answer (is_some waker ≡ true)
+
 -- A future that has ended stays pending. Another answers as its state did in some hold of the lock, where it was polled under the
--- future's own name, or that it has no memory where no waker could be made.
-abbrev pub IsAnswer : {S W A : Type 0} → (S → ℕ → W → Poll A → S → Type 0) → A → Option ℕ → Bool → Bool → Poll A → Type 0
+-- future's own name, or that it has no memory where it had to wait and no waker could be made.
+abbrev pub IsAnswer : {S W A : Type 0} → (S → ℕ → Option W → Poll A → S → Type 0) → A → Option ℕ → Bool → Bool → Poll A → Type 0
 IsAnswer polls no_memory own true lacks_waker answer = answer ≡ Pending
 IsAnswer {S} {W} polls no_memory own false lacks_waker answer =
     ((lacks_waker ≡ true) × (answer ≡ Ready no_memory))
-    ⊎ ((old : S) × (name : ℕ) × (waker : W) × (new : S) × (own ≡ Some name) × polls old name waker answer new)
+    ⊎ ((old : S) × (name : ℕ) × (new : S) × (own ≡ Some name) × IsPolled polls name answer old new)

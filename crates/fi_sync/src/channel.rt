@@ -10,11 +10,10 @@ use crate::monitor::Monitor;
 use crate::receive_future::ChannelReceiveFuture;
 use crate::send_future::ChannelSendFuture;
 use crate::slot_future::SlotFuture;
-use crate::wakes::HasOutbox;
+use crate::wakes::{HasOutbox, PollWaker};
 use fi_channels::{ChannelState, TryReceiveError, TrySendError};
 use fi_parts::buffer::{ArrayBuf, RingBuf};
 use fi_parts::{CloseStatus, Fault, NoRoom};
-use futures::task::Waker;
 use std::alloc::Global;
 use std::marker::Model;
 use std::sync::Wait;
@@ -25,7 +24,7 @@ use std::sync::Wait;
 /// Each call but the makings of the channel takes the lock. Keeps `GenericChannel` of futures-intrusive's `channel`.
 #[derive(Drop)]
 pub struct GenericChannel<T: Drop, B: RingBuf<Item = T>, R> {
-    monitor: Monitor<ChannelState<T, B, Waker>, R>,
+    monitor: Monitor<ChannelState<T, B, PollWaker>, R>,
 }
 
 /// A channel over an array of `N` values. Keeps `Channel` of futures-intrusive's `channel`.
@@ -116,7 +115,7 @@ impl<T: Drop, B: RingBuf<Item = T>, R: Wait> GenericChannel<T, B, R> {
     pub fn send(
         &self,
         value: T,
-    ) -> Result<ChannelSendFuture<'_, ChannelState<T, B, Waker>, R>, NoRoom<T>>
+    ) -> Result<ChannelSendFuture<'_, ChannelState<T, B, PollWaker>, R>, NoRoom<T>>
         ensures made { IfOk result (λ future. IsNew self.now future) }
         ensures handed_back { IfErr result (λ failed. failed.0 ≡ value) }
     {
@@ -126,7 +125,9 @@ impl<T: Drop, B: RingBuf<Item = T>, R: Wait> GenericChannel<T, B, R> {
 
     /// A future that receives one value, or None once the channel is closed and empty. Refused only with `NoMemory`; then
     /// nothing has changed. Keeps `GenericChannel::receive`.
-    pub fn receive(&self) -> Result<ChannelReceiveFuture<'_, ChannelState<T, B, Waker>, R>, Fault>
+    pub fn receive(
+        &self,
+    ) -> Result<ChannelReceiveFuture<'_, ChannelState<T, B, PollWaker>, R>, Fault>
         ensures made { IfOk result (λ future. IsNew self.now future) }
         ensures fault { IfErr result (λ fault. fault ≡ Fault.NoMemory) }
     {
@@ -166,7 +167,7 @@ impl<T: Drop, B: RingBuf<Item = T>, R: Blocking> GenericChannel<T, B, R> {
     }
 }
 
-impl<T: Drop, B: RingBuf<Item = T>> HasOutbox for ChannelState<T, B, Waker> {
+impl<T: Drop, B: RingBuf<Item = T>> HasOutbox for ChannelState<T, B, PollWaker> {
     ghost use Rattle.fi_channels.specs.Channel.{Wakes};
     ghost use Rattle.fi_sync.specs.Wakes.{wakers_in};
 
@@ -174,7 +175,7 @@ impl<T: Drop, B: RingBuf<Item = T>> HasOutbox for ChannelState<T, B, Waker> {
 
     ghost wakes = { Wakes };
 
-    fn next_wake(&mut self) -> Option<Waker>
+    fn next_wake(&mut self) -> Option<PollWaker>
         ensures { Wakes self.old result self.new }
     {
         ChannelState::next_wake(self)

@@ -1,20 +1,21 @@
 //! Streams of the channels that threads share.
-ghost use Rattle.std.specs.Prelude.{◌≡◌, Some, Err, false, is_some};
+ghost use Rattle.std.specs.Prelude.{◌≡◌, Option, Some, Err, false, is_some};
 ghost use Rattle.futures.specs.Poll.{OnPending};
 ghost use Rattle.futures.specs.Task.{Covers, Keeps};
 ghost use Rattle.futures.specs.declared.task.waker.Waker.{Waker};
 ghost use Rattle.fi_channels.specs.Channel.{receive_phase, CancelsReceive, displaced_receive};
+ghost use Rattle.fi_parts.specs.Polled.{LeavesWhere};
 ghost use Rattle.fi_parts.specs.declared.errors.Fault.{Fault};
 ghost use Rattle.fi_sync.specs.Streams.{PollsStream, IsStreamAnswer, leftover_of_next, streamed};
-ghost use Rattle.fi_sync.specs.Waiting.{CancelsWhere};
 
 use crate::claim::{Cancel, Claim};
 use crate::monitor::Monitor;
-use crate::slot_future::{PollOutput, PollSlot, SlotFuture};
+use crate::slot_future::{PollOutput, PollSlot, SlotFuture, SlotPolled};
+use crate::wakes::PollWaker;
 use fi_channels::{ChannelReceiveAccess, ChannelState};
 use fi_parts::buffer::RingBuf;
 use fi_parts::{Fault, Leftover, Slot};
-use futures::task::{Context, Poll, Waker};
+use futures::task::{Context, Poll};
 use futures::{Future, Stream};
 use std::marker::Model;
 use std::sync::Wait;
@@ -24,11 +25,11 @@ pub struct ChannelStreaming;
 
 /// The values of a channel, one after another, until it is closed and empty; then it answers its end, again and again.
 ///
-/// An item is `Err(NoMemory)` where the poll could make no waker; the stream goes on after it. Keeps `ChannelStream` of
+/// An item is `Err(NoMemory)` where the poll had to wait and could make no waker; the stream goes on after it. Keeps `ChannelStream` of
 /// futures-intrusive's `channel`.
 #[derive(Drop)]
 pub struct ChannelStream<'a, T: Drop, B: RingBuf<Item = T>, R: Wait> {
-    future: SlotFuture<&'a Monitor<ChannelState<T, B, Waker>, R>, ChannelStreaming>,
+    future: SlotFuture<&'a Monitor<ChannelState<T, B, PollWaker>, R>, ChannelStreaming>,
     is_ended: bool,
 }
 
@@ -46,7 +47,7 @@ impl<'a, T: Drop, B: RingBuf<Item = T>, R: Wait> Model for ChannelStream<'a, T, 
 
 impl<'a, T: Drop, B: RingBuf<Item = T>, R: Wait> ChannelStream<'a, T, B, R> {
     pub(crate) fn new(
-        monitor: &'a Monitor<ChannelState<T, B, Waker>, R>,
+        monitor: &'a Monitor<ChannelState<T, B, PollWaker>, R>,
         claim: Claim<ChannelStreaming>,
     ) -> Self
         ensures { result ≡ record { source = monitor.now; name = Some claim; has_ended = false } }
@@ -62,7 +63,7 @@ impl<'a, T: Drop, B: RingBuf<Item = T>, R: Wait> ChannelStream<'a, T, B, R> {
         ensures registered { OnPending result (Covers cx.new (λ source. source ≡ self.new.source)) }
         ensures kept { Keeps cx.old cx.new }
         ensures stands { self.new ≡ streamed self.old result }
-        ensures answered { IsStreamAnswer (PollsStream {T = T} {W = Waker}) self.old.name self.old.has_ended
+        ensures answered { IsStreamAnswer (PollsStream {T = T} {W = Option Waker}) self.old.name self.old.has_ended
             cx.new.lacks_waker result }
     {
         if self.is_ended {
@@ -108,37 +109,37 @@ impl<T> PollOutput for Option<Result<T, Fault>> {
     }
 }
 
-impl<T: Drop, B: RingBuf<Item = T>> PollSlot<ChannelStreaming> for ChannelState<T, B, Waker> {
+impl<T: Drop, B: RingBuf<Item = T>> PollSlot<ChannelStreaming> for ChannelState<T, B, PollWaker> {
     type Output = Option<Result<T, Fault>>;
 
     ghost polls = { PollsStream };
 
     ghost leaves = { λ old name waker answer. leftover_of_next answer (displaced_receive old name) waker };
 
-    fn poll_slot(&mut self, slot: Slot, waker: Waker) -> (Poll<Self::Output>, Leftover<Waker>) {
+    fn poll_slot(&mut self, slot: Slot, waker: PollWaker) -> SlotPolled<Self::Output> {
         if !self.can_stream(slot) {
             let answer = Poll::Ready(Some(Err(Fault::NoSlot)));
-            return (answer, Leftover::of(None, Some(waker)));
+            return Some((answer, Leftover::of(None, Some(waker))));
+        }
+        if waker.is_none() && !self.next_ends_now(slot) {
+            return None;
         }
         let (answer, leftover) = self.next_or_register(slot, waker);
         match answer {
-            Poll::Ready(Some(item)) => (Poll::Ready(Some(Ok(item))), leftover),
-            Poll::Ready(None) => (Poll::Ready(None), leftover),
-            Poll::Pending => (Poll::Pending, leftover),
+            Poll::Ready(Some(item)) => Some((Poll::Ready(Some(Ok(item))), leftover)),
+            Poll::Ready(None) => Some((Poll::Ready(None), leftover)),
+            Poll::Pending => Some((Poll::Pending, leftover)),
         }
     }
 }
 
-impl<T: Drop, B: RingBuf<Item = T>> Cancel<ChannelStreaming> for ChannelState<T, B, Waker> {
-    type Left = Option<Waker>;
+impl<T: Drop, B: RingBuf<Item = T>> Cancel<ChannelStreaming> for ChannelState<T, B, PollWaker> {
+    type Left = Option<PollWaker>;
 
-    ghost cancels = { λ old name left new. CancelsWhere (is_some (receive_phase old name)) (CancelsReceive old name new)
+    ghost cancels = { λ old name left new. LeavesWhere (is_some (receive_phase old name)) (CancelsReceive old name new)
         (displaced_receive old name) old left new };
 
-    fn cancel(&mut self, slot: Slot) -> Option<Waker> {
-        if !self.has_receive(slot) {
-            return None;
-        }
-        self.remove_receive_waiter(slot)
+    fn cancel(&mut self, slot: Slot) -> Option<PollWaker> {
+        self.leave_receive(slot)
     }
 }

@@ -6,12 +6,12 @@ ghost use Rattle.fi_sync.specs.Waiting.{PollsAt, leftover_at, CancelsAt};
 ghost use Rattle.fi_sync.specs.Blanks.{IsLockBlank};
 
 use crate::claim::Cancel;
-use crate::slot_future::PollSlot;
+use crate::slot_future::{PollSlot, SlotPolled};
 use crate::tally::{Grant, Tally};
-use crate::wakes::HasOutbox;
+use crate::wakes::{HasOutbox, PollWaker};
 use fi_locks::MutexState;
 use fi_parts::{Fault, Leftover, Slot};
-use futures::task::{Poll, Waker};
+use futures::task::Poll;
 use std::alloc::Global;
 use std::marker::Model;
 use std::sync::ledger::{Blank, Ledger};
@@ -19,20 +19,22 @@ use std::sync::ledger::{Blank, Ledger};
 /// A mutex's state, beside the tally of its holds: 1 while the mutex is held and 0 while it is free.
 #[derive(Drop)]
 pub struct CountedMutex<T, L: Ledger> {
-    state: MutexState<T, Waker>,
+    state: MutexState<T, PollWaker>,
     tally: Tally<L>,
 }
 
 impl<T, L: Ledger> Model for CountedMutex<T, L> {
     ghost use Rattle.std.specs.Prelude.{◌≡◌};
+    ghost use Rattle.std.specs.Prelude.{Option};
+    ghost use Rattle.std.specs.Coded.{coded_option};
     ghost use Rattle.futures.specs.contracts.task.waker.Waker as waker;
     ghost use Rattle.futures.specs.declared.task.waker.Waker.{Waker};
     ghost use Rattle.fi_locks.specs.Mutex.{MutexMachine, mutex_code, is_free};
     ghost use Rattle.fi_sync.specs.Locked.{holds_if};
 
-    ghost Value = { MutexMachine T Waker };
+    ghost Value = { MutexMachine T (Option Waker) };
 
-    ghost coded = { mutex_code T.code waker.the_row.coded };
+    ghost coded = { mutex_code T.code (coded_option waker.the_row.coded) };
 
     ghost view = { λ counted. counted.state };
 
@@ -129,33 +131,33 @@ impl<T: Drop, L: Ledger> PollSlot<MutexLock> for CountedMutex<T, L> {
 
     ghost leaves = { leftover_at };
 
-    fn poll_slot(&mut self, slot: Slot, waker: Waker) -> (Poll<Self::Output>, Leftover<Waker>) {
+    fn poll_slot(&mut self, slot: Slot, waker: PollWaker) -> SlotPolled<Self::Output> {
         if !self.state.can_poll(slot) {
             let answer = Poll::Ready(Err(Fault::NoSlot));
-            return (answer, Leftover::of(None, Some(waker)));
+            return Some((answer, Leftover::of(None, Some(waker))));
+        }
+        if waker.is_none() && !self.state.ends_now(slot) {
+            return None;
         }
         let CountedMutex { state, tally } = self;
         let (answer, leftover) = state.try_wait(slot, waker);
         match answer {
             Poll::Ready(value) => {
                 let hold = tally.hand_out(1);
-                (Poll::Ready(Ok(Locked { value, hold })), leftover)
+                Some((Poll::Ready(Ok(Locked { value, hold })), leftover))
             }
-            Poll::Pending => (Poll::Pending, leftover),
+            Poll::Pending => Some((Poll::Pending, leftover)),
         }
     }
 }
 
 impl<T: Drop, L: Ledger> Cancel<MutexLock> for CountedMutex<T, L> {
-    type Left = Option<Waker>;
+    type Left = Option<PollWaker>;
 
     ghost cancels = { CancelsAt Cancels };
 
-    fn cancel(&mut self, slot: Slot) -> Option<Waker> {
-        if !self.state.is_live(slot) {
-            return None;
-        }
-        self.state.remove_waiter(slot)
+    fn cancel(&mut self, slot: Slot) -> Option<PollWaker> {
+        self.state.leave(slot)
     }
 }
 
@@ -167,7 +169,7 @@ impl<T: Drop, L: Ledger> HasOutbox for CountedMutex<T, L> {
 
     ghost wakes = { Wakes };
 
-    fn next_wake(&mut self) -> Option<Waker>
+    fn next_wake(&mut self) -> Option<PollWaker>
         ensures { Wakes self.old result self.new }
     {
         self.state.next_wake()

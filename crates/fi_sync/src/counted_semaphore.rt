@@ -6,12 +6,12 @@ ghost use Rattle.fi_sync.specs.Waiting.{PollsAt, leftover_at, CancelsAt};
 ghost use Rattle.fi_sync.specs.Blanks.{IsPermitBlank};
 
 use crate::claim::Cancel;
-use crate::slot_future::PollSlot;
+use crate::slot_future::{PollSlot, SlotPolled};
 use crate::tally::{Grant, Tally};
-use crate::wakes::HasOutbox;
+use crate::wakes::{HasOutbox, PollWaker};
 use fi_locks::SemaphoreState;
 use fi_parts::{Fault, Leftover, Slot};
-use futures::task::{Poll, Waker};
+use futures::task::Poll;
 use std::alloc::Global;
 use std::marker::Model;
 use std::sync::ledger::{Blank, Ledger};
@@ -19,20 +19,22 @@ use std::sync::ledger::{Blank, Ledger};
 /// A semaphore's state, beside the tally of the permits that are held.
 #[derive(Drop)]
 pub struct CountedSemaphore<L: Ledger> {
-    state: SemaphoreState<Waker>,
+    state: SemaphoreState<PollWaker>,
     tally: Tally<L>,
 }
 
 impl<L: Ledger> Model for CountedSemaphore<L> {
     ghost use Rattle.std.specs.Prelude.{◌≡◌, ◌+◌};
+    ghost use Rattle.std.specs.Prelude.{Option};
+    ghost use Rattle.std.specs.Coded.{coded_option};
     ghost use Rattle.futures.specs.contracts.task.waker.Waker as waker;
     ghost use Rattle.futures.specs.declared.task.waker.Waker.{Waker};
     ghost use Rattle.fi_locks.specs.Semaphore.{SemaphoreMachine};
     ghost use Rattle.fi_locks.specs.SemaphoreCode.{semaphore_code};
 
-    ghost Value = { SemaphoreMachine Waker };
+    ghost Value = { SemaphoreMachine (Option Waker) };
 
-    ghost coded = { semaphore_code waker.the_row.coded };
+    ghost coded = { semaphore_code (coded_option waker.the_row.coded) };
 
     ghost view = { λ counted. counted.state };
 
@@ -128,31 +130,34 @@ impl<L: Ledger> PollSlot<SemaphoreAcquire> for CountedSemaphore<L> {
 
     ghost leaves = { leftover_at };
 
-    fn poll_slot(&mut self, slot: Slot, waker: Waker) -> (Poll<Self::Output>, Leftover<Waker>) {
+    fn poll_slot(&mut self, slot: Slot, waker: PollWaker) -> SlotPolled<Self::Output> {
         if !self.state.can_poll(slot) {
             let answer = Poll::Ready(Err(Fault::NoSlot));
-            return (answer, Leftover::of(None, Some(waker)));
+            return Some((answer, Leftover::of(None, Some(waker))));
+        }
+        if waker.is_none() && !self.state.ends_now(slot) {
+            return None;
         }
         let CountedSemaphore { state, tally } = self;
         let (answer, leftover) = state.acquire_or_register(slot, waker);
         state.show();
         match answer {
-            Poll::Ready(permits) => (Poll::Ready(Ok(tally.hand_out(permits))), leftover),
-            Poll::Pending => (Poll::Pending, leftover),
+            Poll::Ready(permits) => {
+                let grant = tally.hand_out(permits);
+                Some((Poll::Ready(Ok(grant)), leftover))
+            }
+            Poll::Pending => Some((Poll::Pending, leftover)),
         }
     }
 }
 
 impl<L: Ledger> Cancel<SemaphoreAcquire> for CountedSemaphore<L> {
-    type Left = Option<Waker>;
+    type Left = Option<PollWaker>;
 
     ghost cancels = { CancelsAt Cancels };
 
-    fn cancel(&mut self, slot: Slot) -> Option<Waker> {
-        if !self.state.is_live(slot) {
-            return None;
-        }
-        self.state.remove_waiter(slot)
+    fn cancel(&mut self, slot: Slot) -> Option<PollWaker> {
+        self.state.leave(slot)
     }
 }
 
@@ -164,7 +169,7 @@ impl<L: Ledger> HasOutbox for CountedSemaphore<L> {
 
     ghost wakes = { Wakes };
 
-    fn next_wake(&mut self) -> Option<Waker>
+    fn next_wake(&mut self) -> Option<PollWaker>
         ensures { Wakes self.old result self.new }
     {
         self.state.next_wake()

@@ -7,10 +7,9 @@ use crate::blocking::{Blocking, wait_for};
 use crate::event_future::WaitForEventFuture;
 use crate::monitor::Monitor;
 use crate::slot_future::SlotFuture;
-use crate::wakes::HasOutbox;
+use crate::wakes::{HasOutbox, PollWaker};
 use fi_channels::EventState;
 use fi_parts::Fault;
-use futures::task::Waker;
 use std::alloc::Global;
 use std::marker::Model;
 use std::sync::Wait;
@@ -20,7 +19,7 @@ use std::sync::Wait;
 /// Each call but `new` takes the lock. Keeps `ManualResetEvent` of futures-intrusive's `sync`.
 #[derive(Drop)]
 pub struct ManualResetEvent<R> {
-    pub(crate) monitor: Monitor<EventState<Waker>, R>,
+    pub(crate) monitor: Monitor<EventState<PollWaker>, R>,
 }
 
 impl<R> Model for ManualResetEvent<R> {
@@ -78,7 +77,7 @@ impl<R: Blocking> ManualResetEvent<R> {
     }
 }
 
-impl HasOutbox for EventState<Waker> {
+impl HasOutbox for EventState<PollWaker> {
     ghost use Rattle.fi_channels.specs.Event.{Wakes};
     ghost use Rattle.fi_parts.specs.Pairs.{wakers_of};
 
@@ -86,7 +85,7 @@ impl HasOutbox for EventState<Waker> {
 
     ghost wakes = { Wakes };
 
-    fn next_wake(&mut self) -> Option<Waker>
+    fn next_wake(&mut self) -> Option<PollWaker>
         ensures { Wakes self.old result self.new }
     {
         EventState::next_wake(self)

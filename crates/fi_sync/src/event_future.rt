@@ -4,10 +4,11 @@ ghost use Rattle.fi_sync.specs.Waiting.{PollsAt, leftover_at, CancelsAt};
 
 use crate::claim::Cancel;
 use crate::monitor::Monitor;
-use crate::slot_future::{PollSlot, SlotFuture};
+use crate::slot_future::{PollSlot, SlotFuture, SlotPolled};
+use crate::wakes::PollWaker;
 use fi_channels::EventState;
 use fi_parts::{Fault, Leftover, Slot};
-use futures::task::{Poll, Waker};
+use futures::task::Poll;
 
 /// The kind of an event's futures.
 pub struct EventWait;
@@ -16,36 +17,36 @@ pub struct EventWait;
 ///
 /// Its output is Ok once the event was set since its first poll, and refused as every `SlotFuture`'s. Keeps `WaitForEventFuture` of
 /// futures-intrusive's `sync`.
-pub type WaitForEventFuture<'a, R> = SlotFuture<&'a Monitor<EventState<Waker>, R>, EventWait>;
+pub type WaitForEventFuture<'a, R> = SlotFuture<&'a Monitor<EventState<PollWaker>, R>, EventWait>;
 
-impl PollSlot<EventWait> for EventState<Waker> {
+impl PollSlot<EventWait> for EventState<PollWaker> {
     type Output = Result<(), Fault>;
 
     ghost polls = { PollsAt can_be_polled Polls };
 
     ghost leaves = { leftover_at };
 
-    fn poll_slot(&mut self, slot: Slot, waker: Waker) -> (Poll<Self::Output>, Leftover<Waker>) {
+    fn poll_slot(&mut self, slot: Slot, waker: PollWaker) -> SlotPolled<Self::Output> {
         if !self.can_poll(slot) {
             let answer = Poll::Ready(Err(Fault::NoSlot));
-            return (answer, Leftover::of(None, Some(waker)));
+            return Some((answer, Leftover::of(None, Some(waker))));
+        }
+        if waker.is_none() && !self.ends_now(slot) {
+            return None;
         }
         match self.try_wait(slot, waker) {
-            (Poll::Ready(()), leftover) => (Poll::Ready(Ok(())), leftover),
-            (Poll::Pending, leftover) => (Poll::Pending, leftover),
+            (Poll::Ready(()), leftover) => Some((Poll::Ready(Ok(())), leftover)),
+            (Poll::Pending, leftover) => Some((Poll::Pending, leftover)),
         }
     }
 }
 
-impl Cancel<EventWait> for EventState<Waker> {
-    type Left = Option<Waker>;
+impl Cancel<EventWait> for EventState<PollWaker> {
+    type Left = Option<PollWaker>;
 
     ghost cancels = { CancelsAt Cancels };
 
-    fn cancel(&mut self, slot: Slot) -> Option<Waker> {
-        if !self.is_live(slot) {
-            return None;
-        }
-        self.remove_waiter(slot)
+    fn cancel(&mut self, slot: Slot) -> Option<PollWaker> {
+        self.leave(slot)
     }
 }

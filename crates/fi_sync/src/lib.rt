@@ -52,9 +52,9 @@ pub use send_future::{ChannelSend, ChannelSendFuture};
 pub use shared_semaphore::{
     SharedSemaphore, SharedSemaphoreAcquireFuture, SharedSemaphoreReleaser,
 };
-pub use slot_future::{PollOutput, PollSlot, SlotFuture};
+pub use slot_future::{PollOutput, PollSlot, SlotFuture, SlotPolled};
 pub use state_broadcast::{StateBroadcastChannel, StateReceiveFuture};
 pub use tally::{Grant, Tally};
 pub use timed::{Timed, TimerWait};
 pub use timer::{TimerFuture, TimerService};
-pub use wakes::{Guarded, HasOutbox, Owed};
+pub use wakes::{Guarded, HasOutbox, Owed, PollWaker};

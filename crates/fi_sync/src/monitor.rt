@@ -1,14 +1,16 @@
 //! A state whose calls are made one at a time, each in one hold of a lock.
-ghost use Rattle.std.specs.Prelude.{◌≡◌, ℕ, Ok, Err, IfOk, IfErr};
+ghost use Rattle.std.specs.Prelude.{◌≡◌, ℕ, true, Ok, Err, IfOk, IfErr, IfSome, IfNone};
 ghost use Rattle.std.specs.Borrow.{MutBor};
+ghost use Rattle.futures.specs.Poll.{OnPending};
+ghost use Rattle.futures.specs.Task.{Covers, Keeps};
 ghost use Rattle.fi_parts.specs.declared.errors.Slot.{Slot};
-ghost use Rattle.fi_sync.specs.Waiting.{IsLeft};
+ghost use Rattle.fi_sync.specs.Waiting.{IsLeft, IsPolled};
 
 use crate::claim::{Cancel, Claim};
-use crate::slot_future::PollSlot;
+use crate::slot_future::{PollSlot, SlotPolled};
 use crate::wakes::{Guarded, HasOutbox};
-use fi_parts::{Leftover, Slot};
-use futures::task::{Poll, Source, Waker};
+use fi_parts::Slot;
+use futures::task::{Context, Source, Waker};
 use std::alloc::Global;
 use std::marker::Model;
 use std::sync::{Arc, Wait};
@@ -83,15 +85,24 @@ impl<S: HasOutbox, R: Wait> Monitor<S, R> {
         }
     }
 
-    /// Polls the future that has this claim, as `call` makes a call.
-    pub fn poll<K>(&self, claim: &Claim<K>, waker: Waker) -> (Poll<S::Output>, Leftover<Waker>)
+    /// Polls the future that has this claim, as `call` makes a call. A spare waker is used up if the poll waits, or comes back as
+    /// unused. None if the poll has to wait and no waker can be made; then nothing has changed.
+    pub fn poll<K>(
+        &self,
+        claim: &Claim<K>,
+        cx: &mut Context<'_>,
+        spare: &mut Option<Waker>,
+    ) -> SlotPolled<S::Output>
     where
         S: PollSlot<K>,
-        ensures { (old : S) × (new : S) × S.polls old claim.now waker result.0 new }
+        ensures polled { IfSome result (λ polled. (old : S) × (new : S) × IsPolled S.polls claim.now polled.0 old new) }
+        ensures registered { IfSome result (λ polled. OnPending polled.0 (Covers cx.new (λ s. s ≡ self.now))) }
+        ensures lacks { IfNone result (cx.new.lacks_waker ≡ true) }
+        ensures kept { Keeps cx.old cx.new }
     {
-        let (answer, leftover, owed) = self.state.poll(&self.rt, claim, waker);
+        let (polled, owed) = self.state.poll(&self.rt, claim, cx, &self.source, spare);
         owed.pay(&self.rt);
-        (answer, leftover)
+        polled
     }
 
     /// Cancels the future that has this claim, as `call` makes a call, and answers what it leaves.

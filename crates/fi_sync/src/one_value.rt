@@ -7,10 +7,9 @@ use crate::blocking::{Blocking, wait_for};
 use crate::monitor::Monitor;
 use crate::receive_future::ChannelReceiveFuture;
 use crate::slot_future::SlotFuture;
-use crate::wakes::HasOutbox;
+use crate::wakes::{HasOutbox, PollWaker};
 use fi_channels::{ClonesValue, GivesValue, OneValueState, TakesValue};
 use fi_parts::{ChannelSendError, CloseStatus, Fault};
-use futures::task::Waker;
 use std::alloc::Global;
 use std::marker::Model;
 use std::sync::Wait;
@@ -20,7 +19,7 @@ use std::sync::Wait;
 /// Each call but `new` takes the lock.
 #[derive(Drop)]
 pub struct OneValueChannel<T: Drop, G: GivesValue<T>, R> {
-    monitor: Monitor<OneValueState<T, Waker, G>, R>,
+    monitor: Monitor<OneValueState<T, PollWaker, G>, R>,
 }
 
 /// A channel that takes one value and hands it to the first receive that comes for it. Keeps `OneshotChannel` of
@@ -70,7 +69,9 @@ impl<T: Drop, G: GivesValue<T>, R: Wait> OneValueChannel<T, G, R> {
 
     /// A future that receives the value, or None if none will come: the channel was closed without one, or (of a oneshot)
     /// another receive took it. Refused only with `NoMemory`; then nothing has changed. Keeps `OneshotChannel::receive`.
-    pub fn receive(&self) -> Result<ChannelReceiveFuture<'_, OneValueState<T, Waker, G>, R>, Fault>
+    pub fn receive(
+        &self,
+    ) -> Result<ChannelReceiveFuture<'_, OneValueState<T, PollWaker, G>, R>, Fault>
         ensures made { IfOk result (λ future. IsNew self.now future) }
         ensures fault { IfErr result (λ fault. fault ≡ Fault.NoMemory) }
     {
@@ -90,7 +91,7 @@ impl<T: Drop, G: GivesValue<T>, R: Blocking> OneValueChannel<T, G, R> {
     }
 }
 
-impl<T: Drop, G: GivesValue<T>> HasOutbox for OneValueState<T, Waker, G> {
+impl<T: Drop, G: GivesValue<T>> HasOutbox for OneValueState<T, PollWaker, G> {
     ghost use Rattle.fi_channels.specs.Oneshot.{Wakes};
     ghost use Rattle.fi_parts.specs.Pairs.{wakers_of};
 
@@ -98,7 +99,7 @@ impl<T: Drop, G: GivesValue<T>> HasOutbox for OneValueState<T, Waker, G> {
 
     ghost wakes = { Wakes };
 
-    fn next_wake(&mut self) -> Option<Waker>
+    fn next_wake(&mut self) -> Option<PollWaker>
         ensures { Wakes self.old result self.new }
     {
         OneValueState::next_wake(self)

@@ -1,14 +1,16 @@
 //! Receives from the channels that threads share.
 ghost use Rattle.std.specs.Prelude.{Err};
+ghost use Rattle.fi_parts.specs.Polled.{LeavesWhere};
 ghost use Rattle.fi_parts.specs.declared.errors.Fault.{Fault};
-ghost use Rattle.fi_sync.specs.Waiting.{PollsWhere, leftover_after, CancelsWhere};
+ghost use Rattle.fi_sync.specs.Waiting.{PollsWhere, leftover_after};
 
 use crate::claim::Cancel;
 use crate::monitor::Monitor;
-use crate::slot_future::{PollSlot, SlotFuture};
+use crate::slot_future::{PollSlot, SlotFuture, SlotPolled};
+use crate::wakes::PollWaker;
 use fi_channels::ChannelReceiveAccess;
 use fi_parts::{Fault, Leftover, Slot};
-use futures::task::{Poll, Waker};
+use futures::task::Poll;
 
 /// The kind of a channel's receives.
 pub struct ChannelReceive;
@@ -20,7 +22,7 @@ pub struct ChannelReceive;
 /// futures-intrusive's `channel`.
 pub type ChannelReceiveFuture<'a, C, R> = SlotFuture<&'a Monitor<C, R>, ChannelReceive>;
 
-impl<C: ChannelReceiveAccess<Waker = Waker>> PollSlot<ChannelReceive> for C {
+impl<C: ChannelReceiveAccess<Waker = PollWaker>> PollSlot<ChannelReceive> for C {
     type Output = Result<Option<C::Item>, Fault>;
 
     ghost polls = { λ old name waker answer new. PollsWhere (C.is_pollable old name) (C.receives old name waker)
@@ -28,25 +30,25 @@ impl<C: ChannelReceiveAccess<Waker = Waker>> PollSlot<ChannelReceive> for C {
 
     ghost leaves = { λ old name waker answer. leftover_after answer (C.waker_of old name) waker };
 
-    fn poll_slot(&mut self, slot: Slot, waker: Waker) -> (Poll<Self::Output>, Leftover<Waker>) {
+    fn poll_slot(&mut self, slot: Slot, waker: PollWaker) -> SlotPolled<Self::Output> {
         if !self.can_receive(slot) {
             let answer = Poll::Ready(Err(Fault::NoSlot));
-            return (answer, Leftover::of(None, Some(waker)));
+            return Some((answer, Leftover::of(None, Some(waker))));
         }
-        self.receive_or_register(slot, waker)
+        if waker.is_none() && !self.receive_ends_now(slot) {
+            return None;
+        }
+        Some(self.receive_or_register(slot, waker))
     }
 }
 
-impl<C: ChannelReceiveAccess<Waker = Waker>> Cancel<ChannelReceive> for C {
-    type Left = Option<Waker>;
+impl<C: ChannelReceiveAccess<Waker = PollWaker>> Cancel<ChannelReceive> for C {
+    type Left = Option<PollWaker>;
 
-    ghost cancels = { λ old name left new. CancelsWhere (C.is_receiving old name) (C.cancels old name new)
+    ghost cancels = { λ old name left new. LeavesWhere (C.is_receiving old name) (C.cancels old name new)
         (C.waker_of old name) old left new };
 
-    fn cancel(&mut self, slot: Slot) -> Option<Waker> {
-        if !self.has_receive(slot) {
-            return None;
-        }
-        self.remove_receive_waiter(slot)
+    fn cancel(&mut self, slot: Slot) -> Option<PollWaker> {
+        self.leave_receive(slot)
     }
 }

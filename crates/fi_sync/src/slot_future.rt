@@ -1,5 +1,5 @@
 //! The future of every primitive that threads share.
-ghost use Rattle.std.specs.Prelude.{◌≡◌, ℕ, Bool, Err, Some, None, true, false, IfSome, is_ok, is_some};
+ghost use Rattle.std.specs.Prelude.{◌≡◌, ℕ, Bool, Option, Err, Some, None, true, false, IfSome, IfNone, is_ok, is_some};
 ghost use Rattle.futures.specs.declared.task.Poll.{Poll};
 ghost use Rattle.futures.specs.declared.task.waker.Waker.{Waker};
 ghost use Rattle.futures.specs.Poll.{OnPending};
@@ -10,6 +10,7 @@ ghost use Rattle.fi_sync.specs.Waiting.{polled, IsAnswer, IsLeftBy};
 
 use crate::claim::{Cancel, Claim};
 use crate::monitor::HasMonitor;
+use crate::wakes::PollWaker;
 use fi_parts::{Fault, Leftover, Slot};
 use futures::Future;
 use futures::task::{Context, Poll, Waker};
@@ -47,29 +48,37 @@ impl<T> PollOutput for Result<T, Fault> {
     }
 }
 
+/// What a poll under a slot answers, and the wakers of no more use. None where it would have to wait and has no waker.
+pub type SlotPolled<A> = Option<(Poll<A>, Leftover<PollWaker>)>;
+
 /// A state whose futures of the kind `K` are polled under their slots.
 pub trait PollSlot<K>: Cancel<K> {
     /// What a poll gives that is ready.
     type Output: PollOutput;
 
-    /// A poll under this name with this waker may answer this and go on from old to new.
-    ghost polls: { Self → ℕ → Waker → Poll Self.Output → Self → Type 0 };
+    /// A poll under this name with this waker, or without one, may answer this and go on from old to new.
+    ghost polls: { Self → ℕ → Option Waker → Poll Self.Output → Self → Type 0 };
 
     /// The wakers of no more use after such a poll.
-    ghost leaves: { Self → ℕ → Waker → Poll Self.Output → Leftover Waker };
+    ghost leaves: { Self → ℕ → Option Waker → Poll Self.Output → Leftover (Option Waker) };
 
     /// Polls the future of this kind under this slot. It is refused with `NoSlot` where none lives there that can be polled; then
     /// the waker comes back and nothing has changed.
-    fn poll_slot(&mut self, slot: Slot, waker: Waker) -> (Poll<Self::Output>, Leftover<Waker>)
-        ensures polled { polls self.old slot.0 waker result.0 self.new }
-        ensures leftover { result.1 ≡ leaves self.old slot.0 waker result.0 };
+    ///
+    /// None where it would have to wait and was given no waker; then nothing has changed.
+    fn poll_slot(&mut self, slot: Slot, waker: PollWaker) -> SlotPolled<Self::Output>
+        ensures polled { IfSome result (λ polled. polls self.old slot.0 waker polled.0 self.new) }
+        ensures leftover { IfSome result (λ polled. polled.1 ≡ leaves self.old slot.0 waker polled.0) }
+        ensures waits { IfSome result (λ polled. OnPending polled.0 (is_some waker ≡ true)) }
+        ensures lacks { IfNone result ((waker ≡ None) × (self.new ≡ self.old)) };
 }
 
 /// A future of the kind `K` of a primitive that threads share, which it reaches by a reference or an `Arc`. Its drop cancels it.
 ///
-/// A poll that can make no waker is refused with `NoMemory`: the future and its primitive are then as they were, and it may be
-/// polled again. Where it can make none and still has another task's from a poll before, that one is registered instead, and
-/// this task is polled again. A future that has ended, or was cancelled, stays pending and changes nothing.
+/// A poll that is ready makes no waker. One that has to wait and can make none is refused with `NoMemory`: the future and its
+/// primitive are then as they were, and it may be polled again. Where it can make none and still has another task's from a poll
+/// before, that one is registered instead, and this task is polled again. A future that has ended, or was cancelled, stays pending
+/// and changes nothing.
 pub struct SlotFuture<M: HasMonitor, K>
 where
     M::State: PollSlot<K>,
@@ -150,18 +159,17 @@ where
             cx.new.lacks_waker result }
     {
         let monitor = self.monitor.monitor();
-        let _: Poll<()> = cx.register(monitor.source(), &mut self.spare);
-        if self.is_ended {
-            return Poll::Pending;
-        }
-        let Some(claim) = &self.claim else {
-            return Poll::Pending;
+        let claim = match &self.claim {
+            Some(claim) if !self.is_ended => claim,
+            _ => return cx.register(monitor.source(), &mut self.spare),
         };
-        let Some(waker) = self.spare.take() else {
+        let Some((answer, leftover)) = monitor.poll(claim, cx, &mut self.spare) else {
             return Poll::Ready(<M::State as PollSlot<K>>::Output::refused(Fault::NoMemory));
         };
-        let (answer, leftover) = monitor.poll(claim, waker);
-        self.spare = leftover.displaced.or(leftover.unused);
+        let back = leftover.displaced.flatten().or(leftover.unused.flatten());
+        if back.is_some() {
+            self.spare = back;
+        }
         if let Poll::Ready(output) = &answer {
             self.is_ended = output.ends();
         }

@@ -7,10 +7,9 @@ use crate::blocking::{Blocking, wait_for};
 use crate::monitor::Monitor;
 use crate::receive_future::ChannelReceiveFuture;
 use crate::slot_future::SlotFuture;
-use crate::wakes::HasOutbox;
+use crate::wakes::{HasOutbox, PollWaker};
 use fi_channels::StateBroadcastState;
 use fi_parts::{ChannelSendError, CloseStatus, Fault, StateId};
-use futures::task::Waker;
 use std::alloc::Global;
 use std::marker::Model;
 use std::sync::Wait;
@@ -20,14 +19,18 @@ use std::sync::Wait;
 /// Each call but `new` takes the lock; a clone is made under it. Keeps `StateBroadcastChannel` of futures-intrusive's `channel`.
 #[derive(Drop)]
 pub struct StateBroadcastChannel<T: Clone, R> {
-    monitor: Monitor<StateBroadcastState<T, Waker>, R>,
+    monitor: Monitor<StateBroadcastState<T, PollWaker>, R>,
 }
 
 /// Receives the newest state with its number, once that is greater than the one seen; None once the channel is closed and has no
 /// such state.
 ///
 /// Keeps `StateReceiveFuture` of futures-intrusive's `channel`.
-pub type StateReceiveFuture<'a, T, R> = ChannelReceiveFuture<'a, StateBroadcastState<T, Waker>, R>;
+pub type StateReceiveFuture<'a, T, R> = ChannelReceiveFuture<
+    'a,
+    StateBroadcastState<T, PollWaker>,
+    R,
+>;
 
 impl<T: Clone, R> Model for StateBroadcastChannel<T, R> {
     ghost use Rattle.std.specs.Prelude.{ℕ};
@@ -100,7 +103,7 @@ impl<T: Clone, R: Blocking> StateBroadcastChannel<T, R> {
     }
 }
 
-impl<T: Clone> HasOutbox for StateBroadcastState<T, Waker> {
+impl<T: Clone> HasOutbox for StateBroadcastState<T, PollWaker> {
     ghost use Rattle.fi_channels.specs.StateBroadcast.{Wakes};
     ghost use Rattle.fi_parts.specs.Pairs.{wakers_of};
 
@@ -108,7 +111,7 @@ impl<T: Clone> HasOutbox for StateBroadcastState<T, Waker> {
 
     ghost wakes = { Wakes };
 
-    fn next_wake(&mut self) -> Option<Waker>
+    fn next_wake(&mut self) -> Option<PollWaker>
         ensures { Wakes self.old result self.new }
     {
         StateBroadcastState::next_wake(self)

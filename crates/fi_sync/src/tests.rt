@@ -10,19 +10,20 @@ mod debug;
 mod drops;
 mod mutex;
 mod one_value;
+mod polls;
 mod semaphore;
 mod shared_semaphore;
 mod state_broadcast;
 mod timer;
 mod wakes;
 
-use crate::{ManualResetEvent, WaitForEventFuture};
+use crate::{ManualResetEvent, PollWaker, WaitForEventFuture};
 use fi_channels::EventState;
 use fi_parts::Fault;
 use futures::Future;
 use futures::executor::block_on;
 use futures::future::join;
-use futures::task::{Context, Doorbell, Poll, Queue, Waker};
+use futures::task::{Context, Doorbell, Poll, Queue};
 use futures::test::MockTask;
 use std::alloc::AllocGlobal;
 use std::process::Abort;
@@ -362,7 +363,7 @@ fn crosses_threads(rt: HostRuntime) {
 
 // Whenever the lock is got, the event behind it is sound and owes no wake.
 fn look<R: Wait>(event: &ManualResetEvent<R>) {
-    let look = |state: &mut EventState<Waker>, ()|
+    let look = |state: &mut EventState<PollWaker>, ()|
         ensures sound { IsSound state.old }
         ensures no_wake { OwesNoWake state.old }
     {

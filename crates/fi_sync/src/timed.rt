@@ -3,17 +3,18 @@ ghost use Rattle.std.specs.Prelude.{◌≡◌, ◌≤◌, ℕ, Err, IfOk, IfErr,
 ghost use Rattle.std.specs.Duration.{as_nanos};
 ghost use Rattle.fi_parts.specs.Machine.{phase_at, displaced_at};
 ghost use Rattle.fi_parts.specs.Deadlines.{IsNextExpiry};
+ghost use Rattle.fi_parts.specs.Polled.{LeavesWhere};
 ghost use Rattle.fi_parts.specs.declared.errors.Fault.{Fault};
 ghost use Rattle.fi_locks.specs.Timer.{opened, can_be_polled, Makes, Checks, Cancels};
 ghost use Rattle.fi_sync.specs.Timed.{DelaysTimed, PollsTimed};
-ghost use Rattle.fi_sync.specs.Waiting.{PollsWhere, leftover_after, CancelsWhere};
+ghost use Rattle.fi_sync.specs.Waiting.{PollsWhere, leftover_after};
 
 use crate::claim::Cancel;
-use crate::slot_future::PollSlot;
-use crate::wakes::HasOutbox;
+use crate::slot_future::{PollSlot, SlotPolled};
+use crate::wakes::{HasOutbox, PollWaker};
 use fi_locks::TimerState;
 use fi_parts::{Clock, Fault, Leftover, Slot};
-use futures::task::{Poll, Waker};
+use futures::task::Poll;
 use std::alloc::Global;
 use std::sync::Arc;
 use std::thread::Parker;
@@ -23,7 +24,7 @@ use std::time::Duration;
 /// one hold of the lock is used in another.
 #[derive(Drop)]
 pub struct Timed<C> {
-    timer: TimerState<Waker>,
+    timer: TimerState<PollWaker>,
     clock: C,
     runner: Option<Runner>,
 }
@@ -138,33 +139,33 @@ impl<C: Clock> PollSlot<TimerWait> for Timed<C> {
 
     ghost leaves = { λ old name waker answer. leftover_after answer (displaced_at old.timer name) waker };
 
-    fn poll_slot(&mut self, slot: Slot, waker: Waker) -> (Poll<Self::Output>, Leftover<Waker>) {
+    fn poll_slot(&mut self, slot: Slot, waker: PollWaker) -> SlotPolled<Self::Output> {
         if !self.timer.can_poll(slot) {
             let answer = Poll::Ready(Err(Fault::NoSlot));
-            return (answer, Leftover::of(None, Some(waker)));
+            return Some((answer, Leftover::of(None, Some(waker))));
         }
         let now = self.clock.now();
+        if waker.is_none() && !self.timer.ends_now(slot, now) {
+            return None;
+        }
         match self.timer.try_wait(slot, now, waker) {
-            (Poll::Ready(()), leftover) => (Poll::Ready(Ok(())), leftover),
+            (Poll::Ready(()), leftover) => Some((Poll::Ready(Ok(())), leftover)),
             (Poll::Pending, leftover) => {
                 self.rouse();
-                (Poll::Pending, leftover)
+                Some((Poll::Pending, leftover))
             }
         }
     }
 }
 
 impl<C: Clock> Cancel<TimerWait> for Timed<C> {
-    type Left = Option<Waker>;
+    type Left = Option<PollWaker>;
 
-    ghost cancels = { λ old name left new. CancelsWhere (is_some (phase_at old.timer name)) (Cancels old.timer name new.timer)
+    ghost cancels = { λ old name left new. LeavesWhere (is_some (phase_at old.timer name)) (Cancels old.timer name new.timer)
         (displaced_at old.timer name) old left new };
 
-    fn cancel(&mut self, slot: Slot) -> Option<Waker> {
-        if !self.timer.is_live(slot) {
-            return None;
-        }
-        self.timer.remove_waiter(slot)
+    fn cancel(&mut self, slot: Slot) -> Option<PollWaker> {
+        self.timer.leave(slot)
     }
 }
 
@@ -176,7 +177,7 @@ impl<C: Clock> HasOutbox for Timed<C> {
 
     ghost wakes = { λ old answer new. Wakes old.timer answer new.timer };
 
-    fn next_wake(&mut self) -> Option<Waker>
+    fn next_wake(&mut self) -> Option<PollWaker>
         ensures { Wakes self.old.timer result self.new.timer }
     {
         self.timer.next_wake()

@@ -1,26 +1,32 @@
 //! A state that is lent for one call at a time, and the duty to wake those that the call named.
-ghost use Rattle.std.specs.Prelude.{◌≡◌, List, Option, length};
+ghost use Rattle.std.specs.Prelude.{◌≡◌, true, List, Option, IfSome, IfNone, is_some, length};
 ghost use Rattle.std.specs.Borrow.{MutBor};
+ghost use Rattle.futures.specs.Poll.{OnPending};
+ghost use Rattle.futures.specs.Task.{Covers, Keeps};
 ghost use Rattle.futures.specs.declared.task.waker.Waker.{Waker};
+ghost use Rattle.fi_sync.specs.Waiting.{IsPolled};
 ghost use Rattle.fi_sync.specs.Wakes.{TakesOldest};
 
 use crate::claim::Claim;
-use crate::slot_future::PollSlot;
-use fi_parts::Leftover;
-use futures::task::{Poll, Waker};
+use crate::slot_future::{PollSlot, SlotPolled};
+use fi_parts::Slot;
+use futures::task::{Context, Poll, Source, Waker};
 use std::marker::Model;
 use std::sync::{Mutex, Wait};
+
+/// The waker of a poll. None where the poll is ready without one: only a poll that waits gets one.
+pub type PollWaker = Option<Waker>;
 
 /// A state that wakes nobody itself: its calls name whom to wake.
 pub trait HasOutbox {
     /// The wakers that are named to be woken, the oldest first.
-    ghost wakers: { Self → List Waker };
+    ghost wakers: { Self → List (Option Waker) };
 
     /// A `next_wake` that answers this leads from old to new: what it does to the whole state.
-    ghost wakes: { Self → Option Waker → Self → Type 0 };
+    ghost wakes: { Self → Option (Option Waker) → Self → Type 0 };
 
     /// Takes out the oldest waker that was named to be woken; None where none is left.
-    fn next_wake(&mut self) -> Option<Waker>
+    fn next_wake(&mut self) -> Option<PollWaker>
         ensures taken { TakesOldest (wakers self.old) result (wakers self.new) }
         ensures step { wakes self.old result self.new };
 
@@ -65,28 +71,41 @@ impl<S: HasOutbox> Guarded<S> {
     }
 
     /// Polls the future that has this claim, as `lend` makes a call. (The borrow checker doesn't cover a closure that does it.)
+    ///
+    /// A waker is made only if the poll has to wait and there is no spare one, in the same hold of the lock. If none can be made, the
+    /// answer is None and nothing has changed.
     pub fn poll<K, R: Wait>(
         &self,
         rt: &R,
         claim: &Claim<K>,
-        waker: Waker,
-    ) -> (Poll<S::Output>, Leftover<Waker>, Owed<'_, S>)
+        cx: &mut Context<'_>,
+        source: &Source,
+        spare: &mut Option<Waker>,
+    ) -> (SlotPolled<S::Output>, Owed<'_, S>)
     where
         S: PollSlot<K>,
-        ensures { (old : S) × (new : S) × S.polls old claim.now waker result.0 new × (result.2 ≡ length (S.wakers new)) }
+        ensures polled { (new : S) × (result.1 ≡ length (S.wakers new))
+            × IfSome result.0 (λ polled. (old : S) × IsPolled S.polls claim.now polled.0 old new) }
+        ensures registered { IfSome result.0 (λ polled. OnPending polled.0 (Covers cx.new (λ s. s ≡ source.now.id))) }
+        ensures lacks { IfNone result.0 (cx.new.lacks_waker ≡ true) }
+        ensures kept { Keeps cx.old cx.new }
     {
+        if spare.is_some() {
+            // It may be another task's, whose drop wakes that task: so it is exchanged before the lock is taken.
+            let _: Poll<()> = cx.register(source, spare);
+        }
         let state = &mut *self.state.lock(rt);
-        let (answer, leftover) = state.poll_slot(claim.slot(), waker);
+        let polled = poll_or_register(state, claim.slot(), cx, source, spare);
         let owed = Owed {
             state: self,
             count: state.wake_count(),
         };
-        (answer, leftover, owed)
+        (polled, owed)
     }
 
     // Takes out the oldest waker, in a hold of the lock that is over when it comes back: a waker's wake and its drop could run its
     // owner's code (the kit's do not), which may take the same lock.
-    fn take_oldest<R: Wait>(&self, rt: &R) -> Option<Waker> {
+    fn take_oldest<R: Wait>(&self, rt: &R) -> Option<PollWaker> {
         self.state.lock(rt).next_wake()
     }
 }
@@ -114,11 +133,35 @@ impl<S: HasOutbox> Owed<'_, S> {
         let Owed { state, count } = self;
         for _ in 0..count {
             match state.take_oldest(rt) {
-                Some(waker) => waker.wake(),
+                Some(Some(waker)) => waker.wake(),
+                // The pair of a poll that needed no waker.
+                Some(None) => {}
                 None => return,
             }
         }
     }
+}
+
+// Polls the future under this slot with the spare waker, or without one, and if it has to wait then, with a waker that is made now.
+fn poll_or_register<K, S: PollSlot<K>>(
+    state: &mut S,
+    slot: Slot,
+    cx: &mut Context<'_>,
+    source: &Source,
+    spare: &mut Option<Waker>,
+) -> SlotPolled<S::Output>
+    requires registered { is_some spare.old ≡ true → Covers cx.old (λ s. s ≡ source.now.id) }
+    ensures polled { IfSome result (λ polled. (old : S) × IsPolled S.polls slot.0 polled.0 old state.new) }
+    ensures registered { IfSome result (λ polled. OnPending polled.0 (Covers cx.new (λ s. s ≡ source.now.id))) }
+    ensures lacks { IfNone result (cx.new.lacks_waker ≡ true) }
+    ensures kept { Keeps cx.old cx.new }
+{
+    if let Some(polled) = state.poll_slot(slot, spare.take()) {
+        return Some(polled);
+    }
+    let _pending: Poll<()> = cx.register(source, spare);
+    let waker = spare.take()?;
+    state.poll_slot(slot, Some(waker))
 }
 
 // Makes a call on a state, and counts the wakers that are named after it.

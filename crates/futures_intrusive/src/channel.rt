@@ -26,6 +26,6 @@ pub use fi_channels::{
 pub use fi_parts::{ChannelSendError, CloseStatus, StateId};
 pub use fi_sync::{
     Channel, ChannelReceiveFuture, ChannelSendFuture, ChannelStream, GenericChannel,
-    OneValueChannel, OneshotBroadcastChannel, OneshotChannel, StateBroadcastChannel,
+    OneValueChannel, OneshotBroadcastChannel, OneshotChannel, PollWaker, StateBroadcastChannel,
     StateReceiveFuture, UnbufferedChannel,
 };

@@ -10,11 +10,10 @@ use crate::counted_ends::{
 };
 use fi_channels::{ChannelReceiveAccess, ChannelState, Clearable, TryReceiveError, TrySendError};
 use fi_parts::buffer::RingBuf;
-use fi_parts::{CloseStatus, Fault, Leftover, NoRoom, Slot};
-use fi_sync::{Cancel, ChannelStreaming, PollSlot};
-use futures::task::{Poll, Waker};
+use fi_parts::{CloseStatus, Fault, NoRoom, Slot};
+use fi_sync::{Cancel, ChannelStreaming, PollSlot, PollWaker, SlotPolled};
 
-impl<T: Drop, B: RingBuf<Item = T>> ClosesByEnds for ChannelState<T, Clearable<B>, Waker> {
+impl<T: Drop, B: RingBuf<Item = T>> ClosesByEnds for ChannelState<T, Clearable<B>, PollWaker> {
     ghost use Rattle.fi_channels.specs.Channel.{Closes};
     ghost use Rattle.fi_channels.specs.Cleared.{ClosesAndClears};
     ghost use Rattle.fi_parts.specs.declared.errors.CloseStatus.{CloseStatus};
@@ -40,11 +39,11 @@ impl<T: Drop, B: RingBuf<Item = T>> ClosesByEnds for ChannelState<T, Clearable<B
     }
 }
 
-impl<T: Drop, B: RingBuf<Item = T>> ManySenders for ChannelState<T, Clearable<B>, Waker> {}
+impl<T: Drop, B: RingBuf<Item = T>> ManySenders for ChannelState<T, Clearable<B>, PollWaker> {}
 
-impl<T: Drop, B: RingBuf<Item = T>> ManyReceivers for ChannelState<T, Clearable<B>, Waker> {}
+impl<T: Drop, B: RingBuf<Item = T>> ManyReceivers for ChannelState<T, Clearable<B>, PollWaker> {}
 
-impl<T: Drop, B: RingBuf<Item = T>> SendsClosed for ChannelState<T, Clearable<B>, Waker> {
+impl<T: Drop, B: RingBuf<Item = T>> SendsClosed for ChannelState<T, Clearable<B>, PollWaker> {
     ghost use Rattle.futures_intrusive.specs.KindLaws.{sends, send_cancels};
 
     ghost sends_stay_closed = { sends };
@@ -52,7 +51,7 @@ impl<T: Drop, B: RingBuf<Item = T>> SendsClosed for ChannelState<T, Clearable<B>
     ghost withdraws_stay_closed = { send_cancels };
 }
 
-impl<T: Drop, B: RingBuf<Item = T>> ReceivesClosed for ChannelState<T, Clearable<B>, Waker> {
+impl<T: Drop, B: RingBuf<Item = T>> ReceivesClosed for ChannelState<T, Clearable<B>, PollWaker> {
     ghost use Rattle.futures_intrusive.specs.KindLaws.{receives, receive_cancels};
 
     ghost receives_stay_closed = { receives };
@@ -61,27 +60,24 @@ impl<T: Drop, B: RingBuf<Item = T>> ReceivesClosed for ChannelState<T, Clearable
 }
 
 impl<T: Drop, B: RingBuf<Item = T>> Cancel<ChannelStreaming>
-    for CountedEnds<ChannelState<T, Clearable<B>, Waker>> {
+    for CountedEnds<ChannelState<T, Clearable<B>, PollWaker>> {
     ghost use Rattle.std.specs.Prelude.{is_some};
     ghost use Rattle.fi_channels.specs.Channel.{receive_phase, CancelsReceive, displaced_receive};
-    ghost use Rattle.fi_sync.specs.Waiting.{CancelsWhere};
+    ghost use Rattle.fi_parts.specs.Polled.{LeavesWhere};
     ghost use Rattle.futures_intrusive.specs.Ends.{OnState};
 
-    type Left = Option<Waker>;
+    type Left = Option<PollWaker>;
 
-    ghost cancels = { λ old name left new. CancelsWhere (is_some (receive_phase old.state name))
+    ghost cancels = { λ old name left new. LeavesWhere (is_some (receive_phase old.state name))
         (OnState (λ before after. CancelsReceive before name after) old new) (displaced_receive old.state name) old left new };
 
-    fn cancel(&mut self, slot: Slot) -> Option<Waker> {
-        if !self.state.has_receive(slot) {
-            return None;
-        }
-        self.state.remove_receive_waiter(slot)
+    fn cancel(&mut self, slot: Slot) -> Option<PollWaker> {
+        self.state.leave_receive(slot)
     }
 }
 
 impl<T: Drop, B: RingBuf<Item = T>> PollSlot<ChannelStreaming>
-    for CountedEnds<ChannelState<T, Clearable<B>, Waker>> {
+    for CountedEnds<ChannelState<T, Clearable<B>, PollWaker>> {
     ghost use Rattle.fi_channels.specs.Channel.{displaced_receive};
     ghost use Rattle.fi_sync.specs.Streams.{leftover_of_next};
     ghost use Rattle.futures_intrusive.specs.SharedStreams.{PollsSharedStream};
@@ -92,13 +88,13 @@ impl<T: Drop, B: RingBuf<Item = T>> PollSlot<ChannelStreaming>
 
     ghost leaves = { λ old name waker answer. leftover_of_next answer (displaced_receive old.state name) waker };
 
-    fn poll_slot(&mut self, slot: Slot, waker: Waker) -> (Poll<Self::Output>, Leftover<Waker>) {
+    fn poll_slot(&mut self, slot: Slot, waker: PollWaker) -> SlotPolled<Self::Output> {
         PollSlot::<ChannelStreaming>::poll_slot(&mut self.state, slot, waker)
     }
 }
 
 /// The calls of `ChannelState`, which leave the counts as they are.
-impl<T: Drop, B: RingBuf<Item = T>> CountedEnds<ChannelState<T, Clearable<B>, Waker>> {
+impl<T: Drop, B: RingBuf<Item = T>> CountedEnds<ChannelState<T, Clearable<B>, PollWaker>> {
     /// Sends a value at once. Refused, with the value, if the channel is closed or full, or could not grow; then nothing has
     /// changed.
     pub fn try_send(&mut self, value: T) -> Result<(), TrySendError<T>>

@@ -9,8 +9,7 @@ ghost use Rattle.futures_intrusive.specs.Ends.{AddsSender, AddsReceiver, DropsSe
 
 use fi_channels::{ChannelReceiveAccess, ChannelSendAccess, Received, Sent};
 use fi_parts::{Fault, Slot};
-use fi_sync::HasOutbox;
-use futures::task::Waker;
+use fi_sync::{HasOutbox, PollWaker};
 use std::marker::Model;
 
 /// As many ends of one side as there can be: `isize::MAX`.
@@ -44,13 +43,13 @@ pub trait ClosesByEnds: HasOutbox {
         ensures no_send_waits { closing.NoSendWaits self.new };
 
     /// A wake that is taken out opens no closed channel.
-    ghost wakes_stay_closed: { (old new : Self) (answer : Option Waker) → Self.wakes old answer new
+    ghost wakes_stay_closed: { (old new : Self) (answer : Option (Option Waker)) → Self.wakes old answer new
         → StaysClosed Self.closing old new };
 }
 
 /// A channel whose sends, polled or cancelled, open no closed channel.
-pub trait SendsClosed: ChannelSendAccess<Waker = Waker> + ClosesByEnds {
-    ghost sends_stay_closed: { (old new : Self) (name : ℕ) (waker : Waker)
+pub trait SendsClosed: ChannelSendAccess<Waker = PollWaker> + ClosesByEnds {
+    ghost sends_stay_closed: { (old new : Self) (name : ℕ) (waker : Option Waker)
         (answer : Poll (Result (Unit {0}) (SendFault Self.Item)))
         → Self.sends old name waker answer new → StaysClosed Self.closing old new };
 
@@ -59,8 +58,8 @@ pub trait SendsClosed: ChannelSendAccess<Waker = Waker> + ClosesByEnds {
 }
 
 /// A channel whose receives, polled or cancelled, open no closed channel.
-pub trait ReceivesClosed: ChannelReceiveAccess<Waker = Waker> + ClosesByEnds {
-    ghost receives_stay_closed: { (old new : Self) (name : ℕ) (waker : Waker)
+pub trait ReceivesClosed: ChannelReceiveAccess<Waker = PollWaker> + ClosesByEnds {
+    ghost receives_stay_closed: { (old new : Self) (name : ℕ) (waker : Option Waker)
         (answer : Poll (Result (Option Self.Item) Fault))
         → Self.receives old name waker answer new → StaysClosed Self.closing old new };
 
@@ -188,7 +187,7 @@ impl<S: ClosesByEnds> HasOutbox for CountedEnds<S> {
 
     ghost wakes = { λ old answer new. OnState (λ before after. S.wakes before answer after) old new };
 
-    fn next_wake(&mut self) -> Option<Waker> {
+    fn next_wake(&mut self) -> Option<PollWaker> {
         self.state.next_wake()
     }
 
@@ -200,7 +199,7 @@ impl<S: ClosesByEnds> HasOutbox for CountedEnds<S> {
 impl<S: SendsClosed> ChannelSendAccess for CountedEnds<S> {
     type Item = S::Item;
 
-    type Waker = Waker;
+    type Waker = PollWaker;
 
     ghost is_sendable = { λ ends. S.is_sendable ends.state };
 
@@ -221,11 +220,15 @@ impl<S: SendsClosed> ChannelSendAccess for CountedEnds<S> {
         self.state.has_send(slot)
     }
 
-    fn send_or_register(&mut self, slot: Slot, waker: Waker) -> Sent<S::Item, Waker> {
+    fn send_ends_now(&self, slot: Slot) -> bool {
+        self.state.send_ends_now(slot)
+    }
+
+    fn send_or_register(&mut self, slot: Slot, waker: PollWaker) -> Sent<S::Item, PollWaker> {
         self.state.send_or_register(slot, waker)
     }
 
-    fn remove_send_waiter(&mut self, slot: Slot) -> (Option<S::Item>, Option<Waker>) {
+    fn remove_send_waiter(&mut self, slot: Slot) -> (Option<S::Item>, Option<PollWaker>) {
         self.state.remove_send_waiter(slot)
     }
 }
@@ -233,7 +236,7 @@ impl<S: SendsClosed> ChannelSendAccess for CountedEnds<S> {
 impl<S: ReceivesClosed> ChannelReceiveAccess for CountedEnds<S> {
     type Item = S::Item;
 
-    type Waker = Waker;
+    type Waker = PollWaker;
 
     ghost is_pollable = { λ ends. S.is_pollable ends.state };
 
@@ -254,11 +257,19 @@ impl<S: ReceivesClosed> ChannelReceiveAccess for CountedEnds<S> {
         self.state.has_receive(slot)
     }
 
-    fn receive_or_register(&mut self, slot: Slot, waker: Waker) -> Received<S::Item, Waker> {
+    fn receive_ends_now(&self, slot: Slot) -> bool {
+        self.state.receive_ends_now(slot)
+    }
+
+    fn receive_or_register(
+        &mut self,
+        slot: Slot,
+        waker: PollWaker,
+    ) -> Received<S::Item, PollWaker> {
         self.state.receive_or_register(slot, waker)
     }
 
-    fn remove_receive_waiter(&mut self, slot: Slot) -> Option<Waker> {
+    fn remove_receive_waiter(&mut self, slot: Slot) -> Option<PollWaker> {
         self.state.remove_receive_waiter(slot)
     }
 }

@@ -6,7 +6,7 @@ use fi_channels::{
     ChannelState, Clearable, ClonesValue, OneValueState, StateBroadcastState, TakesValue,
 };
 use fi_parts::buffer::RingBuf;
-use futures::task::Waker;
+use fi_sync::PollWaker;
 use std::fmt;
 use std::sync::Wait;
 
@@ -17,7 +17,7 @@ pub trait EndNames {
     fn receiver() -> &'static str;
 }
 
-impl<T: Drop, B: RingBuf<Item = T>> EndNames for ChannelState<T, Clearable<B>, Waker> {
+impl<T: Drop, B: RingBuf<Item = T>> EndNames for ChannelState<T, Clearable<B>, PollWaker> {
     fn sender() -> &'static str {
         "Sender"
     }
@@ -27,7 +27,7 @@ impl<T: Drop, B: RingBuf<Item = T>> EndNames for ChannelState<T, Clearable<B>, W
     }
 }
 
-impl<T: Drop> EndNames for OneValueState<T, Waker, TakesValue> {
+impl<T: Drop> EndNames for OneValueState<T, PollWaker, TakesValue> {
     fn sender() -> &'static str {
         "OneshotSender"
     }
@@ -37,7 +37,7 @@ impl<T: Drop> EndNames for OneValueState<T, Waker, TakesValue> {
     }
 }
 
-impl<T: Clone + Drop> EndNames for OneValueState<T, Waker, ClonesValue> {
+impl<T: Clone + Drop> EndNames for OneValueState<T, PollWaker, ClonesValue> {
     fn sender() -> &'static str {
         "OneshotBroadcastSender"
     }
@@ -47,7 +47,7 @@ impl<T: Clone + Drop> EndNames for OneValueState<T, Waker, ClonesValue> {
     }
 }
 
-impl<T: Clone + Drop> EndNames for StateBroadcastState<T, Waker> {
+impl<T: Clone + Drop> EndNames for StateBroadcastState<T, PollWaker> {
     fn sender() -> &'static str {
         "StateSender"
     }

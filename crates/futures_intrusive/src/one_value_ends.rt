@@ -10,16 +10,15 @@ use crate::counted_ends::{ClosesByEnds, CountedEnds, ManyReceivers, ReceivesClos
 use crate::ends::{End, Receivers, Senders, two_ends};
 use fi_channels::{ClonesValue, GivesValue, OneValueState, TakesValue};
 use fi_parts::{ChannelSendError, Fault, Slot};
-use fi_sync::{Blocking, SlotFuture, wait_for};
-use futures::task::Waker;
+use fi_sync::{Blocking, PollWaker, SlotFuture, wait_for};
 use std::alloc::Global;
 use std::sync::Wait;
 
 /// The sending end of a channel that takes one value, and gives it in the way of `G`.
-pub type OneValueSender<T, G, R> = End<OneValueState<T, Waker, G>, R, Senders>;
+pub type OneValueSender<T, G, R> = End<OneValueState<T, PollWaker, G>, R, Senders>;
 
 /// The receiving end of such a channel.
-pub type OneValueReceiver<T, G, R> = End<OneValueState<T, Waker, G>, R, Receivers>;
+pub type OneValueReceiver<T, G, R> = End<OneValueState<T, PollWaker, G>, R, Receivers>;
 
 /// Keeps `OneshotSender` of futures-intrusive's `channel::shared`.
 pub type OneshotSender<T, R> = OneValueSender<T, TakesValue, R>;
@@ -68,7 +67,7 @@ impl<T: Drop, G: GivesValue<T>, R: Wait + Drop> OneValueSender<T, G, R> {
 impl<T: Drop, G: GivesValue<T>, R: Wait + Drop> OneValueReceiver<T, G, R> {
     /// A future that receives the value, or None if none will come. As `OneValueChannel::receive`. Keeps
     /// `OneshotReceiver::receive`.
-    pub fn receive(&self) -> Result<ChannelReceiveFuture<OneValueState<T, Waker, G>, R>, Fault>
+    pub fn receive(&self) -> Result<ChannelReceiveFuture<OneValueState<T, PollWaker, G>, R>, Fault>
         ensures made { IfOk result (λ future. IsNew self.now future) }
         ensures fault { IfErr result (λ fault. fault ≡ Fault.NoMemory) }
     {
@@ -87,7 +86,7 @@ impl<T: Drop, G: GivesValue<T>, R: Wait + Drop> OneValueReceiver<T, G, R> {
     }
 }
 
-impl<T: Drop, G: GivesValue<T>> ClosesByEnds for OneValueState<T, Waker, G> {
+impl<T: Drop, G: GivesValue<T>> ClosesByEnds for OneValueState<T, PollWaker, G> {
     ghost use Rattle.fi_channels.specs.Oneshot.{Closes};
     ghost use Rattle.fi_parts.specs.declared.errors.CloseStatus.{CloseStatus};
     ghost use Rattle.futures_intrusive.specs.KindLaws.{one_value_wakes};
@@ -112,9 +111,9 @@ impl<T: Drop, G: GivesValue<T>> ClosesByEnds for OneValueState<T, Waker, G> {
     }
 }
 
-impl<T: Clone + Drop> ManyReceivers for OneValueState<T, Waker, ClonesValue> {}
+impl<T: Clone + Drop> ManyReceivers for OneValueState<T, PollWaker, ClonesValue> {}
 
-impl<T: Drop, G: GivesValue<T>> ReceivesClosed for OneValueState<T, Waker, G> {
+impl<T: Drop, G: GivesValue<T>> ReceivesClosed for OneValueState<T, PollWaker, G> {
     ghost use Rattle.futures_intrusive.specs.KindLaws.{one_value_polls, one_value_cancels};
 
     ghost receives_stay_closed = { λ old new. one_value_polls old new G.giving };
@@ -123,7 +122,7 @@ impl<T: Drop, G: GivesValue<T>> ReceivesClosed for OneValueState<T, Waker, G> {
 }
 
 /// The calls of `OneValueState`, which leave the counts as they are.
-impl<T: Drop, G: GivesValue<T>> CountedEnds<OneValueState<T, Waker, G>> {
+impl<T: Drop, G: GivesValue<T>> CountedEnds<OneValueState<T, PollWaker, G>> {
     /// Sends the one value. Refused, with the value, if the channel takes none any more; then nothing has changed.
     pub fn send(&mut self, value: T) -> Result<(), ChannelSendError<T>>
         ensures { OnState (λ old new. Sends old value result new) self.old self.new }

@@ -1,5 +1,5 @@
 //! The stream of a channel that owns its receiver.
-ghost use Rattle.std.specs.Prelude.{◌≡◌, IfErr};
+ghost use Rattle.std.specs.Prelude.{◌≡◌, Option, IfErr};
 ghost use Rattle.futures.specs.Poll.{OnPending};
 ghost use Rattle.futures.specs.Task.{Covers, Keeps};
 ghost use Rattle.futures.specs.declared.task.waker.Waker.{Waker};
@@ -19,7 +19,7 @@ use std::sync::Wait;
 /// The values of a channel, one after another, until it is closed and empty; then it answers its end, again and again.
 ///
 /// It is made of a receiver, which it keeps. Its drop drops its receive first, and then the receiver. An item is `Err(NoMemory)` if
-/// the poll could make no waker; the stream goes on after it. Keeps `SharedStream` of futures-intrusive's `channel::shared`.
+/// the poll had to wait and could make no waker; the stream goes on after it. Keeps `SharedStream` of futures-intrusive's `channel::shared`.
 #[derive(Drop)]
 pub struct SharedStream<T: Drop, B: RingBuf<Item = T>, R: Wait + Drop> {
     // In this order they are dropped: a receive that was told of a value passes that on while the receiver is still counted.
@@ -67,7 +67,7 @@ impl<T: Drop, B: RingBuf<Item = T>, R: Wait + Drop> SharedStream<T, B, R> {
         ensures registered { OnPending result (Covers cx.new (λ source. source ≡ self.new.source)) }
         ensures kept { Keeps cx.old cx.new }
         ensures stands { self.new ≡ streamed self.old result }
-        ensures answered { IsStreamAnswer (PollsSharedStream {T = T} {W = Waker}) self.old.name self.old.has_ended
+        ensures answered { IsStreamAnswer (PollsSharedStream {T = T} {W = Option Waker}) self.old.name self.old.has_ended
             cx.new.lacks_waker result }
     {
         if self.is_ended {

@@ -10,19 +10,18 @@ use crate::counted_ends::{ClosesByEnds, CountedEnds, ManyReceivers, ManySenders,
 use crate::ends::{End, Receivers, Senders, two_ends};
 use fi_channels::StateBroadcastState;
 use fi_parts::{ChannelSendError, Fault, Slot, StateId};
-use fi_sync::{Blocking, SlotFuture, wait_for};
-use futures::task::Waker;
+use fi_sync::{Blocking, PollWaker, SlotFuture, wait_for};
 use std::alloc::Global;
 use std::sync::Wait;
 
 /// The sending end of a state broadcast. Keeps `StateSender` of futures-intrusive's `channel::shared`.
-pub type StateSender<T, R> = End<StateBroadcastState<T, Waker>, R, Senders>;
+pub type StateSender<T, R> = End<StateBroadcastState<T, PollWaker>, R, Senders>;
 
 /// The receiving end of a state broadcast. Keeps `StateReceiver`.
-pub type StateReceiver<T, R> = End<StateBroadcastState<T, Waker>, R, Receivers>;
+pub type StateReceiver<T, R> = End<StateBroadcastState<T, PollWaker>, R, Receivers>;
 
 /// Receives a state; it owns a share of its channel. Keeps `shared::StateReceiveFuture`.
-pub type StateReceiveFuture<T, R> = ChannelReceiveFuture<StateBroadcastState<T, Waker>, R>;
+pub type StateReceiveFuture<T, R> = ChannelReceiveFuture<StateBroadcastState<T, PollWaker>, R>;
 
 /// The ends of a state broadcast. Refused only with `NoMemory`. Keeps `state_broadcast_channel`.
 pub fn state_broadcast_channel<T: Clone + Drop, R: Wait + Drop>(
@@ -81,7 +80,7 @@ impl<T: Clone + Drop, R: Wait + Drop> StateReceiver<T, R> {
     }
 }
 
-impl<T: Clone + Drop> ClosesByEnds for StateBroadcastState<T, Waker> {
+impl<T: Clone + Drop> ClosesByEnds for StateBroadcastState<T, PollWaker> {
     ghost use Rattle.fi_channels.specs.StateBroadcast.{Closes};
     ghost use Rattle.fi_parts.specs.declared.errors.CloseStatus.{CloseStatus};
     ghost use Rattle.futures_intrusive.specs.KindLaws.{state_wakes};
@@ -106,11 +105,11 @@ impl<T: Clone + Drop> ClosesByEnds for StateBroadcastState<T, Waker> {
     }
 }
 
-impl<T: Clone + Drop> ManySenders for StateBroadcastState<T, Waker> {}
+impl<T: Clone + Drop> ManySenders for StateBroadcastState<T, PollWaker> {}
 
-impl<T: Clone + Drop> ManyReceivers for StateBroadcastState<T, Waker> {}
+impl<T: Clone + Drop> ManyReceivers for StateBroadcastState<T, PollWaker> {}
 
-impl<T: Clone + Drop> ReceivesClosed for StateBroadcastState<T, Waker> {
+impl<T: Clone + Drop> ReceivesClosed for StateBroadcastState<T, PollWaker> {
     ghost use Rattle.futures_intrusive.specs.KindLaws.{state_polls, state_cancels};
 
     ghost receives_stay_closed = { λ old new. state_polls old new T.is_clone T.is_infallible };
@@ -119,7 +118,7 @@ impl<T: Clone + Drop> ReceivesClosed for StateBroadcastState<T, Waker> {
 }
 
 /// The calls of `StateBroadcastState`, which leave the counts as they are.
-impl<T: Clone + Drop> CountedEnds<StateBroadcastState<T, Waker>> {
+impl<T: Clone + Drop> CountedEnds<StateBroadcastState<T, PollWaker>> {
     /// Sends the next state, and hands back the one before it, so that its caller chooses when that is let go.
     pub fn replace(&mut self, value: T) -> Result<Option<T>, ChannelSendError<T>>
         ensures sent { OnOk result (OnState (λ old new. Sends old value (Ok tt) new) self.old self.new) }

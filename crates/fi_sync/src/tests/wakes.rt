@@ -3,7 +3,7 @@ ghost use Rattle.std.specs.Prelude.{◌≡◌, length};
 ghost use Rattle.fi_sync.specs.Wakes.{TakesOldest};
 
 use super::are_woken;
-use crate::{Guarded, HasOutbox};
+use crate::{Guarded, HasOutbox, PollWaker};
 use futures::task::{Doorbell, Poll, Queue, Source, Waker};
 use std::process::Abort;
 use std::sync::Wait;
@@ -12,7 +12,7 @@ use std::test::Fail;
 // Wakers that are to be woken, the oldest first.
 #[derive(Drop)]
 struct Named {
-    wakers: Vec<Waker>,
+    wakers: Vec<PollWaker>,
 }
 
 impl HasOutbox for Named {
@@ -22,7 +22,7 @@ impl HasOutbox for Named {
 
     ghost wakes = { λ old answer new. TakesOldest (vec_items old.wakers) answer (vec_items new.wakers) };
 
-    fn next_wake(&mut self) -> Option<Waker> {
+    fn next_wake(&mut self) -> Option<PollWaker> {
         if self.wakers.is_empty() {
             return None;
         }
@@ -55,13 +55,17 @@ fn a_payment_takes_what_was_owed(rt: HostRuntime) {
     let mut owed_to = Vec::new(rt.alloc());
     for _ in 0..5u64 {
         let (waker, task) = waker(&rt, tasks, source);
-        wakers.push(waker).expect(&rt, "memory");
+        wakers.push(Some(waker)).expect(&rt, "memory");
         owed_to.push(task).expect(&rt, "memory");
     }
     let (newest, last) = waker(&rt, tasks, source);
     let named = Guarded::new(Named { wakers });
     let ((), owed) = named.lend(&rt, (), |_named, ()| ());
-    let (pushed, owed_later) = named.lend(&rt, newest, |named, newest| named.wakers.push(newest));
+    let (pushed, owed_later) = named.lend(
+        &rt,
+        Some(newest),
+        |named, newest| named.wakers.push(newest),
+    );
     owed.pay(&rt);
     pushed.expect(&rt, "memory");
     assert!(rt; are_woken(&rt, tasks, owed_to.as_slice()));
@@ -80,7 +84,7 @@ fn a_payment_ends_where_nobody_is_left(rt: HostRuntime) -> Result<(), Fail> {
     let (oldest, first) = waker(&rt, tasks, source);
     let (other, second) = waker(&rt, tasks, source);
     let named = Guarded::new(Named {
-        wakers: vec![in rt.alloc(); oldest, other]?,
+        wakers: vec![in rt.alloc(); Some(oldest), Some(other)]?,
     });
     let ((), owed) = named.lend(&rt, (), |_named, ()| ());
     let (taken, owed_later) = named.lend(&rt, (), |named, ()| named.next_wake());

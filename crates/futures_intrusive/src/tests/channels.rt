@@ -5,6 +5,7 @@ mod channel;
 mod clones;
 mod debug;
 mod drops;
+mod kept;
 mod makings;
 
 use fi_channels::{

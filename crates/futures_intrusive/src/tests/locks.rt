@@ -2,6 +2,7 @@
 
 mod debug;
 mod drops;
+mod kept;
 mod makings;
 mod mutex;
 mod semaphore;

@@ -9,14 +9,13 @@ use crate::channel::shared::{
     ChannelReceiveFuture, OneValueReceiver, OneValueSender, StateReceiveFuture, StateReceiver,
     StateSender, oneshot_broadcast_channel, oneshot_channel, state_broadcast_channel,
 };
-use crate::channel::{ClonesValue, GivesValue, OneValueState, StateId, TakesValue};
+use crate::channel::{ClonesValue, GivesValue, OneValueState, PollWaker, StateId, TakesValue};
 use crate::run::{Answer, OneshotCall, StateCall};
-use futures::task::Waker;
 use std::alloc::AllocGlobal;
 use std::process::Abort;
 use std::sync::Wait;
 
-type Receiving<G, R> = ChannelReceiveFuture<OneValueState<u64, Waker, G>, R>;
+type Receiving<G, R> = ChannelReceiveFuture<OneValueState<u64, PollWaker, G>, R>;
 
 /// Both ends, with four receives.
 #[derive(Drop)]

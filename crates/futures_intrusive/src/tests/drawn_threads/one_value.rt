@@ -5,10 +5,10 @@ use super::own_tasks::{Futures, OwnTasks};
 use super::{Flavour, List, Opened, Seen, agrees, try_lists, with_futures};
 use crate::Slot;
 use crate::channel::{
-    ChannelReceiveFuture, ClonesValue, GivesValue, OneValueChannel, OneValueState, TakesValue,
+    ChannelReceiveFuture, ClonesValue, GivesValue, OneValueChannel, OneValueState, PollWaker,
+    TakesValue,
 };
 use crate::run::{Answer, OneshotCall};
-use futures::task::Waker;
 use std::alloc::AllocGlobal;
 use std::marker::PhantomData;
 use std::process::Abort;
@@ -27,7 +27,7 @@ pub(super) const CHOICES: [OneshotCall<u64, u64>; 10] = [
     OneshotCall::Close,
 ];
 
-type Receiving<'a, G, R> = ChannelReceiveFuture<'a, OneValueState<u64, Waker, G>, R>;
+type Receiving<'a, G, R> = ChannelReceiveFuture<'a, OneValueState<u64, PollWaker, G>, R>;
 
 #[derive(Drop)]
 struct OpenedChannel<'a, C, F> {

@@ -23,17 +23,13 @@ fn learn(
     asked: Slot,
     answer: &mut LocalOneshotChannel<u32, u64>,
 ) -> Option<Poll<Result<Option<u32>, Fault>>> {
-    if !answer.can_receive(asked) {
-        return None;
-    }
-    Some(answer.receive_or_register(asked, ASKER).0)
+    let (answer, _leftover) = answer.receive_checked(asked, ASKER).ok()?;
+    Some(answer)
 }
 
 /// Who asked does not wait any longer.
 fn leave(asked: Slot, answer: &mut LocalOneshotChannel<u32, u64>) {
-    if answer.has_receive(asked) {
-        answer.remove_receive_waiter(asked);
-    }
+    answer.leave_receive(asked);
 }
 
 #[test]

@@ -32,21 +32,15 @@ impl Pool {
 
     /// A connection, if it is this task's turn and one is idle. If not, the task is woken when there is one for it.
     fn take(&mut self, turn: Slot, task: u64) -> Option<Connection> {
-        if !self.permits.can_poll(turn) {
-            return None;
-        }
-        let (answer, _leftover) = self.permits.acquire_or_register(turn, task);
-        match answer {
-            Poll::Ready(_) => self.idle.pop(),
-            Poll::Pending => None,
+        match self.permits.poll_checked(turn, task) {
+            Ok((Poll::Ready(_), _leftover)) => self.idle.pop(),
+            Ok((Poll::Pending, _)) | Err(_) => None,
         }
     }
 
     /// Leaves the line, or a turn that was used. Who was told, and did not take a connection, passes that on.
     fn leave(&mut self, turn: Slot) {
-        if self.permits.is_live(turn) {
-            self.permits.remove_waiter(turn);
-        }
+        self.permits.leave(turn);
     }
 
     /// Puts a connection back, which wakes the task whose turn is next.

@@ -45,19 +45,17 @@ impl Squares {
             Some(slot) => slot,
             None => self.send_next(pipe)?,
         };
-        if !pipe.can_send(slot) {
+        let Ok((answer, _leftover)) = pipe.send_checked(slot, SQUARES) else {
             return Ok(false);
-        }
-        let sent = match pipe.send_or_register(slot, SQUARES).0 {
+        };
+        let sent = match answer {
             Poll::Pending => return Ok(false),
             // The send keeps its square: the next run tries again.
             Poll::Ready(Err(SendFault::Fault(fault))) => return Err(fault),
             Poll::Ready(Err(SendFault::Closed(_))) => Err(Fault::Closed),
             Poll::Ready(Ok(())) => Ok(true),
         };
-        if pipe.has_send(slot) {
-            pipe.remove_send_waiter(slot);
-        }
+        pipe.leave_send(slot);
         self.sending = None;
         sent
     }
@@ -94,10 +92,10 @@ impl Sum {
     /// Adds until there is nothing to receive.
     fn run(&mut self, pipe: &mut Pipe) {
         for _ in 0..STEPS {
-            if !pipe.can_stream(self.stream) {
+            let Ok((answer, _leftover)) = pipe.next_checked(self.stream, SUM) else {
                 return;
-            }
-            match pipe.next_or_register(self.stream, SUM).0 {
+            };
+            match answer {
                 Poll::Ready(Some(square)) => self.total = self.total.wrapping_add(square),
                 Poll::Ready(None) => {
                     self.is_done = true;
@@ -110,9 +108,7 @@ impl Sum {
 
     /// Leaves the channel.
     fn leave(self, pipe: &mut Pipe) {
-        if pipe.has_receive(self.stream) {
-            pipe.remove_receive_waiter(self.stream);
-        }
+        pipe.leave_receive(self.stream);
     }
 }
 

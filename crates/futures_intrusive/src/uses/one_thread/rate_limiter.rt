@@ -24,9 +24,7 @@ struct RateLimiter {
 /// Has the task that refills the limiter wait for this moment.
 fn wait_until(moment: u64, now: u64, timer: &mut LocalTimerService<u64>) -> Result<Slot, Fault> {
     let slot = timer.claim_deadline(moment)?;
-    if timer.can_poll(slot) {
-        let _ = timer.try_wait(slot, now, REFILL);
-    }
+    let _ = timer.poll_checked(slot, now, REFILL);
     Ok(slot)
 }
 
@@ -54,15 +52,11 @@ impl RateLimiter {
 
     /// Whether a request of this task may go through now. If not, the task is woken when it may.
     fn may_pass(&mut self, request: Slot, task: u64) -> bool {
-        if !self.permits.can_poll(request) {
-            return false;
-        }
-        let (answer, _leftover) = self.permits.acquire_or_register(request, task);
-        let Poll::Ready(used) = answer else {
+        let Ok((Poll::Ready(used), _leftover)) = self.permits.poll_checked(request, task) else {
             return false;
         };
         self.permits.disarm(used);
-        self.permits.remove_waiter(request);
+        self.permits.leave(request);
         true
     }
 
@@ -75,9 +69,7 @@ impl RateLimiter {
         }
         let end = now.saturating_add(self.period);
         let next = wait_until(end, now, &mut self.timer)?;
-        if self.timer.is_live(self.end_of_period) {
-            self.timer.remove_waiter(self.end_of_period);
-        }
+        self.timer.leave(self.end_of_period);
         self.end = end;
         self.end_of_period = next;
         let used = self.limit.saturating_sub(self.permits.permits());

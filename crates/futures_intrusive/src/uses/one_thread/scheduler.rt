@@ -20,21 +20,15 @@ impl Job {
 
     /// Whether it is time to run, now. If not, the timer will wake the job.
     fn is_due(&self, now: u64, timer: &mut LocalTimerService<u64>) -> bool {
-        if !timer.can_poll(self.due) {
-            return false;
-        }
-        let (answer, _leftover) = timer.try_wait(self.due, now, self.number);
-        match answer {
-            Poll::Ready(()) => true,
-            Poll::Pending => false,
+        match timer.poll_checked(self.due, now, self.number) {
+            Ok((answer, _leftover)) => answer.is_ready(),
+            Err(_) => false,
         }
     }
 
     /// Leaves the timer, whether or not the job has run.
     fn leave(self, timer: &mut LocalTimerService<u64>) {
-        if timer.is_live(self.due) {
-            timer.remove_waiter(self.due);
-        }
+        timer.leave(self.due);
     }
 }
 

@@ -37,16 +37,13 @@ impl Watcher {
             None => settings.claim_receive(self.seen)?,
         };
         self.next = Some(next);
-        if !settings.can_receive(next) {
+        let Ok((answer, _leftover)) = settings.receive_checked(next, self.number) else {
             return Ok(false);
-        }
-        let (answer, _leftover) = settings.receive_or_register(next, self.number);
+        };
         let Poll::Ready(answer) = answer else {
             return Ok(true);
         };
-        if settings.has_receive(next) {
-            settings.remove_receive_waiter(next);
-        }
+        settings.leave_receive(next);
         self.next = None;
         let Some((seen, limit)) = answer? else {
             return Ok(false);

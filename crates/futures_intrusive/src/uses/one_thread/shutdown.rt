@@ -27,21 +27,16 @@ impl Worker {
 
     /// One round of work, unless it was told to stop.
     fn run(&mut self, shutdown: &mut LocalManualResetEvent<u64>) {
-        if !shutdown.can_poll(self.stop) {
-            return;
-        }
-        let (answer, _leftover) = shutdown.try_wait(self.stop, self.number);
-        match answer {
-            Poll::Ready(()) => self.has_stopped = true,
-            Poll::Pending => self.rounds = self.rounds.wrapping_add(1),
+        match shutdown.poll_checked(self.stop, self.number) {
+            Ok((Poll::Ready(()), _leftover)) => self.has_stopped = true,
+            Ok((Poll::Pending, _leftover)) => self.rounds = self.rounds.wrapping_add(1),
+            Err(_) => {}
         }
     }
 
     /// Leaves the signal.
     fn leave(self, shutdown: &mut LocalManualResetEvent<u64>) {
-        if shutdown.is_live(self.stop) {
-            shutdown.remove_waiter(self.stop);
-        }
+        shutdown.leave(self.stop);
     }
 }
 

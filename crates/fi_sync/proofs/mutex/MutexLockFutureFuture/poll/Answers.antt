@@ -1,0 +1,13 @@
+use Rattle.std.proofs.Common.{rules, ◌≡◌, subst, sym}
+use Rattle.fi_sync.specs.Locked.{IsLockAnswer}
+use Rattle.fi_sync.specs.Waiting.{SharedFuture}
+use Rattle.fi_sync.proofs.mutex.MutexLockFutureFuture.poll.Goals as goal
+
+pub returns-clause-answered : goal.returns-clause-answered
+returns-clause-answered g c =
+    let same : c.match-poll.result ≡ c.poll.result = search rules in
+    let own : c.self.inside.future ≡ c.args.self.now = search rules in
+    subst (λ future. IsLockAnswer (SharedFuture.name future) (SharedFuture.has_ended future) c.poll.new.cx.lacks_waker c.match-poll.result)
+    own
+    (subst (λ answer. IsLockAnswer c.self.inside.future.name c.self.inside.future.has_ended c.poll.new.cx.lacks_waker answer)
+    (sym same) c.poll.ensures.answered)
