@@ -21,13 +21,13 @@ use Rattle.fi_channels.specs.declared.channel_errors.SendFault.TheVariants as se
 use Rattle.fi_channels.specs.declared.content.Content.{Content}
 use Rattle.fi_channels.specs.declared.content.Content.TheVariants.{Empty, Full, Spent}
 use Rattle.fi_channels.specs.Oneshot as oneshot
-use Rattle.fi_channels.specs.Oneshot.{OneshotMachine, Giving, left_by}
+use Rattle.fi_channels.specs.Oneshot.{OneshotMachine, Giving, left_by, has_closed}
 use Rattle.fi_channels.specs.StateBroadcast as broadcast
 use Rattle.fi_channels.specs.StateBroadcast.{StateMachine, Newest, newer_at}
 use Rattle.fi_sync.specs.Streams.{Streamed, PollsStream}
 use Rattle.fi_sync.specs.Waiting.{PollsWhere}
 use Rattle.futures_intrusive.specs.Ends.{Closing, StaysClosed}
-use Rattle.futures_intrusive.specs.Kinds.{has_closed, closing_channel, closing_one_value, closing_state_broadcast}
+use Rattle.futures_intrusive.specs.Kinds.{closing_channel, closing_one_value, closing_state_broadcast}
 
 -- What changes nothing keeps a channel closed, and so does a poll or a cancel where no future lives.
 module _ {S : Type 0} (closing : Closing S) (old new : S) where

@@ -1,18 +1,10 @@
 -- What each kind of channel calls closed and cleared.
-use Rattle.std.specs.Prelude.{◌≡◌, ⊤, Bool, true, false, []}
+use Rattle.std.specs.Prelude.{◌≡◌, ⊤, true, false, []}
 use Rattle.fi_channels.specs.Channel.{ChannelMachine}
 use Rattle.fi_channels.specs.Cleared.{NoSendWaits}
-use Rattle.fi_channels.specs.Oneshot.{OneshotMachine}
+use Rattle.fi_channels.specs.Oneshot.{OneshotMachine, has_closed}
 use Rattle.fi_channels.specs.StateBroadcast.{StateMachine}
-use Rattle.fi_channels.specs.declared.content.Content.{Content}
-use Rattle.fi_channels.specs.declared.content.Content.TheVariants.{Empty, Full, Spent}
 use Rattle.futures_intrusive.specs.Ends.{Closing}
-
--- A channel of one value is closed once it takes none any more: it was closed, or its value was sent.
-abbrev pub has_closed : {T : Type 0} → Content T → Bool
-has_closed Empty = false
-has_closed (Full value) = true
-has_closed Spent = true
 
 module _ {T W : Type 0} where
   abbrev pub closing_channel : Closing (ChannelMachine T W)

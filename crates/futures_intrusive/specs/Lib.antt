@@ -2,3 +2,4 @@ pub mod Ends
 pub mod Kinds
 pub mod KindLaws
 pub mod SharedStreams
+pub mod Blanks

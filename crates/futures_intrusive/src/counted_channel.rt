@@ -1,6 +1,6 @@
 //! The channel of many values behind the lock of its shared ends.
-ghost use Rattle.std.specs.Prelude.{◌≡◌, IfOk, IfErr, OnErr};
-ghost use Rattle.fi_channels.specs.Channel.{MakesSend, MakesReceive, TriesSend, TriesReceive, Closes};
+ghost use Rattle.std.specs.Prelude.{◌≡◌, ◌==◌, not, length, IfOk, IfErr, OnErr};
+ghost use Rattle.fi_channels.specs.Channel.{MakesSend, MakesReceive, TriesSend, TriesReceive, Closes, has_room};
 ghost use Rattle.fi_channels.specs.declared.channel_fields.ReceiveKind.TheVariants.{Single, Stream};
 ghost use Rattle.fi_parts.specs.declared.errors.Fault.{Fault};
 ghost use Rattle.futures_intrusive.specs.Ends.{OnState};
@@ -29,6 +29,10 @@ impl<T: Drop, B: RingBuf<Item = T>> ClosesByEnds for ChannelState<T, Clearable<B
     ghost clears = { ClosesAndClears B.bounded };
 
     ghost wakes_stay_closed = { wakes };
+
+    fn is_closed(&self) -> bool {
+        ChannelState::is_closed(self)
+    }
 
     fn close_after_senders(&mut self) {
         self.close();
@@ -115,6 +119,34 @@ impl<T: Drop, B: RingBuf<Item = T>> CountedEnds<ChannelState<T, Clearable<B>, Po
         ensures { OnState (λ old new. Closes old result new) self.old self.new }
     {
         self.state.close()
+    }
+
+    /// How many values are buffered.
+    pub fn len(&self) -> usize
+        ensures { result ≡ length self.now.state.own.buffer.items }
+    {
+        self.state.len()
+    }
+
+    /// No value is buffered.
+    pub fn is_empty(&self) -> bool
+        ensures { result ≡ (length self.now.state.own.buffer.items == 0) }
+    {
+        self.state.is_empty()
+    }
+
+    /// The buffer has no room for one more value.
+    pub fn is_full(&self) -> bool
+        ensures { result ≡ not (has_room self.now.state.own) }
+    {
+        self.state.is_full()
+    }
+
+    /// The most values that the buffer can hold.
+    pub fn capacity(&self) -> usize
+        ensures { result ≡ self.now.state.own.buffer.capacity }
+    {
+        self.state.capacity()
     }
 
     /// Makes a send of this value. Refused, with the value, only for want of memory; then nothing has changed.

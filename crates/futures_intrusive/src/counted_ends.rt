@@ -1,5 +1,5 @@
 //! What stands behind the lock of a channel's shared ends: its state, beside the counts of senders and receivers.
-ghost use Rattle.std.specs.Prelude.{◌≡◌, ℕ, List, Option, Result};
+ghost use Rattle.std.specs.Prelude.{◌≡◌, ℕ, true, List, Option, Result};
 ghost use Rattle.fi_channels.specs.declared.channel_errors.SendFault.{SendFault};
 ghost use Rattle.fi_parts.specs.declared.errors.Fault.{Fault};
 ghost use Rattle.futures.specs.declared.task.Poll.{Poll};
@@ -28,6 +28,11 @@ pub trait ClosesByEnds: HasOutbox {
 
     /// The close after the last receiver lets this go and leads from old to new.
     ghost clears: { Self → Self.Cleared → Self → Type 0 };
+
+    /// The channel is closed.
+    fn is_closed(&self) -> bool
+        ensures closed { result ≡ true → closing.IsClosed self.now }
+        ensures open { closing.IsClosed self.now → result ≡ true };
 
     /// Closes the channel, whose last sender was dropped.
     fn close_after_senders(&mut self)
@@ -123,6 +128,14 @@ impl<S: ClosesByEnds> CountedEnds<S> {
         ensures kept { KeepsEnds S.closing self.now }
     {
         self.receivers
+    }
+
+    /// The channel is closed.
+    pub fn is_closed(&self) -> bool
+        ensures closed { result ≡ true → S.closing.IsClosed self.now.state }
+        ensures open { S.closing.IsClosed self.now.state → result ≡ true }
+    {
+        self.state.is_closed()
     }
 
     /// One sender less. The last one closes the channel. If there was none, nothing changes.

@@ -140,6 +140,13 @@ impl<S: ClosesByEnds + Drop, R: Wait + Drop, K: Side<S>> End<S, R, K> {
     }
 }
 
+impl<S: ClosesByEnds + Drop, R: Wait + Drop, K: Side<S>> End<S, R, K> {
+    /// Returns `true` if the channel was closed when it was looked at.
+    pub fn is_closed(&self) -> bool {
+        self.channel().call((), |ends, ()| ends.is_closed())
+    }
+}
+
 impl<S: ClosesByEnds + Drop, R: Wait + Drop, K: CloneSide<S>> End<S, R, K> {
     /// One more end of the same channel on this side. Takes no memory, and one hold of the lock.
     ///

@@ -102,6 +102,10 @@ impl<T: Drop, G: GivesValue<T>> ClosesByEnds for OneValueState<T, PollWaker, G> 
 
     ghost wakes_stay_closed = { one_value_wakes };
 
+    fn is_closed(&self) -> bool {
+        OneValueState::is_closed(self)
+    }
+
     fn close_after_senders(&mut self) {
         self.close();
     }

@@ -96,6 +96,10 @@ impl<T: Clone + Drop> ClosesByEnds for StateBroadcastState<T, PollWaker> {
 
     ghost wakes_stay_closed = { state_wakes };
 
+    fn is_closed(&self) -> bool {
+        StateBroadcastState::is_closed(self)
+    }
+
     fn close_after_senders(&mut self) {
         self.close();
     }
