@@ -1,4 +1,5 @@
-//! Runs of the channels, each call once at a concrete type, and the theorems at concrete types.
+//! Runs of the channels, each call once at a concrete type, and the theorems at concrete types. Tests of the crates below stand here
+//! too, since each crate with tests is proved twice.
 use crate::{
     Answer, OneshotCall, Primitive, StateCall, every_run_of_a_oneshot,
     every_run_of_a_oneshot_broadcast, every_run_of_a_state_broadcast, every_run_of_an_event, run,
@@ -9,10 +10,14 @@ use std::alloc::Global;
 use std::test::Fail;
 
 mod channel;
+mod channels;
 mod desks;
 mod drawn_schedules;
 mod journals;
+mod locks;
+mod parts;
 mod pools;
+mod texts;
 
 // Whether a primitive of this opening answers the calls of these lines so.
 pub(crate) fn answers<P: Primitive + Drop>(

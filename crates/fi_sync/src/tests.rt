@@ -1,10 +1,7 @@
-ghost use Rattle.std.specs.Prelude.{◌≡◌};
-ghost use Rattle.futures.specs.Poll.{OnPending};
 ghost use Rattle.fi_channels.specs.Event.{IsSound, OwesNoWake};
 
 mod blocking;
 mod channel;
-mod channel_stream;
 mod contention;
 mod debug;
 mod drops;
@@ -15,15 +12,15 @@ mod semaphore;
 mod shared_semaphore;
 mod state_broadcast;
 mod timer;
+mod timer_runs;
 mod wakes;
 
-use crate::{ManualResetEvent, PollWaker, WaitForEventFuture};
+use crate::{ManualResetEvent, PollWaker};
 use fi_channels::EventState;
-use fi_parts::Fault;
 use futures::Future;
 use futures::executor::block_on;
 use futures::future::join;
-use futures::task::{Context, Doorbell, Poll, Queue};
+use futures::task::{Context, Poll};
 use futures::test::MockTask;
 use std::alloc::AllocGlobal;
 use std::process::Abort;
@@ -33,202 +30,6 @@ use std::sync::atomic::{AtomicU64, Ordering};
 use std::thread;
 use std::thread::Threads;
 use std::time::Duration;
-
-// Polls by a task of its own, whose number names its waker. No other task is queued.
-fn poll_once<R: Wait + Abort, F: Future>(
-    rt: &R,
-    tasks: &Queue,
-    future: &mut F,
-) -> (Poll<F::Output>, usize)
-    requires { F.can_poll future.old }
-    ensures { OnPending result.0 (F.can_poll future.new) }
-{
-    let vacancy = tasks.add().expect(rt, "memory");
-    let task = vacancy.task();
-    vacancy.schedule();
-    let mut cx = tasks.next(rt).expect(rt, "a task is queued");
-    let polled = future.poll(&mut cx);
-    cx.end(&polled);
-    (polled, task)
-}
-
-// Polls a future that has to wait, and answers the task that did.
-fn waits<R: Wait + Abort, F: Future>(rt: &R, tasks: &Queue, future: &mut F) -> usize
-where
-    F::Output: Drop,
-    requires { F.can_poll future.old }
-{
-    let (polled, task) = poll_once(rt, tasks, future);
-    assert!(*rt; polled.is_pending());
-    task
-}
-
-// Whether a receive is ready with this value, or with None.
-fn receives<R: Wait + Abort, F: Future<Output = Result<Option<u64>, Fault>>>(
-    rt: &R,
-    tasks: &Queue,
-    receive: &mut F,
-    value: Option<u64>,
-) -> bool
-    requires { F.can_poll receive.old }
-{
-    let (polled, _) = poll_once(rt, tasks, receive);
-    polled == Poll::Ready(Ok(value))
-}
-
-// A wait that a task of its own has polled, and that task.
-fn registered<'a, R: Wait + Abort>(
-    rt: &R,
-    tasks: &Queue,
-    event: &'a ManualResetEvent<R>,
-) -> (WaitForEventFuture<'a, R>, usize) {
-    let mut wait = event.wait().expect(rt, "memory");
-    let (polled, task) = poll_once(rt, tasks, &mut wait);
-    assert!(*rt; polled.is_pending());
-    (wait, task)
-}
-
-// Whether just these tasks were woken, in this order. They are ended.
-fn are_woken<R: Wait + Abort>(rt: &R, tasks: &Queue, expected: &[usize]) -> bool {
-    let last = tasks.add().expect(rt, "memory");
-    let end = last.task();
-    last.schedule();
-    for expected in expected {
-        let cx = tasks.next(rt).expect(rt, "a task is queued");
-        let task = cx.task();
-        cx.cancel();
-        if task != *expected {
-            return false;
-        }
-    }
-    let cx = tasks.next(rt).expect(rt, "a task is queued");
-    let task = cx.task();
-    cx.cancel();
-    task == end
-}
-
-#[test]
-fn event_set_and_reset(rt: HostRuntime) {
-    let tasks = &Queue::new(&rt, Doorbell::spinning()).expect(&rt, "memory");
-    let event = ManualResetEvent::new(rt.alloc(), rt, false);
-    assert!(rt; !event.is_set());
-    let (mut w, first) = registered(&rt, tasks, &event);
-    assert!(rt; !w.is_terminated());
-    event.set();
-    assert!(rt; event.is_set() && are_woken(&rt, tasks, &[first]));
-    event.set();
-    event.reset();
-    assert!(rt; !event.is_set() && are_woken(&rt, tasks, &[]));
-    let (polled, _) = poll_once(&rt, tasks, &mut w);
-    assert!(rt; polled == Poll::Ready(Ok(())) && w.is_terminated());
-    let (_v, _) = registered(&rt, tasks, &event);
-}
-
-#[test]
-fn event_cancels(rt: HostRuntime) {
-    let tasks = &Queue::new(&rt, Doorbell::spinning()).expect(&rt, "memory");
-    let event = ManualResetEvent::new(rt.alloc(), rt, false);
-    let (_a, first) = registered(&rt, tasks, &event);
-    let (b, second) = registered(&rt, tasks, &event);
-    let (mut c, third) = registered(&rt, tasks, &event);
-    let (d, fourth) = registered(&rt, tasks, &event);
-    let (_e, fifth) = registered(&rt, tasks, &event);
-    drop(b);
-    drop(d);
-    // The wakers of cancelled waits wake their own tasks when they are let go.
-    assert!(rt; are_woken(&rt, tasks, &[second, fourth]));
-    event.set();
-    assert!(rt; are_woken(&rt, tasks, &[first, third, fifth]));
-    let (polled, _) = poll_once(&rt, tasks, &mut c);
-    assert_eq!(rt; polled, Poll::Ready(Ok(())));
-}
-
-#[test]
-fn event_newest_waker(rt: HostRuntime) {
-    let tasks = &Queue::new(&rt, Doorbell::spinning()).expect(&rt, "memory");
-    let event = ManualResetEvent::new(rt.alloc(), rt, false);
-    let (mut w, _) = registered(&rt, tasks, &event);
-    let (polled, second) = poll_once(&rt, tasks, &mut w);
-    assert!(rt; polled.is_pending());
-    event.set();
-    assert!(rt; are_woken(&rt, tasks, &[second]));
-    let (polled, _) = poll_once(&rt, tasks, &mut w);
-    assert_eq!(rt; polled, Poll::Ready(Ok(())));
-}
-
-// A thread-safe `set` wakes before it returns, so no wake is held back. What holds here as there: whichever task polls a
-// told wait, it is ready, and that poll wakes nobody.
-#[test]
-fn event_held_wake(rt: HostRuntime) {
-    let tasks = &Queue::new(&rt, Doorbell::spinning()).expect(&rt, "memory");
-    let event = ManualResetEvent::new(rt.alloc(), rt, false);
-    let (mut w, first) = registered(&rt, tasks, &event);
-    event.set();
-    assert!(rt; are_woken(&rt, tasks, &[first]));
-    let (polled, _) = poll_once(&rt, tasks, &mut w);
-    assert!(rt; polled == Poll::Ready(Ok(())) && are_woken(&rt, tasks, &[]));
-}
-
-// A poll after the end stays pending and changes nothing of the event.
-#[test]
-fn event_ended_wait(rt: HostRuntime) {
-    let tasks = &Queue::new(&rt, Doorbell::spinning()).expect(&rt, "memory");
-    let event = ManualResetEvent::new(rt.alloc(), rt, true);
-    let mut w = event.wait().expect(&rt, "memory");
-    let (polled, _) = poll_once(&rt, tasks, &mut w);
-    assert!(rt; polled == Poll::Ready(Ok(())) && w.is_terminated());
-    event.reset();
-    let (_v, other) = registered(&rt, tasks, &event);
-    let (polled, _) = poll_once(&rt, tasks, &mut w);
-    assert!(rt; polled.is_pending() && w.is_terminated() && !event.is_set());
-    event.set();
-    assert!(rt; are_woken(&rt, tasks, &[other]));
-}
-
-#[test]
-fn event_cancel_told(rt: HostRuntime) {
-    let tasks = &Queue::new(&rt, Doorbell::spinning()).expect(&rt, "memory");
-    let event = ManualResetEvent::new(rt.alloc(), rt, false);
-    let (a, first) = registered(&rt, tasks, &event);
-    let (mut b, second) = registered(&rt, tasks, &event);
-    event.set();
-    assert!(rt; are_woken(&rt, tasks, &[first, second]));
-    event.reset();
-    let (_c, _) = registered(&rt, tasks, &event);
-    drop(a);
-    assert!(rt; are_woken(&rt, tasks, &[]));
-    let (polled, _) = poll_once(&rt, tasks, &mut b);
-    assert_eq!(rt; polled, Poll::Ready(Ok(())));
-}
-
-// A wait that is dropped while it is registered is not woken by a later `set`, and one that was not polled wakes nobody.
-#[test]
-fn a_dropped_wait_is_unregistered(rt: HostRuntime) {
-    let tasks = &Queue::new(&rt, Doorbell::spinning()).expect(&rt, "memory");
-    let event = ManualResetEvent::new(rt.alloc(), rt, false);
-    for _ in 0..100 {
-        let (wait, task) = registered(&rt, tasks, &event);
-        drop(wait);
-        assert!(rt; are_woken(&rt, tasks, &[task]));
-        drop(event.wait().expect(&rt, "memory"));
-        assert!(rt; are_woken(&rt, tasks, &[]));
-    }
-    event.set();
-    assert!(rt; are_woken(&rt, tasks, &[]));
-}
-
-#[test]
-fn a_pending_poll_by_the_same_task_wakes_nobody(rt: HostRuntime) {
-    let task = MockTask::new(&rt).expect(&rt, "memory");
-    let event = ManualResetEvent::new(rt.alloc(), rt, false);
-    let mut wait = event.wait().expect(&rt, "memory");
-    for _ in 0..4 {
-        assert!(rt; task.poll(&mut wait).is_pending() && !task.is_woken());
-    }
-    event.set();
-    assert!(rt; task.is_woken());
-    assert!(rt; task.poll(&mut wait).is_ready() && !task.is_woken());
-}
 
 // Counts the polls of a future.
 #[derive(Drop)]

@@ -105,9 +105,7 @@ impl<C: Clock + Drop, R: Blocking> TimerService<C, R> {
         };
         self.monitor.call(shared, Timed::run_by);
         for _ in rt.forever() {
-            let left = self
-                .monitor
-                .call(LONGEST_SLEEP, Timed::check_and_plan);
+            let left = self.monitor.call(LONGEST_SLEEP, Timed::check_and_plan);
             if until.is_set() {
                 break;
             }

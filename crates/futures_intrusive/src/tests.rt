@@ -1,12 +1,10 @@
-//! Tests of the shared ends, and of the crates below through their public names.
-mod channels;
+//! Tests of the shared ends, of what threads share, and of the names under which users find both.
 mod drawn_threads;
+mod driver;
 mod ends;
-mod locks;
+mod flavours;
 mod pages;
-mod parts;
 mod paths;
 mod refusals;
 mod tasks;
-mod texts;
 mod threads;

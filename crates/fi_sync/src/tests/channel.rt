@@ -1,12 +1,11 @@
 //! The thread-safe channel of many values.
 
-use super::{are_woken, poll_once, receives, sends, shares, waits};
-use crate::{Channel, GenericChannel, UnbufferedChannel};
-use fi_channels::{SendFault, TryReceiveError, TrySendError};
+use super::{sends, shares};
+use crate::{Channel, GenericChannel};
+use fi_channels::TrySendError;
 use fi_parts::buffer::{FixedHeapBuf, GrowingHeapBuf, RingBuf};
-use futures::Future;
 use futures::executor::block_on;
-use futures::task::{Doorbell, Poll, Queue};
+use futures::test::MockTask;
 use std::alloc::AllocGlobal;
 use std::process::Abort;
 use std::random::RandomSource;
@@ -14,31 +13,12 @@ use std::sync::Wait;
 use std::thread;
 use std::thread::Threads;
 
-// Whether a send is ready, with its value accepted.
-fn is_sent<R: Wait + Abort, F: Future<Output = Result<(), SendFault<u64>>>>(
-    rt: &R,
-    tasks: &Queue,
-    send: &mut F,
-) -> bool
-    requires { F.can_poll send.old }
-{
-    let (polled, _) = poll_once(rt, tasks, send);
-    matches!(polled, Poll::Ready(Ok(())))
-}
-
-// Whether a send is told that the channel is closed, and gets this value back.
-fn is_sent_back<R: Wait + Abort, F: Future<Output = Result<(), SendFault<u64>>>>(
-    rt: &R,
-    tasks: &Queue,
-    send: &mut F,
-    value: u64,
-) -> bool
-    requires { F.can_poll send.old }
-{
-    match poll_once(rt, tasks, send).0 {
-        Poll::Ready(Err(SendFault::Closed(back))) => back == value,
-        _ => false,
-    }
+// Whether a channel counts so many values, and says that it is full.
+fn is_filled<R: Wait, B: RingBuf<Item = u64>>(
+    channel: &GenericChannel<u64, B, R>,
+    capacity: u64,
+) -> bool {
+    channel.len() as u64 == capacity && channel.capacity() as u64 == capacity && channel.is_full()
 }
 
 // Whether a channel has room for so many values, and no more. Once it is closed it says so.
@@ -46,16 +26,22 @@ fn holds<R: Wait, B: RingBuf<Item = u64>>(
     channel: &GenericChannel<u64, B, R>,
     capacity: u64,
 ) -> bool {
+    if channel.is_closed() || !channel.is_empty() || channel.is_full() {
+        return false;
+    }
     for value in 0..capacity {
         if channel.try_send(value).is_err() {
             return false;
         }
     }
+    if !is_filled(channel, capacity) || channel.is_empty() {
+        return false;
+    }
     if !matches!(channel.try_send(9), Err(TrySendError::Full(9))) {
         return false;
     }
     let is_closed = channel.close().is_newly_closed() && !channel.close().is_newly_closed();
-    is_closed && matches!(channel.try_send(8), Err(TrySendError::Closed(8)))
+    is_closed && channel.is_closed() && matches!(channel.try_send(8), Err(TrySendError::Closed(8)))
 }
 
 #[test]
@@ -73,81 +59,18 @@ fn a_channel_has_the_capacity_asked_for(rt: HostRuntime) {
     assert!(rt; holds(&array, 1000));
 }
 
+// A send that is cancelled gives its value back, unless the channel has taken it.
 #[test]
-fn channel_two_places(rt: HostRuntime) {
-    let tasks = &Queue::new(&rt, Doorbell::spinning()).expect(&rt, "memory");
-    let channel = Channel::<u64, 2, HostRuntime>::new(rt.alloc(), rt);
-    assert!(rt; channel.try_send(1).is_ok());
-    let mut b = channel.send(2).ok().expect(&rt, "memory");
-    assert!(rt; is_sent(&rt, tasks, &mut b));
-    let mut c = channel.send(3).ok().expect(&rt, "memory");
-    let third = waits(&rt, tasks, &mut c);
-    assert!(rt; channel.try_receive() == Ok(1) && are_woken(&rt, tasks, &[third]));
-    assert!(rt; channel.try_receive() == Ok(2) && channel.try_receive() == Ok(3));
-    assert!(rt; channel.try_receive() == Err(TryReceiveError::Empty));
-    assert!(rt; is_sent(&rt, tasks, &mut c) && c.is_terminated());
-    assert!(rt; are_woken(&rt, tasks, &[]));
-}
-
-#[test]
-fn channel_rendezvous(rt: HostRuntime) {
-    let tasks = &Queue::new(&rt, Doorbell::spinning()).expect(&rt, "memory");
-    let channel = UnbufferedChannel::<u64, HostRuntime>::new(rt.alloc(), rt);
-    let mut a = channel.receive().expect(&rt, "memory");
-    let first = waits(&rt, tasks, &mut a);
-    let mut b = channel.receive().expect(&rt, "memory");
-    let second = waits(&rt, tasks, &mut b);
-    let mut send = channel.send(7).ok().expect(&rt, "memory");
-    let third = waits(&rt, tasks, &mut send);
-    assert!(rt; are_woken(&rt, tasks, &[first]));
-    drop(a);
-    assert!(rt; are_woken(&rt, tasks, &[second]));
-    assert!(rt; receives(&rt, tasks, &mut b, Some(7)) && are_woken(&rt, tasks, &[third]));
-    assert!(rt; is_sent(&rt, tasks, &mut send));
-}
-
-#[test]
-fn channel_close(rt: HostRuntime) {
-    let tasks = &Queue::new(&rt, Doorbell::spinning()).expect(&rt, "memory");
+fn a_cancelled_send_gives_its_value_back(rt: HostRuntime) {
+    let task = MockTask::new(&rt).expect(&rt, "memory");
     let channel = Channel::<u64, 1, HostRuntime>::new(rt.alloc(), rt);
     assert!(rt; channel.try_send(1).is_ok());
-    let mut b = channel.send(2).ok().expect(&rt, "memory");
-    let second = waits(&rt, tasks, &mut b);
-    let mut c = channel.send(3).ok().expect(&rt, "memory");
-    let third = waits(&rt, tasks, &mut c);
-    assert!(rt; channel.close().is_newly_closed() && are_woken(&rt, tasks, &[second, third]));
-    assert!(rt; is_sent_back(&rt, tasks, &mut b, 2) && b.cancel().is_none());
-    assert!(rt; c.cancel() == Some(3) && !channel.close().is_newly_closed());
+    let mut first = channel.send(2).ok().expect(&rt, "memory");
+    let mut second = channel.send(3).ok().expect(&rt, "memory");
+    assert!(rt; task.poll(&mut first).is_pending() && task.poll(&mut second).is_pending());
+    assert!(rt; first.cancel() == Some(2) && first.is_terminated());
     assert!(rt; channel.try_receive() == Ok(1));
-    assert!(rt; channel.try_receive() == Err(TryReceiveError::Closed));
-}
-
-#[test]
-fn channel_close_leaves_what_is_stored(rt: HostRuntime) {
-    let tasks = &Queue::new(&rt, Doorbell::spinning()).expect(&rt, "memory");
-    let channel = Channel::<u64, 1, HostRuntime>::new(rt.alloc(), rt);
-    assert!(rt; channel.try_send(1).is_ok() && channel.close().is_newly_closed());
-    let mut a = channel.receive().expect(&rt, "memory");
-    assert!(rt; receives(&rt, tasks, &mut a, Some(1)));
-    let mut b = channel.receive().expect(&rt, "memory");
-    assert!(rt; receives(&rt, tasks, &mut b, None));
-}
-
-// A cancelled send gives its value back if the channel hasn't taken it. Its waker wakes its own task when it is let go.
-#[test]
-fn channel_cancelled_send(rt: HostRuntime) {
-    let tasks = &Queue::new(&rt, Doorbell::spinning()).expect(&rt, "memory");
-    let channel: GenericChannel<u64, GrowingHeapBuf<u64>, HostRuntime> =
-        GenericChannel::with_capacity(rt.alloc(), rt, 1).expect(&rt, "memory");
-    assert!(rt; channel.try_send(1).is_ok());
-    let mut b = channel.send(2).ok().expect(&rt, "memory");
-    let second = waits(&rt, tasks, &mut b);
-    let mut c = channel.send(3).ok().expect(&rt, "memory");
-    let third = waits(&rt, tasks, &mut c);
-    assert!(rt; b.cancel() == Some(2) && b.is_terminated());
-    assert!(rt; channel.try_receive() == Ok(1) && are_woken(&rt, tasks, &[second, third]));
-    assert!(rt; c.cancel().is_none() && channel.try_receive() == Ok(3));
-    assert!(rt; channel.try_receive() == Err(TryReceiveError::Empty));
+    assert!(rt; second.cancel().is_none() && channel.try_receive() == Ok(3));
 }
 
 // The channel is moved, shared by reference, and its futures are moved to other threads.

@@ -1,5 +1,5 @@
 //! Four threads at one primitive: no value, no permit and no wake is lost.
-ghost use Rattle.std.specs.Prelude.{◌≡◌};
+ghost use Rattle.fi_sync.specs.Blanks.{IsLockBlank, IsPermitBlank};
 
 use crate::{Blocking, Channel, Mutex, Semaphore};
 use std::alloc::AllocGlobal;
@@ -37,9 +37,7 @@ fn locks<R, L>(rt: R, blank: Blank, is_fair: bool)
 where
     R: Blocking + Threads + Abort + Copy + Send + Sync,
     L: Ledger + Send + Sync,
-    requires name { blank.name ≡ L.name }
-    requires parts { blank.parts ≡ L.parts }
-    requires one { blank.parts ≡ 1 }
+    requires blank { IsLockBlank L.Ledger blank }
 {
     let mutex = Mutex::<u64, R, L>::new(rt.alloc(), rt, blank, 0, is_fair);
     add_all(&rt, &mutex);
@@ -81,9 +79,7 @@ fn acquires<R, L>(rt: R, blank: Blank)
 where
     R: Blocking + Threads + Abort + Copy + Send + Sync,
     L: Ledger + Send + Sync,
-    requires name { blank.name ≡ L.name }
-    requires parts { blank.parts ≡ L.parts }
-    requires all { blank.parts ≡ 18446744073709551615 }
+    requires blank { IsPermitBlank L.Ledger blank }
 {
     let semaphore = Semaphore::<R, L>::new(rt.alloc(), rt, blank, true, 3);
     let granted = AtomicU64::new(0);

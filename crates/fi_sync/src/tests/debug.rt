@@ -1,5 +1,5 @@
 //! The texts of `Debug`: those of the Rust crate.
-ghost use Rattle.std.specs.Prelude.{◌≡◌};
+ghost use Rattle.fi_sync.specs.Blanks.{IsLockBlank, IsPermitBlank};
 
 use crate::{
     Channel, ManualResetEvent, Mutex, OneshotBroadcastChannel, OneshotChannel, Semaphore,
@@ -71,9 +71,7 @@ fn a_stream_shows_its_name(rt: HostRuntime) {
 }
 
 fn mutex_shows<R: Wait + AllocGlobal + Copy, L: Ledger>(rt: R, blank: Blank) -> Option<bool>
-    requires name { blank.name ≡ L.name }
-    requires parts { blank.parts ≡ L.parts }
-    requires one { blank.parts ≡ 1 }
+    requires blank { IsLockBlank L.Ledger blank }
 {
     let alloc = rt.alloc();
     let mutex = Mutex::<u64, R, L>::new(alloc, rt, blank, 7, true);
@@ -102,9 +100,7 @@ fn a_mutex_shows_whether_it_is_locked(rt: HostRuntime) {
 }
 
 fn semaphore_shows<R: Wait + AllocGlobal + Copy, L: Ledger>(rt: R, blank: Blank) -> Option<bool>
-    requires name { blank.name ≡ L.name }
-    requires parts { blank.parts ≡ L.parts }
-    requires all { blank.parts ≡ 18446744073709551615 }
+    requires blank { IsPermitBlank L.Ledger blank }
 {
     let alloc = rt.alloc();
     let semaphore = Semaphore::<R, L>::new(alloc, rt, blank, true, 5);
@@ -127,9 +123,7 @@ fn a_semaphore_shows_its_permits(rt: HostRuntime) {
 fn shared_semaphore_shows<R, L: Ledger>(rt: R, blank: Blank) -> Option<bool>
 where
     R: Wait + AllocGlobal + Copy + Drop,
-    requires name { blank.name ≡ L.name }
-    requires parts { blank.parts ≡ L.parts }
-    requires all { blank.parts ≡ 18446744073709551615 }
+    requires blank { IsPermitBlank L.Ledger blank }
 {
     let alloc = rt.alloc();
     let semaphore = SharedSemaphore::<R, L>::new(alloc, rt, blank, true, 5).ok()?;

@@ -1,5 +1,5 @@
 //! How often tasks are polled. A poll that is ready makes no waker, whose drop would have its task polled once more.
-ghost use Rattle.std.specs.Prelude.{◌≡◌};
+ghost use Rattle.fi_sync.specs.Blanks.{IsLockBlank};
 
 use crate::{Channel, ManualResetEvent, Mutex, TimerService};
 use fi_parts::MockClock;
@@ -61,9 +61,7 @@ fn lock_in_peace<R: Wait + Abort + Copy + AllocGlobal, L: Ledger>(
     task: &MockTask,
     blank: Blank,
 )
-    requires name { blank.name ≡ L.name }
-    requires parts { blank.parts ≡ L.parts }
-    requires one { blank.parts ≡ 1 }
+    requires blank { IsLockBlank L.Ledger blank }
 {
     let mutex = Mutex::<u64, R, L>::new(rt.alloc(), rt, blank, 7, false);
     for _ in 0..1_000u64 {

@@ -2,7 +2,6 @@
 ghost use Rattle.std.specs.Prelude.{◌≡◌, length};
 ghost use Rattle.fi_sync.specs.Wakes.{TakesOldest};
 
-use super::are_woken;
 use crate::{Guarded, HasOutbox, PollWaker};
 use futures::task::{Doorbell, Poll, Queue, Source, Waker};
 use std::process::Abort;
@@ -32,6 +31,25 @@ impl HasOutbox for Named {
     fn wake_count(&self) -> usize {
         self.wakers.len()
     }
+}
+
+// Whether just these tasks were woken, in this order. They are ended.
+fn are_woken<R: Wait + Abort>(rt: &R, tasks: &Queue, expected: &[usize]) -> bool {
+    let last = tasks.add().expect(rt, "memory");
+    let end = last.task();
+    last.schedule();
+    for expected in expected {
+        let cx = tasks.next(rt).expect(rt, "a task is queued");
+        let task = cx.task();
+        cx.cancel();
+        if task != *expected {
+            return false;
+        }
+    }
+    let cx = tasks.next(rt).expect(rt, "a task is queued");
+    let task = cx.task();
+    cx.cancel();
+    task == end
 }
 
 // A waker of a task of its own, and that task.

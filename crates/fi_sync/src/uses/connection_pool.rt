@@ -1,5 +1,5 @@
 //! Four threads share two connections. A permit of the semaphore stands for a free connection; the mutex keeps those that are free.
-ghost use Rattle.std.specs.Prelude.{◌≡◌};
+ghost use Rattle.fi_sync.specs.Blanks.{IsLockBlank, IsPermitBlank};
 
 use crate::{Blocking, Mutex, Semaphore};
 use std::alloc::AllocGlobal;
@@ -72,12 +72,8 @@ where
     R: Blocking + Threads + Abort + Copy + Send + Sync,
     L: Ledger + Send + Sync,
     K: Ledger + Send + Sync,
-    requires name { permits.name ≡ L.name }
-    requires parts { permits.parts ≡ L.parts }
-    requires all { permits.parts ≡ 18446744073709551615 }
-    requires lock_name { lock.name ≡ K.name }
-    requires lock_parts { lock.parts ≡ K.parts }
-    requires one { lock.parts ≡ 1 }
+    requires permits { IsPermitBlank L.Ledger permits }
+    requires lock { IsLockBlank K.Ledger lock }
 {
     let free = vec![in rt.alloc(); 0, 1].expect(&rt, "memory");
     let pool = Mutex::<Vec<u64>, R, K>::new(rt.alloc(), rt, lock, free, true);

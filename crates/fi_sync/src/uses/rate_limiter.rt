@@ -1,5 +1,5 @@
 //! Two requests in each period: a request takes a permit for good, and a timer gives the next two.
-ghost use Rattle.std.specs.Prelude.{◌≡◌};
+ghost use Rattle.fi_sync.specs.Blanks.{IsPermitBlank};
 
 use crate::{Blocking, Semaphore, TimerService, wait_for};
 use fi_parts::Clock;
@@ -97,9 +97,7 @@ fn limit<R, L>(rt: R, blank: Blank)
 where
     R: Blocking + Threads + Abort + Copy + Send + Sync,
     L: Ledger + Send + Sync,
-    requires name { blank.name ≡ L.name }
-    requires parts { blank.parts ≡ L.parts }
-    requires all { blank.parts ≡ 18446744073709551615 }
+    requires blank { IsPermitBlank L.Ledger blank }
 {
     let now = AtomicU64::new(0);
     let served = AtomicU64::new(0);

@@ -1,6 +1,6 @@
 //! Each value is dropped once, whatever is dropped first, and with no lock held.
 
-use crate::channel::shared::channel;
+use crate::channel::shared::{Sender, channel};
 use fi_channels::TrySendError;
 use futures::test::MockTask;
 use std::alloc::AllocGlobal;
@@ -84,6 +84,25 @@ fn each_value_is_dropped_once(rt: HostRuntime) {
     }
 }
 
+// The sender of a channel whose last receiver was dropped while a value was buffered.
+fn without_receiver<R>(rt: R, counted: &Counted) -> Sender<Counted, R>
+where
+    R: Wait + Abort + Drop + Copy + AllocGlobal,
+{
+    let ends = channel::<Counted, R>(rt.alloc(), rt, 2);
+    let (sender, receiver) = ends.expect(&rt, "memory");
+    assert!(rt; sender.try_send(owner(&rt, counted)).is_ok());
+    drop(receiver);
+    sender
+}
+
+#[test]
+fn last_receiver_drops_what_is_buffered(rt: HostRuntime) {
+    let counted = Rc::new(rt.alloc(), 7u64).expect(&rt, "memory");
+    let sender = without_receiver(rt, &counted);
+    assert!(rt; Rc::strong_count(&counted) == 1 && !sender.close().is_newly_closed());
+}
+
 // Where two threads meet: one in a value's drop, the other with a call.
 #[derive(Drop)]
 struct Meeting {
@@ -129,6 +148,14 @@ impl Drop for Guest<'_> {
     }
 }
 
+// Whether a send that is made once a value's drop has begun finds the channel closed.
+fn send_is_refused<'a, R: Wait + Drop>(sender: Sender<Guest<'a>, R>, meeting: &'a Meeting) -> bool {
+    let has_begun = was_set(&meeting.has_begun);
+    let sent = sender.try_send(Guest { meeting: None });
+    meeting.was_called.store(true, Ordering::SeqCst);
+    has_begun && matches!(sent, Err(TrySendError::Closed(_)))
+}
+
 // What the last receiver clears is let go while another thread sends.
 #[test]
 fn cleared_values_are_let_go_without_the_lock(rt: HostRuntime) {
@@ -139,15 +166,7 @@ fn cleared_values_are_let_go_without_the_lock(rt: HostRuntime) {
         meeting: Some(meeting),
     };
     assert!(rt; sender.try_send(guest).is_ok());
-    let sends = move || {
-        let _ = was_set(&meeting.has_begun);
-        let is_closed = matches!(
-            sender.try_send(Guest { meeting: None }),
-            Err(TrySendError::Closed(_))
-        );
-        meeting.was_called.store(true, Ordering::SeqCst);
-        is_closed
-    };
-    let ((), is_closed) = thread::join(&rt, move || drop(receiver), sends);
-    assert!(rt; is_closed && meeting.was_met.load(Ordering::SeqCst));
+    let sends = move || send_is_refused(sender, meeting);
+    let ((), is_refused) = thread::join(&rt, move || drop(receiver), sends);
+    assert!(rt; is_refused && meeting.was_met.load(Ordering::SeqCst));
 }
