@@ -11,7 +11,7 @@ use Rattle.fi_parts.specs.declared.phase.Notice.TheVariants.{Renew}
 use Rattle.fi_parts.specs.declared.phase.Phase.{Phase}
 use Rattle.fi_parts.specs.declared.phase.Phase.TheVariants.{Fresh, Registered, Told, Complete, Ended}
 use Rattle.fi_parts.specs.Buffer.{Bounded, Fits}
-use Rattle.fi_parts.specs.Effects.{completes_first}
+use Rattle.fi_parts.specs.Effects.{completes_first, keeps_asks}
 use Rattle.fi_parts.specs.Effects.WaiterEffect.{NoChange, Inserts, Registers, KeepsWaiting, Ends, Removes, NotifiesAll}
 use Rattle.fi_parts.specs.Machine.{AllowsEffect, waker_effect, poll_effect}
 use Rattle.fi_parts.specs.Oldest.{complete_first, complete_oldest, pop_oldest, asks_of_first, asks_of_oldest}
@@ -48,7 +48,7 @@ use Rattle.fi_channels.specs.Channel.{CancelsReceiveAs, CancelsReceive}
 use Rattle.fi_channels.specs.Channel.{TriesSend, TriesNext, TriesReceive, ClosesAt, Closes, Wakes, IsSound, OwesNoWake}
 use Rattle.fi_channels.specs.declared.two_sides.Waiter.{Waiter}
 use Rattle.fi_channels.specs.declared.two_sides.Waiter.TheVariants.{Send, Receive}
-use Rattle.fi_channels.specs.TwoSidedEffects.{TwoSidedEffect, TakesOn, AllowsTwoSided, on_sends, on_receives}
+use Rattle.fi_channels.specs.TwoSidedEffects.{TwoSidedEffect, TakesOn, AllowsTwoSided, KeepsKinds, on_sends, on_receives}
 use Rattle.fi_channels.specs.TwoSidedEffects.TwoSidedEffect.{OnSends, OnReceives, PopsFirst, Then}
 use Rattle.fi_channels.specs.ChannelFields.{ChannelWaiters}
 use Rattle.fi_channels.specs.TwoSidedMachine.{TwoSidedLine, TwoSidedStep}
@@ -60,6 +60,12 @@ use Rattle.fi_channels.proofs.OwnedValues.{Owned, OwnedAt, owned-made, owned-wit
 use Rattle.fi_channels.proofs.OwnedValues.{owned-emptied, owned-completed}
 use Rattle.fi_channels.proofs.ToldReceives.{Enough, none_told, enough_fewer, enough_but, enough_beside, oldest_enough, passed_on}
 use Rattle.fi_channels.proofs.TwoSidedMachines.{two_sided_initial, two_sided_line, two_sided_line_sound}
+
+-- a receive that is given its value is of the kind that it was
+given_keeps : (W : Type 0) (kind : Option ReceiveKind) (name : ℕ) → keeps_asks (is_given {W = W} kind name) ≡ true
+given_keeps W (Some Stream) name = refl
+given_keeps W (Some Single) name = refl
+given_keeps W None name = refl
 
 -- what a poll of a send with this answer is to the wakers of sends: a refusal leaves them as they are
 abbrev pub sent_effect : {T W : Type 0} → ℕ → W → Poll (Result (Unit {0}) (SendFault T)) → WakerEffect W
@@ -244,11 +250,11 @@ module _ {T W : Type 0} where
     abbrev pub Goes : (on_send on_receive : WakerEffect W) → Type 0
     Goes on_send on_receive = TwoSidedLine rules on_send on_receive old new × Holds new
 
-    goes : (own : Buffered T) (effect : TwoSidedEffect (Option T) ReceiveKind W) → TwoSidedStep old own effect new →
+    goes : (own : Buffered T) (effect : TwoSidedEffect (Option T) ReceiveKind W) → TwoSidedStep old own effect new → KeepsKinds effect →
         AllowsTwoSided is_send_phase is_receive_phase old.waiting effect → Holds old → Now →
         Goes (on_sends effect) (on_receives effect)
-    goes own effect steps allows was keeps =
-        let line = two_sided_line rules own effect old new steps allows in (
+    goes own effect steps kinds allows was keeps =
+        let line = two_sided_line rules own effect old new steps kinds allows in (
           line,
           (
             record {
@@ -271,7 +277,7 @@ module _ {T W : Type 0} where
           ),
           ap (λ (m : ChannelMachine T W). m.waiting.receives) same,
         ),
-      ) tt,
+      ) tt tt,
       subst Holds (sym same) was,
     )
 
@@ -305,7 +311,7 @@ module _ {T W : Type 0} where
     makes_send value name did was =
         let side = old.waiting.sends in
         let becomes = becomes-made side name (Some value) in
-        goes old.own (OnSends (Inserts name (Some value))) did tt was
+        goes old.own (OnSends (Inserts name (Some value))) did tt tt was
         (keeps_at old.own (insert_fresh side name (Some value)) old.waiting.receives did.0 did.1.0.1 did.1.1
         (sends_alone (insert_fresh side name (Some value)) (keeps_of was) (owned-made side name value was.0.owned) (omega arith)
         (not_joined side (insert_fresh side name (Some value)) name (Some Fresh) becomes refl)))
@@ -314,7 +320,7 @@ module _ {T W : Type 0} where
     makes_receive kind name did was =
         let side = old.waiting.receives in
         let becomes = becomes-made side name kind in
-        goes old.own (OnReceives (Inserts name kind)) did tt was
+        goes old.own (OnReceives (Inserts name kind)) did refl tt was
         (keeps_at old.own old.waiting.sends (insert_fresh side name kind) did.0 did.1.1 did.1.0.1
         (receives_alone (insert_fresh side name kind) name (Some Fresh) (keeps_of was) becomes (ap is_told did.1.0.0)
         (not_joined side (insert_fresh side name kind) name (Some Fresh) becomes refl)))
@@ -322,14 +328,14 @@ module _ {T W : Type 0} where
     pub cancels_send : (name : ℕ) (answer : Option T) → CancelsSend old name answer new → Holds old → Goes (Leaves name) NoEffect
     cancels_send name answer did was =
         let side = old.waiting.sends in
-        goes old.own (OnSends (Removes name)) did.1 tt was
+        goes old.own (OnSends (Removes name)) did.1 tt tt was
         (keeps_at old.own (without_future side name) old.waiting.receives did.1.0 did.1.1.0.1 did.1.1.1
         (sends_alone (without_future side name) (keeps_of was) (owned-forgotten side name was.0.owned) (shorter name side.queue)
         (not_joined side (without_future side name) name None (becomes-forgotten side name) refl)))
 
     pub wakes : (answer : Option W) → Wakes old answer new → Holds old → Goes (gives answer) (gives answer)
     wakes answer did was =
-        goes old.own (PopsFirst answer) did tt was
+        goes old.own (PopsFirst answer) did tt tt was
         (keeps_at old.own old.waiting.sends old.waiting.receives did.0 (ap (λ (m : ChannelWaiters T W). m.sends) did.1.1)
         (ap (λ (m : ChannelWaiters T W). m.receives) did.1.1) (keeps_of was))
 
@@ -341,7 +347,7 @@ module _ {T W : Type 0} where
         let sides = old.waiting in
         let nobody = λ (q : ℕ). unregistered_fresh (phase_of sides.receives q) in
         goes (record old.own { is_open = false }) (Then (OnReceives (NotifiesAll Renew)) (OnSends (NotifiesAll Renew))) step
-        (refl, λ m did2. refl, refl, refl) was
+        (refl, tt) (refl, λ m did2. refl, refl, refl) was
         (keeps_at (record old.own { is_open = false }) (clear_queue Fresh sides.sends) (clear_queue Fresh sides.receives) step.0
         (step.1.2.0.0 ∙ ap (clear_queue Fresh) step.1.1.1) (step.1.2.1 ∙ step.1.1.0.0) (record {
           owned = owned-emptied sides.sends (sends_in sides.out) was.0.waiters.sends.ordered was.0.owned;
@@ -388,7 +394,7 @@ module _ {T W : Type 0} where
     tries_send value (Ok done) did was =
         let own = did.2 in
         let step = did.4 in
-        goes own tells_oldest step refl was
+        goes own tells_oldest step refl refl was
         (keeps_at own old.waiting.sends (pop_oldest Told old.waiting.receives) step.0 step.1.1 step.1.0.0
         (told_one_more own old.waiting.sends was was.0.owned (stored_fits own value did.3)
         (stored_more own value old.waiting.sends.queue did.3)
@@ -432,7 +438,7 @@ module _ {T W : Type 0} where
         let step = did.1 in
         let queue = old.waiting.sends.queue in
         subst (λ (e : WakerEffect W). Goes e NoEffect) (completing_quiet T W queue)
-        (goes (record old.own { buffer = next.1 }) (completes_oldest old) step (completing_allowed _ queue) was
+        (goes (record old.own { buffer = next.1 }) (completes_oldest old) step tt (completing_allowed _ queue) was
         (keeps_at (record old.own { buffer = next.1 }) completed_side old.waiting.receives step.0
         (completes queue old.waiting.sends new.waiting.sends old.waiting.out new.waiting.out refl step.1.0) step.1.1
         (taken_keeps next old.waiting.receives is was
@@ -447,7 +453,7 @@ module _ {T W : Type 0} where
     line_cancels phase name is off step was =
         let side = old.waiting.receives in
         let becomes = becomes-forgotten side name in
-        goes old.own (OnReceives (Removes name)) step tt was
+        goes old.own (OnReceives (Removes name)) step refl tt was
         (keeps_at old.own old.waiting.sends (without_future side name) step.0 step.1.1 step.1.0.1
         (receives_alone (without_future side name) name None (keeps_of was) becomes (ap is_told is ∙ off)
         (not_joined side (without_future side name) name None becomes refl)))
@@ -457,7 +463,7 @@ module _ {T W : Type 0} where
         Goes NoEffect (Leaves name)
     cancels_as (Some Told) name is step was =
         let side = old.waiting.receives in
-        goes old.own (Then (OnReceives (Removes name)) tells_oldest) step (tt, λ m did2. refl, refl, refl) was
+        goes old.own (Then (OnReceives (Removes name)) tells_oldest) step (refl, refl) (tt, λ m did2. refl, refl, refl) was
         (keeps_at old.own old.waiting.sends (pop_oldest Told (without_future side name)) step.0 (step.1.2.1 ∙ step.1.1.1)
         (step.1.2.0.0 ∙ ap (pop_oldest Told) step.1.1.0.1) (record {
           owned = was.0.owned;
@@ -521,7 +527,7 @@ module _ {T W : Type 0} where
         subst Receives (sym did.0) (
           subst (λ (e : WakerEffect W). Goes old new NoEffect e) (given_leaves kind name)
               (goes old new (record old.own { buffer = next.1 }) (Then (OnReceives (is_given kind name))
-              (completes_oldest old)) step
+              (completes_oldest old)) step (given_keeps W kind name, tt)
               (given_allowed _ kind name, λ m did2. completing_allowed _ queue, completing_quiet T W queue, refl) was
               (keeps_at old new (record old.own { buffer = next.1 }) (completed_side old new) mid.receives step.0 sent received
               (taken_keeps old new next mid.receives is was (λ n count. enough_but old.waiting.receives mid.receives name n
@@ -535,7 +541,7 @@ module _ {T W : Type 0} where
         let p = some_phase (receive_phase old name) step.1.0.0 in
         let becomes = becomes-with_phase side name (Registered waker) (side.queue ++ name ∷ []) (lives_as side name p.0 p.1) in
         subst Receives (sym did.0) (
-          goes old new old.own (OnReceives (Registers name waker)) step tt was
+          goes old new old.own (OnReceives (Registers name waker)) step refl tt was
               (keeps_at old new old.own old.waiting.sends (registered side name waker) step.0 step.1.1 step.1.0.1
               (quiet_keeps (registered side name waker) is was)),
           lives_received (registered side name waker) (Registered waker) step.1.0.1 becomes.here
@@ -547,7 +553,7 @@ module _ {T W : Type 0} where
         let p = some_phase (receive_phase old name) step.1.0.0 in
         let becomes = becomes-with_phase side name Ended side.queue (lives_as side name p.0 p.1) in
         subst Receives (sym did.0) (
-          goes old new old.own (OnReceives (Ends name)) step tt was
+          goes old new old.own (OnReceives (Ends name)) step refl tt was
               (keeps_at old new old.own old.waiting.sends (ended side name) step.0 step.1.1 step.1.0.1 (quiet_keeps
               (ended side name) is was)),
           lives_received (ended side name) Ended step.1.0.1 becomes.here (asks-with_phase side.live name Ended name),
@@ -562,7 +568,7 @@ module _ {T W : Type 0} where
         let side = old.waiting.receives in
         let becomes = becomes-with_phase side name (Registered waker) side.queue (live_if_registered side name step.1.0.0) in
         subst Receives (sym did.0) (
-          goes old new old.own (OnReceives (KeepsWaiting name waker)) step tt was
+          goes old new old.own (OnReceives (KeepsWaiting name waker)) step refl tt was
               (keeps_at old new old.own old.waiting.sends (stays side name waker) step.0 step.1.1 step.1.0.1
               (receives_alone old new (stays side name waker) name (Some (Registered waker)) (keeps_of old new was) becomes
               (registered_untold (receive_phase old name) step.1.0.0)
@@ -583,7 +589,7 @@ module _ {T W : Type 0} where
         let side = old.waiting.receives in
         let becomes = becomes-with_phase side name Ended side.queue (lives_as side name Ended is) in
         subst Receives (sym did.0) (
-          goes old new old.own (OnReceives (Ends name)) step tt was
+          goes old new old.own (OnReceives (Ends name)) step refl tt was
               (keeps_at old new old.own old.waiting.sends (ended side name) step.0 step.1.1 step.1.0.1
               (receives_alone old new (ended side name) name (Some Ended) (keeps_of old new was) becomes (ap is_told is)
               (not_joined side (ended side name) name (Some Ended) becomes refl))),
@@ -641,7 +647,7 @@ module _ {T W : Type 0} where
         let sent : new.waiting.sends ≡ finished_side =
         did2.3.1 ∙ ap (λ (s : Waiters (Option T) W). exchange s name None) did2.2.1 in
         subst Sends (sym did.0) (
-          goes old new old.own (OnSends (finishes name)) step (tt, λ m d. tt, refl) was
+          goes old new old.own (OnSends (finishes name)) step tt (tt, λ m d. tt, refl) was
               (keeps_at old new old.own finished_side old.waiting.receives step.0 sent step.1.1
               (sends_alone old new finished_side (keeps_of old new was)
               (owned-finished old.waiting.sends name Fresh fresh was.0.owned) (omega arith)
@@ -656,7 +662,7 @@ module _ {T W : Type 0} where
         let sent : new.waiting.sends ≡ finished_side =
         step.1.2.1 ∙ did2.3.1 ∙ ap (λ (s : Waiters (Option T) W). exchange s name None) did2.2.1 in
         subst Sends (sym did.0) (
-          goes old new own (Then (OnSends (finishes name)) tells_oldest) step ((tt, λ m d. tt, refl), λ m d. refl, refl, refl) was
+          goes old new own (Then (OnSends (finishes name)) tells_oldest) step (tt, refl) ((tt, λ m d. tt, refl), λ m d. refl, refl, refl) was
               (keeps_at old new own finished_side (pop_oldest Told old.waiting.receives) step.0 sent
               (step.1.2.0.0 ∙ ap (pop_oldest Told) step.1.1.1)
               (told_one_more old new own finished_side was (owned-finished old.waiting.sends name Fresh fresh was.0.owned)
@@ -673,7 +679,7 @@ module _ {T W : Type 0} where
         let longer : length (side.queue ++ name ∷ []) ≡ length side.queue + 1 = length-append side.queue (name ∷ []) in
         let sent : new.waiting.sends ≡ joined = step.1.2.1 ∙ step.1.1.0.1 in
         subst Sends (sym did.0) (
-          goes old new old.own (Then (OnSends (Registers name waker)) tells_oldest) step (tt, λ m d. refl, refl, refl) was
+          goes old new old.own (Then (OnSends (Registers name waker)) tells_oldest) step (tt, refl) (tt, λ m d. refl, refl, refl) was
               (keeps_at old new old.own joined (pop_oldest Told old.waiting.receives) step.0 sent
               (step.1.2.0.0 ∙ ap (pop_oldest Told) step.1.1.1)
               (told_one_more old new old.own joined was
@@ -695,7 +701,7 @@ module _ {T W : Type 0} where
         let side = old.waiting.sends in
         let becomes = becomes-with_phase side name (Registered waker) side.queue (lives_as side name (Registered before) is) in
         subst Sends (sym did.0) (
-          goes old new old.own (OnSends (KeepsWaiting name waker)) step tt was
+          goes old new old.own (OnSends (KeepsWaiting name waker)) step tt tt was
               (keeps_at old new old.own (stays side name waker) old.waiting.receives step.0 step.1.0.1 step.1.1
               (sends_alone old new (stays side name waker) (keeps_of old new was)
               (owned-with_phase side name (Registered before) (Registered waker) side.queue is refl was.0.owned) (omega arith)
@@ -707,7 +713,7 @@ module _ {T W : Type 0} where
         let side = old.waiting.sends in
         let becomes = becomes-with_phase side name Ended side.queue (lives_as side name Complete is) in
         subst Sends (sym did.0) (
-          goes old new old.own (OnSends (Ends name)) step tt was
+          goes old new old.own (OnSends (Ends name)) step tt tt was
               (keeps_at old new old.own (ended side name) old.waiting.receives step.0 step.1.0.1 step.1.1
               (sends_alone old new (ended side name) (keeps_of old new was)
               (owned-with_phase side name Complete Ended side.queue is refl was.0.owned) (omega arith)

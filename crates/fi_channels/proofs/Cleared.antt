@@ -1,5 +1,5 @@
 -- A channel that is closed and cleared is sound, owes no wake, and has no send that waits.
-use Rattle.std.proofs.Common.{◌≡◌, ◌≤◌, ℕ, Bool, true, false, Option, length, sym, ap, subst, refl, ◌∙◌, arith}
+use Rattle.std.proofs.Common.{◌≡◌, Bool, true, false, Option, sym, ap, subst, refl, ◌∙◌, arith}
 use Rattle.std.proofs.lemmas.Bool.{both_ways}
 use Rattle.fi_parts.specs.declared.errors.CloseStatus.{CloseStatus}
 use Rattle.fi_parts.specs.Buffer.{Bounded, empty}

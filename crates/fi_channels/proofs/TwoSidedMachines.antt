@@ -1,7 +1,7 @@
 -- What each line of a two-sided machine's table keeps.
 use Rattle.std.specs.Prelude.{List, ◌∷◌, refl}
 use Rattle.std.proofs.Common.{subst}
-use Rattle.fi_channels.specs.TwoSidedEffects.{TwoSidedEffect, AllowsTwoSided, on_sends, on_receives, waiting_sends, waiting_receives}
+use Rattle.fi_channels.specs.TwoSidedEffects.{TwoSidedEffect, AllowsTwoSided, KeepsKinds, on_sends, on_receives, waiting_sends, waiting_receives}
 use Rattle.fi_channels.specs.TwoSidedMachine.{TwoSidedMachine, TwoSidedRules, TwoSidedLine, TwoSidedStep, HasSoundSides, initial_two_sided}
 use Rattle.fi_parts.specs.WakerHistory.{WakerEffect, KeepsWakers}
 use Rattle.fi_parts.specs.Waiting.{Waiting}
@@ -15,9 +15,17 @@ module _ {S D E W : Type 0} (rules : TwoSidedRules W) where
 
   -- the line of a table
   pub two_sided_line : (own : S) (effect : TwoSidedEffect D E W) (old new : TwoSidedMachine S D E W) → TwoSidedStep old own effect new →
-      AllowsTwoSided rules.sending rules.receiving old.waiting effect → TwoSidedLine rules (on_sends effect) (on_receives effect) old new
-  two_sided_line own effect old new steps allows =
-      record { own = own; effect = effect; steps = steps; allows = allows; on_sends_is = refl; on_receives_is = refl }
+      KeepsKinds effect → AllowsTwoSided rules.sending rules.receiving old.waiting effect →
+      TwoSidedLine rules (on_sends effect) (on_receives effect) old new
+  two_sided_line own effect old new steps kinds allows = record {
+    own = own;
+    effect = effect;
+    steps = steps;
+    kinds = kinds;
+    allows = allows;
+    on_sends_is = refl;
+    on_receives_is = refl;
+  }
 
   module _ {send_wakers receive_wakers : WakerEffect W} (old new : TwoSidedMachine S D E W)
       (line : TwoSidedLine rules send_wakers receive_wakers old new) (was : HasSoundSides rules old) where

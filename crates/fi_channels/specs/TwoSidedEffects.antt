@@ -3,7 +3,7 @@ use Rattle.std.specs.Prelude.{◌≡◌, ℕ, Bool, true, Option, None, List, �
 use Rattle.fi_parts.specs.declared.phase.Phase.{Phase}
 use Rattle.fi_parts.specs.declared.phase.Phase.TheVariants.{Complete, Ended, Told}
 use Rattle.fi_channels.specs.declared.two_sides.Waiter.TheVariants.{Send, Receive}
-use Rattle.fi_parts.specs.Effects.{WaiterEffect, AreRegistered, renewed}
+use Rattle.fi_parts.specs.Effects.{WaiterEffect, AreRegistered, renewed, keeps_asks}
 use Rattle.fi_parts.specs.Effects.WaiterEffect.{NoChange, Inserts, Registers, RegistersApart, KeepsWaiting, Ends, EndsPlaced, Renews, Asks}
 use Rattle.fi_parts.specs.Effects.WaiterEffect.{Removes, NotifiesOldest, NotifiesAll, NotifiesListed, NotifiesFront, CompletesOldest}
 use Rattle.fi_parts.specs.Effects.WaiterEffect.{PopsOldest, AndThen}
@@ -107,3 +107,10 @@ module _ {D E W : Type 0} where
   AllowsTwoSided sending receiving old (Then one other) = AllowsTwoSided sending receiving old one
       × ((mid : TwoSidesModel D E W) → TakesTwoSided one old mid → AllowsTwoSided sending receiving mid other)
       × (on_sends other ≡ NoEffect) × (on_receives other ≡ NoEffect)
+
+-- Whoever receives is of the kind that it was.
+abbrev pub KeepsKinds : {D E W : Type 0} → TwoSidedEffect D E W → Type 0
+KeepsKinds (OnSends effect) = Unit {0}
+KeepsKinds (OnReceives effect) = keeps_asks effect ≡ true
+KeepsKinds (PopsFirst waker) = Unit {0}
+KeepsKinds (Then one other) = KeepsKinds one × KeepsKinds other

@@ -3,7 +3,7 @@ use Rattle.std.specs.Prelude.{◌≡◌, Bool, Option, refl}
 use Rattle.std.specs.Coded.{Coded, code_by, coded×}
 use Rattle.fi_parts.specs.declared.phase.Phase.{Phase}
 use Rattle.fi_parts.specs.Machine.{AllowsBasics}
-use Rattle.fi_channels.specs.TwoSidedEffects.{TwoSidedEffect, TakesTwoSided, AllowsTwoSided, on_sends, on_receives}
+use Rattle.fi_channels.specs.TwoSidedEffects.{TwoSidedEffect, TakesTwoSided, AllowsTwoSided, KeepsKinds, on_sends, on_receives}
 use Rattle.fi_channels.specs.TwoSidesModel.{TwoSidesModel, two_sides_code, no_waiters, AreBothSound}
 use Rattle.fi_parts.specs.WakerHistory.{WakerEffect}
 
@@ -42,6 +42,7 @@ pub record TwoSidedLine {S D E W : Type 0} (rules : TwoSidedRules W) (send_waker
   pub own : S
   pub effect : TwoSidedEffect D E W
   pub steps : TwoSidedStep old own effect new
+  pub kinds : KeepsKinds effect
   pub allows : AllowsTwoSided rules.sending rules.receiving old.waiting effect
   pub on_sends_is : on_sends effect ≡ send_wakers
   pub on_receives_is : on_receives effect ≡ receive_wakers

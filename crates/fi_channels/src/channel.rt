@@ -1,5 +1,6 @@
 //! The channel of many values, with sends and receives that wait.
 ghost use Rattle.std.specs.Prelude.{◌≡◌, ℕ, ◌==◌, not, Bool, true, false, Option, Some, None, IfOk, IfErr, OnErr, is_some, length};
+ghost use Rattle.futures.specs.Poll.{OnPending};
 ghost use Rattle.fi_parts.specs.Buffer.{Fits, empty};
 ghost use Rattle.fi_channels.specs.Polled.{unused_after, Answered, displaced_by, WouldBeReady};
 ghost use Rattle.fi_channels.specs.Channel as channel;
@@ -7,6 +8,7 @@ ghost use Rattle.fi_channels.specs.Channel.{opened, send_phase, receive_phase, k
 ghost use Rattle.fi_channels.specs.Channel.{displaced_by_send, MakesSend, MakesReceive, PollsSend};
 ghost use Rattle.fi_channels.specs.Channel.{PollsReceive, PollsNext, CancelsSend, CancelsReceive, TriesSend, TriesReceive};
 ghost use Rattle.fi_channels.specs.Channel.{Closes, Wakes, IsSound, OwesNoWake, has_room};
+ghost use Rattle.fi_channels.specs.ChannelStays.{AllStay, OtherSendsStay, OtherReceivesStay, IsApartFromSends, IsApartFromReceives};
 ghost use Rattle.fi_channels.specs.Cleared.{ClosesAndClears, NoSendWaits};
 ghost use Rattle.fi_channels.specs.declared.channel_fields.ReceiveKind.TheVariants.{Single, Stream};
 
@@ -91,7 +93,8 @@ impl<T: Drop, B: RingBuf<Item = T>, W: Drop> ChannelState<T, B, W> {
     /// Else the value comes back and nothing has changed: `Closed` if the channel is closed, else `Full` if there is no room
     /// (with capacity 0 always), else `NoMemory` if the buffer could not grow. Keeps `GenericChannel::try_send`.
     pub fn try_send(&mut self, value: T) -> Result<(), TrySendError<T>>
-        ensures { TriesSend self.old value result self.new }
+        ensures tried { TriesSend self.old value result self.new }
+        ensures all_stay { AllStay self.old self.new }
     {
         self.fields.try_send(value)
     }
@@ -101,7 +104,8 @@ impl<T: Drop, B: RingBuf<Item = T>, W: Drop> ChannelState<T, B, W> {
     ///
     /// Else nothing has changed: `Closed` if the channel is closed, else `Empty`. Keeps `GenericChannel::try_receive`.
     pub fn try_receive(&mut self) -> Result<T, TryReceiveError>
-        ensures { TriesReceive self.old result self.new }
+        ensures tried { TriesReceive self.old result self.new }
+        ensures all_stay { AllStay self.old self.new }
     {
         self.fields.try_receive()
     }
@@ -111,7 +115,8 @@ impl<T: Drop, B: RingBuf<Item = T>, W: Drop> ChannelState<T, B, W> {
     /// What is buffered can still be received. A send that waited gets its value back at its next poll, or from its cancel.
     /// `AlreadyClosed` if it was closed before; then nothing has changed. Keeps `GenericChannel::close`.
     pub fn close(&mut self) -> CloseStatus
-        ensures { Closes self.old result self.new }
+        ensures closed { Closes self.old result self.new }
+        ensures all_stay { AllStay self.old self.new }
     {
         self.fields.close()
     }
@@ -162,6 +167,8 @@ impl<T: Drop, B: RingBuf<Item = T>, W: Drop> ChannelState<T, B, W> {
         ensures pollable { IfOk result (λ future. channel.can_send (send_phase self.new future.name) ≡ true) }
         ensures refused { OnErr result (self.new ≡ self.old) }
         ensures handed_back { IfErr result (λ failed. failed.0 ≡ value) }
+        ensures apart { IfOk result (λ future. IsApartFromSends future.name self.old) }
+        ensures all_stay { AllStay self.old self.new }
     {
         let slot = self.claim_send(value)?;
         Ok(LocalSendFuture::at(slot))
@@ -176,6 +183,8 @@ impl<T: Drop, B: RingBuf<Item = T>, W: Drop> ChannelState<T, B, W> {
             (λ future. channel.can_receive (kind_of self.new future.name) (receive_phase self.new future.name) ≡ true) }
         ensures refused { OnErr result (self.new ≡ self.old) }
         ensures fault { IfErr result (λ fault. fault ≡ Fault.NoMemory) }
+        ensures apart { IfOk result (λ future. IsApartFromReceives future.name self.old) }
+        ensures all_stay { AllStay self.old self.new }
     {
         let slot = self.claim_receive()?;
         Ok(LocalReceiveFuture::at(slot))
@@ -190,6 +199,8 @@ impl<T: Drop, B: RingBuf<Item = T>, W: Drop> ChannelState<T, B, W> {
             (λ future. channel.can_stream (kind_of self.new future.name) (receive_phase self.new future.name) ≡ true) }
         ensures refused { OnErr result (self.new ≡ self.old) }
         ensures fault { IfErr result (λ fault. fault ≡ Fault.NoMemory) }
+        ensures apart { IfOk result (λ future. IsApartFromReceives future.name self.old) }
+        ensures all_stay { AllStay self.old self.new }
     {
         let slot = self.claim_stream()?;
         Ok(LocalChannelStream::at(slot))
@@ -197,7 +208,8 @@ impl<T: Drop, B: RingBuf<Item = T>, W: Drop> ChannelState<T, B, W> {
 
     /// Takes out the oldest waker that was named to be woken; None if none is left.
     pub fn next_wake(&mut self) -> Option<W>
-        ensures { Wakes self.old result self.new }
+        ensures popped { Wakes self.old result self.new }
+        ensures all_stay { AllStay self.old self.new }
     {
         self.fields.next_wake()
     }
@@ -215,6 +227,8 @@ impl<T: Drop, B: RingBuf<Item = T>, W: Drop> ChannelState<T, B, W> {
         ensures made { IfOk result (λ slot. MakesSend self.old value slot.0 self.new) }
         ensures refused { OnErr result (self.new ≡ self.old) }
         ensures handed_back { IfErr result (λ failed. failed.0 ≡ value) }
+        ensures apart { IfOk result (λ slot. IsApartFromSends slot.0 self.old) }
+        ensures all_stay { AllStay self.old self.new }
     {
         self.fields.claim_send(value)
     }
@@ -224,6 +238,8 @@ impl<T: Drop, B: RingBuf<Item = T>, W: Drop> ChannelState<T, B, W> {
         ensures made { IfOk result (λ slot. MakesReceive self.old Single slot.0 self.new) }
         ensures refused { OnErr result (self.new ≡ self.old) }
         ensures fault { IfErr result (λ fault. fault ≡ Fault.NoMemory) }
+        ensures apart { IfOk result (λ slot. IsApartFromReceives slot.0 self.old) }
+        ensures all_stay { AllStay self.old self.new }
     {
         self.fields.claim_receive(ReceiveKind::Single)
     }
@@ -233,11 +249,13 @@ impl<T: Drop, B: RingBuf<Item = T>, W: Drop> ChannelState<T, B, W> {
         ensures made { IfOk result (λ slot. MakesReceive self.old Stream slot.0 self.new) }
         ensures refused { OnErr result (self.new ≡ self.old) }
         ensures fault { IfErr result (λ fault. fault ≡ Fault.NoMemory) }
+        ensures apart { IfOk result (λ slot. IsApartFromReceives slot.0 self.old) }
+        ensures all_stay { AllStay self.old self.new }
     {
         self.fields.claim_receive(ReceiveKind::Stream)
     }
 
-    /// A stream lives under this slot, so it may be polled.
+    /// Returns `true` if a stream lives under this slot, so it may be polled.
     pub fn can_stream(&self, slot: Slot) -> bool
         ensures { result ≡ channel.can_stream (kind_of self.now slot.0) (receive_phase self.now slot.0) }
     {
@@ -260,6 +278,7 @@ impl<T: Drop, B: RingBuf<Item = T>, W: Drop> ChannelState<T, B, W> {
         ensures unused { result.1.unused ≡ unused_after result.0 waker }
         // The stream still lives, until it is cancelled.
         ensures live { channel.can_stream (kind_of self.new slot.0) (receive_phase self.new slot.0) ≡ true }
+        ensures others { OtherReceivesStay slot.0 self.old self.new }
     {
         self.fields.next_or_register(slot, waker)
     }
@@ -274,6 +293,7 @@ impl<T: Drop, B: RingBuf<Item = T>, W: Drop> ChannelState<T, B, W> {
         ensures polled { IfOk result (λ polled. PollsNext self.old slot.0 waker polled.0 self.new) }
         ensures displaced { IfOk result (λ polled. polled.1.displaced ≡ displaced_receive self.old slot.0) }
         ensures unused { IfOk result (λ polled. polled.1.unused ≡ unused_after polled.0 waker) }
+        ensures others { IfOk result (λ polled. OtherReceivesStay slot.0 self.old self.new) }
         ensures refused { OnErr result
             ((channel.can_stream (kind_of self.old slot.0) (receive_phase self.old slot.0) ≡ false) × (self.new ≡ self.old)) }
         ensures handed_back { IfErr result (λ back. back ≡ waker) }
@@ -288,6 +308,7 @@ impl<T: Drop, B: RingBuf<Item = T>, W: Drop> ChannelState<T, B, W> {
 impl<T: Drop, B: RingBuf<Item = T>, W: Drop> ChannelSendAccess for ChannelState<T, B, W> {
     ghost use Rattle.std.specs.Prelude.{is_some};
     ghost use Rattle.fi_channels.specs.Channel as channel;
+    ghost use Rattle.fi_channels.specs.ChannelStays as channel_stays;
 
     type Item = T;
 
@@ -302,6 +323,8 @@ impl<T: Drop, B: RingBuf<Item = T>, W: Drop> ChannelSendAccess for ChannelState<
     ghost sends = { channel.PollsSend };
 
     ghost withdraws = { channel.CancelsSend };
+
+    ghost others_stay = { channel_stays.OtherSendsStay };
 
     fn can_send(&self, slot: Slot) -> bool {
         self.fields.can_send(slot)
@@ -323,6 +346,8 @@ impl<T: Drop, B: RingBuf<Item = T>, W: Drop> ChannelSendAccess for ChannelState<
         ensures displaced { result.1.displaced ≡ displaced_by_send result.0 (displaced_send self.old slot.0) }
         ensures unused { result.1.unused ≡ unused_after result.0 waker }
         ensures live { is_some (send_phase self.new slot.0) ≡ true }
+        ensures pending { OnPending result.0 (channel.can_send (send_phase self.new slot.0) ≡ true) }
+        ensures others { OtherSendsStay slot.0 self.old self.new }
     {
         self.fields.send_or_register(slot, waker)
     }
@@ -331,6 +356,7 @@ impl<T: Drop, B: RingBuf<Item = T>, W: Drop> ChannelSendAccess for ChannelState<
         requires { is_some (send_phase self.old slot.0) ≡ true }
         ensures cancelled { CancelsSend self.old slot.0 result.0 self.new }
         ensures displaced { result.1 ≡ displaced_send self.old slot.0 }
+        ensures others { OtherSendsStay slot.0 self.old self.new }
     {
         self.fields.remove_send_waiter(slot)
     }
@@ -340,6 +366,7 @@ impl<T: Drop, B: RingBuf<Item = T>, W: Drop> ChannelReceiveAccess for ChannelSta
     ghost use Rattle.std.specs.Prelude.{is_some};
     ghost use Rattle.fi_channels.specs.Polled.{Answered};
     ghost use Rattle.fi_channels.specs.Channel as channel;
+    ghost use Rattle.fi_channels.specs.ChannelStays as channel_stays;
 
     type Item = T;
 
@@ -355,6 +382,8 @@ impl<T: Drop, B: RingBuf<Item = T>, W: Drop> ChannelReceiveAccess for ChannelSta
     ghost receives = { λ old name waker answer new. Answered (channel.PollsReceive old name waker) (λ fault state. ⊥) answer new };
 
     ghost cancels = { channel.CancelsReceive };
+
+    ghost others_stay = { channel_stays.OtherReceivesStay };
 
     fn can_receive(&self, slot: Slot) -> bool {
         self.fields.can_receive(slot)
@@ -376,6 +405,8 @@ impl<T: Drop, B: RingBuf<Item = T>, W: Drop> ChannelReceiveAccess for ChannelSta
         ensures displaced { result.1.displaced ≡ displaced_by result.0 (displaced_receive self.old slot.0) }
         ensures unused { result.1.unused ≡ unused_after result.0 waker }
         ensures live { is_some (receive_phase self.new slot.0) ≡ true }
+        ensures pending { OnPending result.0 (channel.can_receive (kind_of self.new slot.0) (receive_phase self.new slot.0) ≡ true) }
+        ensures others { OtherReceivesStay slot.0 self.old self.new }
     {
         let (answer, leftover) = self.fields.receive_or_register(slot, waker);
         match answer {
@@ -388,6 +419,7 @@ impl<T: Drop, B: RingBuf<Item = T>, W: Drop> ChannelReceiveAccess for ChannelSta
         requires { is_some (receive_phase self.old slot.0) ≡ true }
         ensures cancelled { CancelsReceive self.old slot.0 self.new }
         ensures displaced { result ≡ displaced_receive self.old slot.0 }
+        ensures others { OtherReceivesStay slot.0 self.old self.new }
     {
         self.fields.remove_receive_waiter(slot)
     }

@@ -75,7 +75,7 @@ impl<T: Drop, B: RingBuf<Item = T>, W: Drop> ChannelFields<T, B, W> {
         })
     }
 
-    /// A send lives under this slot that has not ended.
+    /// Returns `true` if a send lives under this slot that has not ended.
     pub fn can_send(&self, slot: Slot) -> bool
         ensures { result ≡ can_send (phase_of self.now.waiters.sends slot.0) }
     {
@@ -85,14 +85,14 @@ impl<T: Drop, B: RingBuf<Item = T>, W: Drop> ChannelFields<T, B, W> {
         }
     }
 
-    /// A send lives under this slot.
+    /// Returns `true` if a send lives under this slot.
     pub fn has_send(&self, slot: Slot) -> bool
         ensures { result ≡ is_some (phase_of self.now.waiters.sends slot.0) }
     {
         self.waiters.send_phase(slot).is_some()
     }
 
-    /// A receive lives under this slot that has not ended, and is no stream.
+    /// Returns `true` if a receive lives under this slot that has not ended, and is no stream.
     pub fn can_receive(&self, slot: Slot) -> bool
         ensures { result ≡ can_receive (asks_of self.now.waiters.receives slot.0) (phase_of self.now.waiters.receives slot.0) }
     {
@@ -106,7 +106,7 @@ impl<T: Drop, B: RingBuf<Item = T>, W: Drop> ChannelFields<T, B, W> {
         }
     }
 
-    /// A stream lives under this slot.
+    /// Returns `true` if a stream lives under this slot.
     pub fn can_stream(&self, slot: Slot) -> bool
         ensures { result ≡ can_stream (asks_of self.now.waiters.receives slot.0) (phase_of self.now.waiters.receives slot.0) }
     {
@@ -119,7 +119,7 @@ impl<T: Drop, B: RingBuf<Item = T>, W: Drop> ChannelFields<T, B, W> {
         }
     }
 
-    /// A receive or a stream lives under this slot.
+    /// Returns `true` if a receive or a stream lives under this slot.
     pub fn has_receive(&self, slot: Slot) -> bool
         ensures { result ≡ is_some (phase_of self.now.waiters.receives slot.0) }
     {
@@ -388,7 +388,7 @@ impl<T: Drop, B: RingBuf<Item = T>, W: Drop> ChannelFields<T, B, W> {
         CloseStatus::NewlyClosed
     }
 
-    /// The channel was closed.
+    /// Returns `true` if the channel was closed.
     pub fn is_closed(&self) -> bool
         ensures { result ≡ not self.now.is_open }
     {
@@ -402,14 +402,14 @@ impl<T: Drop, B: RingBuf<Item = T>, W: Drop> ChannelFields<T, B, W> {
         self.buffer.len()
     }
 
-    /// No value is buffered.
+    /// Returns `true` if no value is buffered.
     pub fn is_empty(&self) -> bool
         ensures { result ≡ (length (B.bounded self.now.buffer).items == 0) }
     {
         self.buffer.is_empty()
     }
 
-    /// The buffer has no room for one more value.
+    /// Returns `true` if the buffer has no room for one more value.
     pub fn is_full(&self) -> bool
         ensures { result ≡ not (has_room (machine_of B.bounded self.now).own) }
     {

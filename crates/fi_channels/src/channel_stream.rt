@@ -1,5 +1,6 @@
 //! A stream of a local channel's values.
 ghost use Rattle.std.specs.Prelude.{◌≡◌, Bool, true, false, is_some, IfSome, IfNone};
+ghost use Rattle.fi_channels.specs.ChannelStays.{OtherReceivesStay};
 ghost use Rattle.fi_channels.specs.Channel.{can_stream, kind_of, receive_phase, PollsNext, CancelsReceive, is_end};
 
 use crate::access::ChannelReceiveAccess;
@@ -30,6 +31,7 @@ impl LocalFutureOf<ChannelStreaming> {
         ensures name { self.new.name ≡ self.old.name }
         ensures ended { self.new.has_ended ≡ is_end result }
         ensures live { can_stream (kind_of channel.new self.old.name) (receive_phase channel.new self.old.name) ≡ true }
+        ensures others { OtherReceivesStay self.old.name channel.old channel.new }
     {
         let (answer, _leftover) = channel.next_or_register(self.slot, waker);
         self.is_ended = match &answer {
@@ -48,6 +50,7 @@ impl LocalFutureOf<ChannelStreaming> {
     ) -> Option<Poll<Option<T>>>
         ensures polled { IfSome result (λ answer. PollsNext channel.old self.old.name waker answer channel.new) }
         ensures ended { IfSome result (λ answer. self.new ≡ record { name = self.old.name; has_ended = is_end answer }) }
+        ensures others { IfSome result (λ answer. OtherReceivesStay self.old.name channel.old channel.new) }
         ensures refused { IfNone result (can_stream (kind_of channel.old self.old.name) (receive_phase channel.old self.old.name) ≡ false) }
         ensures unchanged { IfNone result ((channel.new ≡ channel.old) × (self.new ≡ self.old)) }
     {
@@ -59,6 +62,7 @@ impl LocalFutureOf<ChannelStreaming> {
     /// Ends the stream as `cancel` does, if it lives in this channel. Else nothing changes: so it asks its caller for nothing.
     pub fn leave<T: Drop, B: RingBuf<Item = T>, W: Drop>(self, channel: &mut ChannelState<T, B, W>)
         ensures cancelled { is_some (receive_phase channel.old self.name) ≡ true → CancelsReceive channel.old self.name channel.new }
+        ensures others { is_some (receive_phase channel.old self.name) ≡ true → OtherReceivesStay self.name channel.old channel.new }
         ensures unchanged { is_some (receive_phase channel.old self.name) ≡ false → channel.new ≡ channel.old }
     {
         let LocalFutureOf {
@@ -72,7 +76,8 @@ impl LocalFutureOf<ChannelStreaming> {
     /// Ends the stream: it leaves its channel. The caller lends the stream's own channel.
     pub fn cancel<T: Drop, B: RingBuf<Item = T>, W: Drop>(self, channel: &mut ChannelState<T, B, W>)
         requires { is_some (receive_phase channel.old self.name) ≡ true }
-        ensures { CancelsReceive channel.old self.name channel.new }
+        ensures cancelled { CancelsReceive channel.old self.name channel.new }
+        ensures others { OtherReceivesStay self.name channel.old channel.new }
     {
         let LocalFutureOf {
             slot,

@@ -40,7 +40,7 @@ impl<K> LocalFutureOf<K> {
         self.slot
     }
 
-    /// The future was polled to its end. Keeps `FusedFuture::is_terminated`.
+    /// Returns `true` if the future was polled to its end. Keeps `FusedFuture::is_terminated`.
     pub fn is_terminated(&self) -> bool
         ensures { result ≡ self.now.has_ended }
     {

@@ -1,5 +1,6 @@
 //! A send on a local channel.
 ghost use Rattle.std.specs.Prelude.{◌≡◌, Bool, true, false, None, IfSome, IfNone};
+ghost use Rattle.futures.specs.Poll.{OnPending};
 ghost use Rattle.fi_channels.specs.Channel.{has_sent};
 
 use crate::access::ChannelSendAccess;
@@ -43,6 +44,8 @@ impl LocalFutureOf<ChannelSend> {
         ensures name { self.new.name ≡ self.old.name }
         ensures ended { self.new.has_ended ≡ has_sent result }
         ensures live { C.is_sending channel.new self.old.name ≡ true }
+        ensures pending { OnPending result (C.is_sendable channel.new self.new.name ≡ true) }
+        ensures others { C.others_stay self.old.name channel.old channel.new }
     {
         let (answer, _leftover) = channel.send_or_register(self.slot, waker);
         self.is_ended = is_end(&answer);
@@ -60,6 +63,7 @@ impl LocalFutureOf<ChannelSend> {
         C::Waker: Drop,
         ensures polled { IfSome result (λ answer. C.sends channel.old self.old.name waker answer channel.new) }
         ensures ended { IfSome result (λ answer. self.new ≡ record { name = self.old.name; has_ended = has_sent answer }) }
+        ensures others { IfSome result (λ answer. C.others_stay self.old.name channel.old channel.new) }
         ensures refused { IfNone result (C.is_sendable channel.old self.old.name ≡ false) }
         ensures unchanged { IfNone result ((channel.new ≡ channel.old) × (self.new ≡ self.old)) }
     {
@@ -74,6 +78,7 @@ impl LocalFutureOf<ChannelSend> {
     where
         C::Waker: Drop,
         ensures cancelled { C.is_sending channel.old self.name ≡ true → C.withdraws channel.old self.name result channel.new }
+        ensures others { C.is_sending channel.old self.name ≡ true → C.others_stay self.name channel.old channel.new }
         ensures unchanged { C.is_sending channel.old self.name ≡ false → (channel.new ≡ channel.old) × (result ≡ None) }
     {
         let LocalFutureOf {
@@ -93,7 +98,8 @@ impl LocalFutureOf<ChannelSend> {
     where
         C::Waker: Drop,
         requires { C.is_sending channel.old self.name ≡ true }
-        ensures { C.withdraws channel.old self.name result channel.new }
+        ensures cancelled { C.withdraws channel.old self.name result channel.new }
+        ensures others { C.others_stay self.name channel.old channel.new }
     {
         let LocalFutureOf {
             slot,

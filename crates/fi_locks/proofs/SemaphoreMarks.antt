@@ -1,5 +1,5 @@
 -- The calls on a semaphore keep the marks of its queue.
-use Rattle.std.proofs.Common.{◌≡◌, ◌≢◌, ℕ, ◌+◌, ◌-◌, ◌≤◌, ◌⊎◌, Bool, true, false, eqb, nat_le}
+use Rattle.std.proofs.Common.{◌≡◌, ◌≢◌, ℕ, ◌+◌, ◌-◌, ◌≤◌, Bool, true, false, eqb}
 use Rattle.std.proofs.Common.{List, [], ◌∷◌, ◌++◌, Option, Some, None, MatchOption, sum_by}
 use Rattle.std.proofs.Common.{refl, sym, ap, subst, ◌∙◌, inl, inr, arith}
 use Rattle.std.specs.Option.{option_or}
@@ -14,16 +14,15 @@ use Rattle.fi_parts.specs.Effects.WaiterEffect.{Inserts, Registers, KeepsWaiting
 use Rattle.fi_parts.specs.Machine.{phase_at}
 use Rattle.fi_parts.specs.Order.{holds, Apart, without}
 use Rattle.fi_parts.specs.Places.{is_told}
-use Rattle.fi_parts.specs.Waiting.{Waiters, Waiting, phase_in, phase_of, is_queued, is_registered}
+use Rattle.fi_parts.specs.Waiting.{Waiters, Waiting, phase_in, phase_of, is_queued}
 use Rattle.fi_parts.proofs.Effects.{untold}
-use Rattle.fi_parts.proofs.Queues.{holds-without_same}
 use Rattle.fi_parts.proofs.Slots.{eqb_same, holds-append, without_absent, without_first, Apart-front, Apart-back, Apart-disjoint}
 use Rattle.fi_parts.proofs.Waiting.{Becomes}
 use Rattle.fi_locks.specs.FrontLaws.{sum_held, sum_without_one, not_empty}
 use Rattle.fi_locks.specs.Semaphore.{Permits, SemaphoreMachine, opened, need_of, can_take, IsSound}
 use Rattle.fi_locks.specs.SemaphoreFields.{IsFirst, Marks, MarksIf, MarksWithout, MarksWithoutIf}
 use Rattle.fi_locks.specs.SemaphoreFairLaws.{taken_fairly, less_told}
-use Rattle.fi_locks.specs.SemaphoreLaws.{queue_to, unqueued, taken_are_free}
+use Rattle.fi_locks.specs.SemaphoreLaws.{queue_to, unqueued}
 use Rattle.fi_locks.specs.SemaphoreSoundLaws.{after, same_need, other_need_inserted, other_need_removed}
 use Rattle.fi_locks.specs.ToldFutures.{IsToldFront}
 use Rattle.fi_locks.specs.ToldFuturesLaws.{front_still, front_without, front_registered, same_told}

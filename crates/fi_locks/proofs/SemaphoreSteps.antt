@@ -1,5 +1,5 @@
 -- How the calls on a semaphore's fields make up the lines of its table.
-use Rattle.std.proofs.Common.{◌≡◌, ℕ, ◌≤◌, ◌<◌, Bool, true, false, nat_le, nat_lt, Option}
+use Rattle.std.proofs.Common.{◌≡◌, ℕ, ◌≤◌, ◌<◌, Bool, true, false, Option}
 use Rattle.std.proofs.Common.{Some, None, is_some, refl, sym, ap, subst, ◌∙◌, arith}
 use Rattle.std.proofs.lemmas.Bool.{both_ways, le-leb, lt-leb, false_from_ne_true}
 use Rattle.std.specs.FinMap as map
@@ -17,7 +17,7 @@ use Rattle.fi_parts.specs.Places.{is_told}
 use Rattle.fi_parts.specs.Waiting.{Waiters, phase_in, phase_of, is_queued, is_registered, IsLive}
 use Rattle.fi_locks.specs.Semaphore.{Permits, SemaphoreMachine, granted, need_of}
 use Rattle.fi_locks.specs.Semaphore.{can_be_polled, is_granted, StepsTelling, PollsAs, Polls, IsSound}
-use Rattle.fi_locks.specs.SemaphoreFields.{Marks, MarksIf}
+use Rattle.fi_locks.specs.SemaphoreFields.{MarksIf}
 use Rattle.fi_locks.specs.SemaphoreLaws.{unqueued}
 use Rattle.fi_locks.proofs.SemaphoreMarks.{marks_fair, marks_unfair, told_need_free}
 

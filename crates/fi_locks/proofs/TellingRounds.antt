@@ -1,7 +1,7 @@
 -- How far a telling round has come, as it walks the queue.
 use Rattle.std.proofs.Common.{◌≡◌, ◌≢◌, ℕ, ◌+◌, ◌-◌, ◌≤◌, ◌<◌, Bool, true, false, eqb}
 use Rattle.std.proofs.Common.{cond, if◌then◌else◌, List, [], ◌∷◌, ◌++◌, length, sum_by}
-use Rattle.std.proofs.Common.{Option, Some, None, MatchOption, append_assoc, refl, sym, ap, subst, ◌∙◌, arith}
+use Rattle.std.proofs.Common.{Option, Some, None, append_assoc, refl, sym, ap, subst, ◌∙◌, arith}
 use Rattle.std.specs.Prelude.{unwrap_or}
 use Rattle.std.proofs.lemmas.Bool.{both_ways, cond-true, cond-false, eq-eqb, ne_eqb, or_left, or_right}
 use Rattle.std.proofs.lemmas.List.Sums.{sum_by_push}
@@ -12,10 +12,9 @@ use Rattle.fi_parts.specs.declared.errors.Slot.{Slot}
 use Rattle.fi_parts.specs.declared.phase.Future.{Future}
 use Rattle.fi_parts.specs.declared.phase.Phase.{Phase}
 use Rattle.fi_parts.specs.declared.phase.Phase.TheVariants.{Told}
-use Rattle.fi_parts.specs.Machine.{phase_at}
 use Rattle.fi_parts.specs.Order.{holds, Apart}
 use Rattle.fi_parts.specs.Places.{is_told, queued_rule}
-use Rattle.fi_parts.specs.Waiting.{Waiters, Waiting, phase_in, phase_of, is_queued, with_phase}
+use Rattle.fi_parts.specs.Waiting.{Waiting, phase_in, phase_of, is_queued}
 use Rattle.fi_parts.specs.Waiting.{with_phases, pair_of, named, IsOrderedBy, told_one, front_told}
 use Rattle.fi_parts.proofs.Slots.{eqb_same, holds-append}
 use Rattle.fi_parts.proofs.Told.{with_phase-same, front_told-step, front_told-none}
@@ -24,7 +23,7 @@ use Rattle.fi_parts.proofs.Waiting.{asks-with_phases}
 use Rattle.fi_locks.specs.FrontLaws.{same_rest, same_first, not_empty}
 use Rattle.fi_locks.specs.Semaphore.{SemaphoreMachine, need_of, IsLongestFit, IsSound, Tells}
 use Rattle.fi_locks.specs.SemaphoreFairLaws.{front_is_told, front_needs}
-use Rattle.fi_locks.specs.SemaphoreFields.{IsFirst, IsStopped, Marks, MarksIf, Walk}
+use Rattle.fi_locks.specs.SemaphoreFields.{IsFirst, IsStopped, MarksIf, Walk}
 use Rattle.fi_locks.specs.ToldFutures.{IsToldFront}
 use Rattle.fi_locks.proofs.SemaphoreMarks.{marks_fair, marks_unfair}
 

@@ -1,5 +1,3 @@
-pub mod Live
-pub mod LiveLaws
 pub mod Timer
 pub mod TimerLaws
 pub mod TimerFields

@@ -6,7 +6,7 @@ use base.Stored.{coded_unit}
 use Rattle.futures.specs.declared.task.Poll.{Poll}
 use Rattle.futures.specs.declared.task.Poll.TheVariants.{Ready, Pending}
 use Rattle.fi_parts.specs.declared.phase.Phase.{Phase}
-use Rattle.fi_parts.specs.declared.phase.Phase.TheVariants.{Fresh, Registered, Told, Complete}
+use Rattle.fi_parts.specs.declared.phase.Phase.TheVariants.{Fresh, Registered, Told}
 use Rattle.fi_parts.specs.Effects.{WaiterEffect, first_of}
 use Rattle.fi_parts.specs.Effects.WaiterEffect.{NoChange, Inserts, Registers, KeepsWaiting, EndsPlaced, Removes}
 use Rattle.fi_parts.specs.Effects.WaiterEffect.{NotifiesFront, PopsOldest, AndThen}
@@ -14,6 +14,7 @@ use Rattle.fi_parts.specs.Machine.{Machine, machine_code, phase_at, initial, Ste
 use Rattle.fi_parts.specs.Order.{holds, without}
 use Rattle.fi_parts.specs.Places.{is_told}
 use Rattle.fi_parts.specs.Waiting.{is_queued}
+pub use Rattle.fi_parts.specs.Polled.{can_be_polled, is_wait_phase}
 
 -- Fair or not, and the value of a free mutex. While it is held, its holder has the value.
 pub record MutexData (T : Type 0) : Type 0 where
@@ -46,18 +47,6 @@ is_empty [] = true
 is_empty (name ∷ later) = false
 
 module _ {W : Type 0} where
-  -- a poll may be made: the name is live and has not ended
-  abbrev pub can_be_polled : Option (Phase W) → Bool
-  can_be_polled (Some Fresh) = true
-  can_be_polled (Some (Registered waker)) = true
-  can_be_polled (Some Told) = true
-  can_be_polled phase = false
-
-  -- the phases of a mutex's future
-  abbrev pub is_lock_phase : Option (Phase W) → Bool
-  is_lock_phase (Some Complete) = false
-  is_lock_phase phase = true
-
   -- the oldest of this queue, if there is one, is told; in a fair mutex it keeps its place
   abbrev pub tells_oldest : Bool → List ℕ → WaiterEffect (Unit {0}) W
   tells_oldest is_fair queue = NotifiesFront is_fair (first_of queue)
@@ -153,7 +142,7 @@ module _ {T W : Type 0} where
 
   -- The queue holds the registered futures, and in a fair mutex the told ones; out is in order; no future is complete.
   abbrev pub IsSound : MutexMachine T W → Type 0
-  IsSound mutex = HasSoundWaitersBy (is_queued mutex.own.is_fair) is_lock_phase mutex
+  IsSound mutex = HasSoundWaitersBy (is_queued mutex.own.is_fair) is_wait_phase mutex
 
   -- No wake is owed.
   abbrev pub OwesNoWakeAs : Bool → MutexMachine T W → Type 0

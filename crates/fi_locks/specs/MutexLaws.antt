@@ -14,18 +14,18 @@ use Rattle.fi_parts.specs.declared.phase.Phase.TheVariants.{Fresh, Registered, T
 use Rattle.fi_parts.specs.Effects.{WaiterEffect, TakesEffect, first_of}
 use Rattle.fi_parts.specs.Effects.WaiterEffect.{NoChange, Inserts, Registers, KeepsWaiting, EndsPlaced, Removes}
 use Rattle.fi_parts.specs.Effects.WaiterEffect.{NotifiesFront, PopsOldest, AndThen}
-use Rattle.fi_parts.specs.Machine.{phase_at, StepsTo, HasSoundWaitersBy, AllowsBasics, WaiterRules, Line, PollLine, poll_effect}
+use Rattle.fi_parts.specs.Machine.{phase_at, StepsTo, HasSoundWaitersBy, WaiterRules, Line, PollLine, poll_effect}
 use Rattle.fi_parts.specs.Order.{holds, without}
 use Rattle.fi_parts.specs.Places.{is_told, queued_rule}
 use Rattle.fi_parts.specs.WakerHistory.{WakerEffect, gives}
 use Rattle.fi_parts.specs.WakerHistory.WakerEffect.{Leaves, NoEffect}
 use Rattle.fi_parts.specs.Waiting.{Waiters, Waiting, phase_in, phase_of, is_queued}
-use Rattle.fi_parts.proofs.Effects.{untold, untold_if_leaving, effect_after, effect_sound}
+use Rattle.fi_parts.proofs.Effects.{waits_known, untold, untold_if_leaving, effect_after, effect_sound}
 use Rattle.fi_parts.proofs.Machines.{initial_holds, line_preserves, line, unchanged, inserts, removes, pops, ends_placed}
 use Rattle.fi_parts.proofs.Machines.{registers, stays, added, phases_after}
 use Rattle.fi_parts.proofs.Notified.{AllBecome}
 use Rattle.fi_parts.proofs.Waiting.{Becomes}
-use Rattle.fi_locks.specs.Mutex.{MutexMachine, MutexData, held, freed, is_empty, can_be_polled, is_lock_phase, tells_oldest}
+use Rattle.fi_locks.specs.Mutex.{MutexMachine, MutexData, held, freed, is_empty, can_be_polled, is_wait_phase, tells_oldest}
 use Rattle.fi_locks.specs.Mutex.{is_free, queue_of, opened}
 use Rattle.fi_locks.specs.Mutex.{for_newcomer, for_registered, Makes, GrantsOr, PollsAs, Polls, CancelsAs, Cancels, TriesFor}
 use Rattle.fi_locks.specs.Mutex.{TriesLock}
@@ -94,10 +94,6 @@ module _ {T : Type 0} where
   nothing_for_registered true value is off = absurd (true≢false off)
   nothing_for_registered false value is off = is
 
-module _ {W : Type 0} where
-  pub known : AllowsBasics (is_lock_phase {W = W})
-  known = record { gone = refl; fresh = refl; registered = λ waker. refl; ended = refl }
-
 module _ {D W : Type 0} where
   queue_if : (waiting now : Waiting D W) → waiting ≡ now → waiting.side.queue ≡ now.side.queue
   queue_if waiting now is = ap (λ (w : Waiting D W). w.side.queue) is
@@ -123,8 +119,8 @@ module _ {T W : Type 0} where
   abbrev pub rules : Bool → WaiterRules (MutexData T) (Unit {0}) W
   rules is_fair =
       record {
-        phases = is_lock_phase;
-        known = known;
+        phases = is_wait_phase;
+        known = waits_known;
         place = is_queued is_fair;
         places = queued_rule is_fair;
         lacks =
@@ -150,9 +146,9 @@ module _ {T W : Type 0} where
   pub stays_well : {on_wakers : WakerEffect W} (old new : MutexMachine T W) → MutexLine on_wakers old new → IsWell old →
       IsWell new
   stays_well old new did was =
-      let sound : HasSoundWaitersBy (is_queued old.own.is_fair) is_lock_phase new =
+      let sound : HasSoundWaitersBy (is_queued old.own.is_fair) is_wait_phase new =
       (line_preserves (rules old.own.is_fair) old new did.line (was.0, λ q is. tt)).0 in (
-        subst (λ b. HasSoundWaitersBy (is_queued b) is_lock_phase new) (sym did.is_fair) sound,
+        subst (λ b. HasSoundWaitersBy (is_queued b) is_wait_phase new) (sym did.is_fair) sound,
         subst (λ b. OwesNoWakeAs b new) (sym did.is_fair) did.owes,
       )
 
@@ -516,15 +512,15 @@ module _ {T W : Type 0} where
           let effect : WaiterEffect (Unit {0}) W = AndThen (Removes name) (tells_oldest is_fair queue) in
           let mid = did.1.0 in
           let left : mid.side.queue ≡ queue = queue_if _ _ did.1.1.1 in
-          let becomes = effect_after (queued_rule is_fair) is_lock_phase known (Removes name) old.waiting mid tt was.0 did.1.1 in
-          let sound = effect_sound (queued_rule is_fair) is_lock_phase known (Removes name) old.waiting mid tt was.0 did.1.1 in
+          let becomes = effect_after (queued_rule is_fair) is_wait_phase waits_known (Removes name) old.waiting mid tt was.0 did.1.1 in
+          let sound = effect_sound (queued_rule is_fair) is_wait_phase waits_known (Removes name) old.waiting mid tt was.0 did.1.1 in
           let tells : TakesEffect (NotifiesFront is_fair (first_of mid.side.queue)) mid new.waiting =
           subst (λ names. TakesEffect (tells_oldest is_fair names) mid new.waiting) (sym left) did.1.2 in
           record {
             line = line (rules is_fair) old.own effect old new did (tt, λ between taken. (refl, refl), refl) (λ asks. tt);
             is_fair = fairness old.own refl did.0;
             owes = owes_told old new is_fair mid
-                (effect_after (queued_rule is_fair) is_lock_phase known (NotifiesFront is_fair
+                (effect_after (queued_rule is_fair) is_wait_phase waits_known (NotifiesFront is_fair
                 (first_of mid.side.queue)) mid new.waiting
                 (refl, refl) sound tells) tells
                 (λ fair. free_if new _ did.0 ∙ (told_is old was name told fair).0)

@@ -1,10 +1,10 @@
 -- The machine of a semaphore.
 use Rattle.std.specs.Prelude.{◌≡◌, ◌+◌, ◌-◌, ◌*◌, ◌^◌, ◌<◌, ◌≤◌, ◌==◌, ◌&&◌, ◌||◌, ◌⊎◌, ⊤, ℕ, zero, nat_le, nat_lt, Bool, true, false, not}
-use Rattle.std.specs.Prelude.{if◌then◌else◌, Option, Some, None, unwrap_or, List, [], ◌∷◌, ◌++◌, length, sum_by}
+use Rattle.std.specs.Prelude.{if◌then◌else◌, Option, Some, unwrap_or, List, [], ◌∷◌, ◌++◌, length, sum_by}
 use Rattle.futures.specs.declared.task.Poll.{Poll}
 use Rattle.futures.specs.declared.task.Poll.TheVariants.{Ready, Pending}
 use Rattle.fi_parts.specs.declared.phase.Phase.{Phase}
-use Rattle.fi_parts.specs.declared.phase.Phase.TheVariants.{Fresh, Registered, Told, Complete}
+use Rattle.fi_parts.specs.declared.phase.Phase.TheVariants.{Fresh, Registered, Told}
 use Rattle.fi_parts.specs.Effects.{WaiterEffect, TakesEffect}
 use Rattle.fi_parts.specs.Effects.WaiterEffect.{NoChange, Inserts, Registers, KeepsWaiting, Ends}
 use Rattle.fi_parts.specs.Effects.WaiterEffect.{EndsPlaced, Removes, NotifiesFront, PopsOldest}
@@ -14,6 +14,7 @@ use Rattle.fi_parts.specs.Waiting.{Waiters, Waiting, phase_of, asks_of, is_queue
 use Rattle.fi_locks.specs.declared.asked.Asked.{Asked}
 use Rattle.fi_locks.specs.declared.asked.Asked.TheVariants.{NoNeed, OneNeed, MixedNeeds}
 use Rattle.fi_locks.specs.ToldFutures.{AreTold, IsToldFront}
+pub use Rattle.fi_parts.specs.Polled.{can_be_polled, is_wait_phase}
 
 -- Fair or unfair, how many permits are free and how many are held, and what the futures that were made so far needed.
 pub record Permits : Type 0 where
@@ -69,13 +70,6 @@ module _ {W : Type 0} where
   -- how many permits a future needs
   abbrev pub need_of : Waiters ℕ W → ℕ → ℕ
   need_of side name = unwrap_or (asks_of side name) 0
-
-  -- a poll may be made: the name is live and has not ended
-  abbrev pub can_be_polled : Option (Phase W) → Bool
-  can_be_polled (Some Fresh) = true
-  can_be_polled (Some (Registered waker)) = true
-  can_be_polled (Some Told) = true
-  can_be_polled phase = false
 
   -- A telling round: the longest front of the queue whose needs together are free is told. It keeps its places if the semaphore is
   -- fair, and else leaves the queue.
@@ -160,15 +154,10 @@ module _ {W : Type 0} where
   abbrev pub Wakes : SemaphoreMachine W → Option W → SemaphoreMachine W → Type 0
   Wakes old answer new = StepsTo old old.own (PopsOldest answer) new
 
-  -- the phases of an acquire
-  abbrev pub is_acquire_phase : Option (Phase W) → Bool
-  is_acquire_phase (Some Complete) = false
-  is_acquire_phase phase = true
-
   -- The queue holds the registered futures, and in a fair semaphore the told ones; no future is complete. All permits can be counted.
   -- Each need is among those asked for so far, and one who was registered or told and has not been polled since needs more than 0.
   pub record IsSound (state : SemaphoreMachine W) : Type 0 where
-    pub waiters : HasSoundWaitersBy (is_queued state.own.is_fair) is_acquire_phase state
+    pub waiters : HasSoundWaitersBy (is_queued state.own.is_fair) is_wait_phase state
     pub counted : state.own.free + state.own.held < 2 ^ 64
     pub among : (name : ℕ) → IsAmong state.own.asked (need_of state.waiting.side name)
     pub needs : (name : ℕ) → is_queued true (phase_at state name) ≡ true → 0 < need_of state.waiting.side name

@@ -1,23 +1,23 @@
 -- The calls on a fair semaphore leave no wake owed.
-use Rattle.std.specs.Prelude.{◌≡◌, ◌≢◌, ◌+◌, ◌-◌, ◌<◌, ◌≤◌, ◌==◌, ◌&&◌, ◌||◌, ◌⊎◌, ℕ, nat_le, eqb, not, Bool, true, false, if◌then◌else◌}
-use Rattle.std.specs.Prelude.{Option, Some, None, List, [], ◌∷◌, ◌++◌, sum_by, refl}
+use Rattle.std.specs.Prelude.{◌≡◌, ◌≢◌, ◌+◌, ◌<◌, ◌≤◌, ◌==◌, ◌⊎◌, ℕ, nat_le, eqb, not, Bool, true, false, if◌then◌else◌}
+use Rattle.std.specs.Prelude.{Option, Some, List, [], ◌∷◌, ◌++◌, sum_by, refl}
 use Rattle.std.proofs.Common.{ap, subst, sym, ◌∙◌, inl, inr, arith}
-use Rattle.std.proofs.lemmas.Bool.{both_ways, cases_eq, cases_Bool, leb-true, leb-false, le-leb, lt-leb, eqb-true, eq-eqb}
-use Rattle.std.proofs.lemmas.Bool.{and_parts, and_cases, or_left, or_right, or_cases, or_parts, not-true}
+use Rattle.std.proofs.lemmas.Bool.{both_ways, cases_Bool, le-leb, lt-leb, eqb-true, eq-eqb}
+use Rattle.std.proofs.lemmas.Bool.{and_parts, and_cases, or_left, or_cases, or_parts, not-true}
 use Rattle.std.proofs.lemmas.List.Sums.{sum_by-cons, sum_by-append}
 use Rattle.fi_parts.specs.declared.phase.Phase.{Phase}
-use Rattle.fi_parts.specs.declared.phase.Phase.TheVariants.{Registered, Told}
+use Rattle.fi_parts.specs.declared.phase.Phase.TheVariants.{Registered}
 use Rattle.fi_parts.specs.Order.{holds, Apart, without}
 use Rattle.fi_parts.specs.Places.{is_told}
 use Rattle.fi_parts.specs.Waiting.{Waiters, Waiting, phase_of}
 use Rattle.fi_parts.proofs.Queues.{holds-without_same}
 use Rattle.fi_parts.proofs.Slots.{in_neither}
 use Rattle.fi_parts.proofs.Waiting.{Becomes}
-use Rattle.fi_locks.specs.FrontLaws.{sum_held, sum_without, sum_without_one, fronts, same_first, not_empty}
+use Rattle.fi_locks.specs.FrontLaws.{sum_held, sum_without_one, fronts, same_first, not_empty}
 use Rattle.fi_locks.specs.Semaphore.{Permits, SemaphoreMachine, is_empty, can_take, need_of, IsSound, Tells, OwesNoWakeFair}
 use Rattle.fi_locks.specs.SemaphoreSoundLaws.{Changes, told_now, needs_now}
 use Rattle.fi_locks.specs.ToldFutures.{IsToldFront}
-use Rattle.fi_locks.specs.ToldFuturesLaws.{not_in_front, front_still, front_without, front_registered, front_once, same_told}
+use Rattle.fi_locks.specs.ToldFuturesLaws.{not_in_front, front_still, front_registered, same_told}
 
 -- what it means that permits are granted at once
 pub taken_fairly : (permits : Permits) (queue : List ℕ) (n : ℕ) → permits.is_fair ≡ true → can_take permits queue n ≡ true →

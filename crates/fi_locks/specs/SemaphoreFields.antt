@@ -1,5 +1,5 @@
 -- The fields of a semaphore, and where its telling rounds go on.
-use Rattle.std.specs.Prelude.{◌≡◌, ◌≢◌, ◌+◌, ◌≤◌, ◌<◌, ⊤, ℕ, Bool, true, false, Option, List, [], ◌∷◌, ◌++◌, sum_by, MatchOption}
+use Rattle.std.specs.Prelude.{◌≡◌, ◌+◌, ◌≤◌, ◌<◌, ⊤, ℕ, Bool, true, false, Option, List, [], ◌∷◌, ◌++◌, sum_by, MatchOption}
 use Rattle.fi_parts.specs.declared.errors.Slot.{Slot}
 use Rattle.fi_parts.specs.Order.{without}
 use Rattle.fi_parts.specs.Waiting.{Waiters, Waiting, front_told}

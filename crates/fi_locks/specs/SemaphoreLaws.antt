@@ -1,14 +1,14 @@
 -- Each call on a semaphore is a line of its table, and keeps a semaphore sound that owes no wake.
-use Rattle.std.specs.Prelude.{◌≡◌, ◌≢◌, ◌+◌, ◌-◌, ◌*◌, ◌^◌, ◌<◌, ◌≤◌, ◌==◌, ◌&&◌, ◌||◌, ◌⊎◌}
+use Rattle.std.specs.Prelude.{◌≡◌, ◌≢◌, ◌+◌, ◌-◌, ◌^◌, ◌<◌, ◌≤◌, ◌==◌}
 use Rattle.std.specs.Prelude.{ℕ, zero, suc, nat_le, nat_lt, not, Bool, true, false}
-use Rattle.std.specs.Prelude.{if◌then◌else◌, Option, Some, None, List, [], ◌∷◌, ◌++◌, length, sum_by, refl}
+use Rattle.std.specs.Prelude.{if◌then◌else◌, Option, Some, None, List, [], sum_by, refl}
 use Rattle.std.proofs.Common.{ap, subst, sym, ◌∙◌, inl, inr, arith}
-use Rattle.std.proofs.lemmas.Bool.{both_ways, cases_eq, leb-true, leb-false, le-leb, ltb-false, and_parts, and_cases, and_from}
+use Rattle.std.proofs.lemmas.Bool.{both_ways, leb-true, leb-false, le-leb, ltb-false, and_parts, and_cases, and_from}
 use Rattle.std.proofs.lemmas.Bool.{or_right, or_parts, not-true, not-false, false_from_ne_true}
 use Rattle.std.specs.Ordering.{nat_cmp}
 use Rattle.std.specs.FinMap as map
 use Rattle.futures.specs.declared.task.Poll.{Poll}
-use Rattle.futures.specs.declared.task.Poll.TheVariants.{Ready, Pending}
+use Rattle.futures.specs.declared.task.Poll.TheVariants.{Ready}
 use Rattle.fi_parts.specs.declared.phase.Phase.{Phase}
 use Rattle.fi_parts.specs.declared.phase.Phase.TheVariants.{Fresh, Registered, Told, Complete, Ended}
 use Rattle.fi_parts.specs.Effects.{WaiterEffect, TakesEffect}
@@ -16,12 +16,12 @@ use Rattle.fi_parts.specs.Effects.WaiterEffect.{NoChange, Inserts, Registers, Ke
 use Rattle.fi_parts.specs.Effects.WaiterEffect.{EndsPlaced, Removes, NotifiesFront, PopsOldest}
 use Rattle.fi_parts.specs.Effects.WaiterEffect.{AndThen}
 use Rattle.fi_parts.specs.Machine.{phase_at, AllowsEffect, LacksAfter, StepsTo, Line, PollLine, poll_effect, waker_effect}
-use Rattle.fi_parts.specs.Order.{holds, Apart, without}
-use Rattle.fi_parts.specs.Places.{is_told, IsUntold, queued_rule}
+use Rattle.fi_parts.specs.Order.{holds, without}
+use Rattle.fi_parts.specs.Places.{is_told, queued_rule}
 use Rattle.fi_parts.specs.Waiting.{Waiters, Waiting, phase_in, phase_of, is_queued, is_registered}
-use Rattle.fi_parts.specs.WakerHistory.{WakerEffect, gives}
+use Rattle.fi_parts.specs.WakerHistory.{gives}
 use Rattle.fi_parts.specs.WakerHistory.WakerEffect.{Leaves, NoEffect}
-use Rattle.fi_parts.proofs.Effects.{After, effect_after, untold, untold_if_leaving}
+use Rattle.fi_parts.proofs.Effects.{untold, untold_if_leaving}
 use Rattle.fi_parts.proofs.Machines.{line, ends, ends_placed, registers, stays, polls_and_then, pops, added}
 use Rattle.fi_parts.proofs.Slots.{without_absent}
 use Rattle.fi_parts.proofs.Waiting.{Becomes}
@@ -29,19 +29,19 @@ use Rattle.fi_locks.specs.declared.asked.Asked.{Asked}
 use Rattle.fi_locks.specs.declared.asked.Asked.TheVariants.{NoNeed, OneNeed, MixedNeeds}
 use Rattle.fi_locks.specs.FrontLaws.{sum_without, not_empty}
 use Rattle.fi_locks.specs.Semaphore.{Permits, SemaphoreMachine, asked_after, granted, can_take, opened, need_of, can_be_polled, is_granted}
-use Rattle.fi_locks.specs.Semaphore.{AreHeld, Tells, StepsTelling, Makes, PollsAs, PollsNeeding}
+use Rattle.fi_locks.specs.Semaphore.{AreHeld, Tells, StepsTelling, Makes, PollsAs}
 use Rattle.fi_locks.specs.Semaphore.{Polls, cancel_tells, Cancels, TriesAcquire, Releases}
-use Rattle.fi_locks.specs.Semaphore.{GivesBack, Disarms, Wakes, is_acquire_phase, IsSound}
+use Rattle.fi_locks.specs.Semaphore.{GivesBack, Disarms, Wakes, is_wait_phase, IsSound}
 use Rattle.fi_locks.specs.Semaphore.{OwesNoWakeFair, OwesNoWakeUnfair, OwesNoWakeIf, OwesNoWake}
-use Rattle.fi_locks.specs.SemaphoreSoundLaws.{known, rules, no_lack, at_own, Changes, same_need, other_need_inserted, other_need_removed}
+use Rattle.fi_locks.specs.SemaphoreSoundLaws.{rules, no_lack, at_own, Changes, same_need, other_need_inserted, other_need_removed}
 use Rattle.fi_locks.specs.SemaphoreSoundLaws.{told_waits, registered_waits, waiters_after, sound_phase, sound_permits, sound_inserted}
 use Rattle.fi_locks.specs.SemaphoreSoundLaws.{counted_still, after, sound_ended, sound_removed, sound_tells, sound_opened}
 use Rattle.fi_locks.specs.SemaphoreFairLaws.{taken_fairly, fair_still, fair_empty, fair_changed}
 use Rattle.fi_locks.specs.SemaphoreFairLaws.{fair_registered, fair_tells, told_fits, less_told}
-use Rattle.fi_locks.specs.SemaphoreUnfairLaws.{one_need, none_waits, told_unqueued, unfair_still, still_registered, unfair_told_granted}
+use Rattle.fi_locks.specs.SemaphoreUnfairLaws.{one_need, none_waits, unfair_still, still_registered, unfair_told_granted}
 use Rattle.fi_locks.specs.SemaphoreUnfairLaws.{unfair_registered, unfair_tells}
 use Rattle.fi_locks.specs.ToldFutures.{AreTold, IsToldFront}
-use Rattle.fi_locks.specs.ToldFuturesLaws.{not_in_front, front_still, front_without, front_once, same_told, told_without}
+use Rattle.fi_locks.specs.ToldFuturesLaws.{front_without, front_once, same_told, told_without}
 
 -- permits that are granted are free
 pub taken_are_free : (permits : Permits) (queue : List ℕ) (n : ℕ) → can_take permits queue n ≡ true → n ≤ permits.free
@@ -131,7 +131,7 @@ module _ {W : Type 0} where
 
   -- a step, with or without a telling round after it
   telling_line : (tells : Bool) (permits : Permits) (effect : WaiterEffect ℕ W) (old new : SemaphoreMachine W) →
-      permits.is_fair ≡ old.own.is_fair → AllowsEffect (queued_rule old.own.is_fair) is_acquire_phase old.waiting effect →
+      permits.is_fair ≡ old.own.is_fair → AllowsEffect (queued_rule old.own.is_fair) is_wait_phase old.waiting effect →
       LacksAfter no_lack old.own permits old.waiting.side effect → StepsTelling tells old permits effect new →
       Line (rules old.own.is_fair) (waker_effect effect) old new
   telling_line true permits effect old new fair allows lack did =

@@ -1,6 +1,6 @@
 -- The effects of a semaphore's calls keep it sound.
-use Rattle.std.specs.Prelude.{◌≡◌, ◌≢◌, ◌+◌, ◌-◌, ◌^◌, ◌<◌, ◌≤◌, ◌⊎◌, ◌==◌, ⊤, ℕ, zero, suc, Bool, true, false, if◌then◌else◌}
-use Rattle.std.specs.Prelude.{Option, Some, None, unwrap_or, List, [], ◌∷◌, ◌++◌, refl}
+use Rattle.std.specs.Prelude.{◌≡◌, ◌≢◌, ◌+◌, ◌-◌, ◌^◌, ◌<◌, ◌≤◌, ◌==◌, ⊤, ℕ, zero, suc, Bool, true, false, if◌then◌else◌}
+use Rattle.std.specs.Prelude.{Option, Some, None, unwrap_or, List, ◌++◌, refl}
 use Rattle.std.proofs.Common.{ap, subst, sym, ◌∙◌, inl, inr, arith}
 use Rattle.std.proofs.lemmas.Bool.{both_ways, cases_eq, cases_Bool, eqb-true, eq-eqb, ne_eqb, or_left}
 use Rattle.std.specs.Ordering.{nat_cmp}
@@ -8,12 +8,12 @@ use Rattle.std.specs.FinMap as map
 use Rattle.fi_parts.specs.declared.phase.Phase.{Phase}
 use Rattle.fi_parts.specs.declared.phase.Phase.TheVariants.{Fresh, Registered, Told, Complete, Ended}
 use Rattle.fi_parts.specs.Effects.{WaiterEffect, TakesEffect}
-use Rattle.fi_parts.specs.Effects.WaiterEffect.{NoChange, Inserts, EndsPlaced, Removes, NotifiesFront}
-use Rattle.fi_parts.specs.Machine.{phase_at, AllowsBasics, AllowsEffect, WaiterRules, StepsTo, HasSoundWaitersBy}
+use Rattle.fi_parts.specs.Effects.WaiterEffect.{Inserts, EndsPlaced, Removes, NotifiesFront}
+use Rattle.fi_parts.specs.Machine.{phase_at, AllowsEffect, WaiterRules, HasSoundWaitersBy}
 use Rattle.fi_parts.specs.Order.{holds}
 use Rattle.fi_parts.specs.Places.{is_told, queued_rule}
 use Rattle.fi_parts.specs.Waiting.{Waiters, Waiting, phase_in, phase_of, asks_in, asks_of, is_queued, is_registered}
-use Rattle.fi_parts.proofs.Effects.{After, effect_sound, effect_after}
+use Rattle.fi_parts.proofs.Effects.{waits_known, After, effect_sound, effect_after}
 use Rattle.fi_parts.proofs.Machines.{asks_step, asks_after, phases_after, initial_holds}
 use Rattle.fi_parts.proofs.Notified.{AllBecome}
 use Rattle.fi_parts.proofs.PairsWithin.{if_true, if_false}
@@ -22,7 +22,7 @@ use Rattle.fi_parts.proofs.Waiting.{Becomes}
 use Rattle.fi_locks.specs.declared.asked.Asked.{Asked}
 use Rattle.fi_locks.specs.declared.asked.Asked.TheVariants.{NoNeed, OneNeed, MixedNeeds}
 use Rattle.fi_locks.specs.Semaphore.{Permits, SemaphoreMachine, asked_after, IsAmong, granted}
-use Rattle.fi_locks.specs.Semaphore.{opened, need_of, is_acquire_phase, IsSound, Tells}
+use Rattle.fi_locks.specs.Semaphore.{opened, need_of, is_wait_phase, IsSound, Tells}
 
 among_zero : (asked : Asked) → IsAmong asked 0
 among_zero NoNeed = refl
@@ -58,14 +58,11 @@ pub counted_still : (free held need : ℕ) → free + held < 2 ^ 64 → need ≤
 counted_still free held need counted fits = omega (arith, counted, fits)
 
 module _ {W : Type 0} where
-  pub known : AllowsBasics (is_acquire_phase {W = W})
-  known = record { gone = refl; fresh = refl; registered = λ waker. refl; ended = refl }
-
   -- The registered have places in the queue, and in a fair semaphore the told.
   abbrev pub rules : Bool → WaiterRules Permits ℕ W
   rules is_fair = record {
-    phases = is_acquire_phase;
-    known = known;
+    phases = is_wait_phase;
+    known = waits_known;
     place = is_queued is_fair;
     places = queued_rule is_fair;
     lacks = no_lack;
@@ -137,27 +134,27 @@ module _ {W : Type 0} where
 
   -- The waiters stay sound.
   pub waiters_after : (effect : WaiterEffect ℕ W) (old : SemaphoreMachine W) (new : Waiting ℕ W) → IsSound old →
-      AllowsEffect (queued_rule old.own.is_fair) is_acquire_phase old.waiting effect → TakesEffect effect old.waiting new →
-      HasSoundWaitersBy (is_queued old.own.is_fair) is_acquire_phase (at_own old.own new)
+      AllowsEffect (queued_rule old.own.is_fair) is_wait_phase old.waiting effect → TakesEffect effect old.waiting new →
+      HasSoundWaitersBy (is_queued old.own.is_fair) is_wait_phase (at_own old.own new)
   waiters_after effect old new was allows taken =
-      effect_sound (queued_rule old.own.is_fair) is_acquire_phase known effect old.waiting new allows was.waiters taken
+      effect_sound (queued_rule old.own.is_fair) is_wait_phase waits_known effect old.waiting new allows was.waiters taken
 
   -- the phase of each name after an effect
   pub after : (effect : WaiterEffect ℕ W) (old : SemaphoreMachine W) (new : Waiting ℕ W) → IsSound old →
-      AllowsEffect (queued_rule old.own.is_fair) is_acquire_phase old.waiting effect → TakesEffect effect old.waiting new →
+      AllowsEffect (queued_rule old.own.is_fair) is_wait_phase old.waiting effect → TakesEffect effect old.waiting new →
       After effect old.waiting new
   after effect old new was allows taken =
-      effect_after (queued_rule old.own.is_fair) is_acquire_phase known effect old.waiting new allows was.waiters taken
+      effect_after (queued_rule old.own.is_fair) is_wait_phase waits_known effect old.waiting new allows was.waiters taken
 
   -- One name changed.
   pub sound_one : (old : SemaphoreMachine W) (permits : Permits) (new : Waiting ℕ W) (name : ℕ) (phase : Option (Phase W)) →
       IsSound old → permits.is_fair ≡ old.own.is_fair →
-      HasSoundWaitersBy (is_queued old.own.is_fair) is_acquire_phase (at_own old.own new) →
+      HasSoundWaitersBy (is_queued old.own.is_fair) is_wait_phase (at_own old.own new) →
       permits.free + permits.held < 2 ^ 64 → Changes old.waiting.side new.side name phase →
       ((q : ℕ) → IsAmong permits.asked (need_of old.waiting.side q)) → IsAmong permits.asked (need_of new.side name) →
       (is_queued true phase ≡ true → 0 < need_of new.side name) → IsSound (at_own permits new)
   sound_one old permits new name phase was fair waiters counted c among here needs = record {
-    waiters = subst (λ b. HasSoundWaitersBy (is_queued b) is_acquire_phase (at_own old.own new)) (sym fair) waiters;
+    waiters = subst (λ b. HasSoundWaitersBy (is_queued b) is_wait_phase (at_own old.own new)) (sym fair) waiters;
     counted = counted;
     among = λ q. elim (cases_eq q name) [ inl e ↦ rw e here | inr ne ↦ rw (c.needs q ne) (among q) ];
     needs = λ q at. elim (cases_eq q name) [
@@ -170,7 +167,7 @@ module _ {W : Type 0} where
   -- One name has another phase now, and its need stays.
   pub sound_phase : (old : SemaphoreMachine W) (permits : Permits) (new : Waiting ℕ W) (name : ℕ) (phase : Option (Phase W)) →
       IsSound old → permits.is_fair ≡ old.own.is_fair → permits.asked ≡ old.own.asked →
-      HasSoundWaitersBy (is_queued old.own.is_fair) is_acquire_phase (at_own old.own new) →
+      HasSoundWaitersBy (is_queued old.own.is_fair) is_wait_phase (at_own old.own new) →
       permits.free + permits.held < 2 ^ 64 → Becomes old.waiting.side new.side name phase →
       ((q : ℕ) → need_of new.side q ≡ need_of old.waiting.side q) → (is_queued true phase ≡ true → 0 < need_of old.waiting.side name) →
       IsSound (at_own permits new)
@@ -181,10 +178,10 @@ module _ {W : Type 0} where
   -- the permits changed, and nobody
   pub sound_permits : (old : SemaphoreMachine W) (permits : Permits) (new : Waiting ℕ W) → IsSound old →
       permits.is_fair ≡ old.own.is_fair → permits.asked ≡ old.own.asked → permits.free + permits.held < 2 ^ 64 →
-      new.side ≡ old.waiting.side → HasSoundWaitersBy (is_queued old.own.is_fair) is_acquire_phase (at_own old.own new) →
+      new.side ≡ old.waiting.side → HasSoundWaitersBy (is_queued old.own.is_fair) is_wait_phase (at_own old.own new) →
       IsSound (at_own permits new)
   sound_permits old permits new was fair asked counted same waiters = record {
-    waiters = subst (λ b. HasSoundWaitersBy (is_queued b) is_acquire_phase (at_own old.own new)) (sym fair) waiters;
+    waiters = subst (λ b. HasSoundWaitersBy (is_queued b) is_wait_phase (at_own old.own new)) (sym fair) waiters;
     counted = counted;
     among = λ q. rw (asked, same) (was.among q);
     needs = λ q at. rw same (was.needs q (subst (λ (s : Waiters ℕ W). is_queued true (phase_of s q) ≡ true) same at));
@@ -240,7 +237,7 @@ module _ {W : Type 0} where
       let in_front : (q : ℕ) → holds q did.0 ≡ true → is_queued true (phase_at old q) ≡ true = λ q at.
       waits_if old.own.is_fair (phase_at old q) (sym (was.waiters.ordered.queued q) ∙ ap (holds q) is_front
       ∙ holds-append q did.0 did.2.1.0 ∙ or_left _ _ at) in
-      let waiters : HasSoundWaitersBy (is_queued old.own.is_fair) is_acquire_phase (at_own old.own new.waiting) =
+      let waiters : HasSoundWaitersBy (is_queued old.own.is_fair) is_wait_phase (at_own old.own new.waiting) =
       waiters_after (tells_front old did.0) old new.waiting was (refl, refl) did.2.1 in
       subst (λ permits. IsSound (at_own permits new.waiting)) (sym did.2.0) (record {
         waiters = waiters;

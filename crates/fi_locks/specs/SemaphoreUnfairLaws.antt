@@ -1,8 +1,8 @@
 -- The calls on an unfair semaphore whose futures all needed one number leave no wake owed.
-use Rattle.std.specs.Prelude.{◌≡◌, ◌≢◌, ◌+◌, ◌-◌, ◌*◌, ◌<◌, ◌≤◌, ◌||◌, ◌⊎◌, ℕ, Bool, true, false, if◌then◌else◌}
-use Rattle.std.specs.Prelude.{Option, Some, None, List, [], ◌∷◌, ◌++◌, length, sum_by, refl}
+use Rattle.std.specs.Prelude.{◌≡◌, ◌+◌, ◌-◌, ◌*◌, ◌<◌, ◌≤◌, ◌||◌, ℕ, true, false}
+use Rattle.std.specs.Prelude.{Option, Some, None, List, ◌∷◌, ◌++◌, length, sum_by, refl}
 use Rattle.std.proofs.Common.{ap, subst, sym, ◌∙◌, inl, inr, arith, length-append}
-use Rattle.std.proofs.lemmas.Bool.{both_ways, cases_eq, cases_Bool, or_left, or_right, false_from_ne_true, eq-eqb}
+use Rattle.std.proofs.lemmas.Bool.{both_ways, cases_eq, cases_Bool, or_left, or_right, false_from_ne_true}
 use Rattle.fi_parts.specs.declared.phase.Phase.{Phase}
 use Rattle.fi_parts.specs.declared.phase.Phase.TheVariants.{Fresh, Registered, Told, Complete, Ended}
 use Rattle.fi_parts.specs.Machine.{phase_at}

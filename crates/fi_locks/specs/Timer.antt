@@ -5,12 +5,13 @@ use Rattle.futures.specs.declared.task.Poll.{Poll}
 use Rattle.futures.specs.declared.task.Poll.TheVariants.{Ready, Pending}
 use Rattle.fi_parts.specs.declared.phase.Notice.TheVariants.{Tell}
 use Rattle.fi_parts.specs.declared.phase.Phase.{Phase}
-use Rattle.fi_parts.specs.declared.phase.Phase.TheVariants.{Fresh, Registered, Told, Complete}
+use Rattle.fi_parts.specs.declared.phase.Phase.TheVariants.{Fresh, Registered, Told}
 use Rattle.fi_parts.specs.Clocks.{whole_millis_in}
 use Rattle.fi_parts.specs.Deadlines.{expiry_of, AreDue}
 use Rattle.fi_parts.specs.Effects.WaiterEffect.{Inserts, RegistersApart, KeepsWaiting, Ends, Removes, NotifiesListed, PopsOldest}
 use Rattle.fi_parts.specs.Machine.{Machine, machine_code, phase_at, initial, StepsTo, HasSoundWaitersBy, AllLack}
 use Rattle.fi_parts.specs.Places.{never_queued}
+pub use Rattle.fi_parts.specs.Polled.{can_be_polled, is_wait_phase}
 
 -- Its own data are the floor, a moment that is before the expiry of each future that waits; a future asks for its expiry.
 abbrev pub TimerMachine : Type 0 → Type 0
@@ -31,13 +32,6 @@ expiry_after now nanos = min (now + whole_millis_in nanos) (2 ^ 64 - 1)
 module _ {W : Type 0} where
   abbrev pub opened : TimerMachine W
   opened = initial 0
-
-  -- a poll may be made: the name is live and has not ended
-  abbrev pub can_be_polled : Option (Phase W) → Bool
-  can_be_polled (Some Fresh) = true
-  can_be_polled (Some (Registered waker)) = true
-  can_be_polled (Some Told) = true
-  can_be_polled phase = false
 
   -- A fresh future with this expiry, of a name that was not live.
   abbrev pub Makes : TimerMachine W → ℕ → ℕ → TimerMachine W → Type 0
@@ -73,14 +67,9 @@ module _ {W : Type 0} where
   abbrev pub Wakes : TimerMachine W → Option W → TimerMachine W → Type 0
   Wakes old answer new = StepsTo old old.own (PopsOldest answer) new
 
-  -- the phases of a timer's future
-  abbrev pub is_timer_phase : Option (Phase W) → Bool
-  is_timer_phase (Some Complete) = false
-  is_timer_phase phase = true
-
   -- A pair is of a live future that is not registered, none has two; no future is complete. There is no queue.
   abbrev pub IsSound : TimerMachine W → Type 0
-  IsSound state = HasSoundWaitersBy never_queued is_timer_phase state
+  IsSound state = HasSoundWaitersBy never_queued is_wait_phase state
 
   -- No wake is owed: the expiry of each registered future is after the floor.
   abbrev pub OwesNoWake : TimerMachine W → Type 0

@@ -9,11 +9,12 @@ use Rattle.fi_parts.specs.declared.phase.Notice.TheVariants.{Tell}
 use Rattle.fi_parts.specs.Deadlines.{expiry_of, is_due}
 use Rattle.fi_parts.specs.WakerHistory.WakerEffect.{NoEffect}
 use Rattle.fi_parts.specs.Effects.WaiterEffect.{NotifiesListed}
-use Rattle.fi_parts.specs.Machine.{phase_at, AllowsBasics, WaiterRules, Line, PollLine, poll_effect}
+use Rattle.fi_parts.specs.Machine.{phase_at, WaiterRules, Line, PollLine, poll_effect}
 use Rattle.fi_parts.specs.Places.{never_queued, never_rule}
 use Rattle.fi_parts.specs.Waiting.{asks_of, is_registered}
+use Rattle.fi_parts.proofs.Effects.{waits_known}
 use Rattle.fi_parts.proofs.Machines.{initial_holds, line, ends, registers_apart, stays, added}
-use Rattle.fi_locks.specs.Timer.{TimerMachine, opened, is_timer_phase, lacks, can_be_polled}
+use Rattle.fi_locks.specs.Timer.{TimerMachine, opened, is_wait_phase, lacks, can_be_polled}
 use Rattle.fi_locks.specs.Timer.{PollsAs, Polls, Makes, Checks, IsSound, OwesNoWake}
 
 -- whose expiry is later than a moment lacks what it waits for at a floor that is not later than the moment
@@ -32,12 +33,9 @@ higher_lacks floor now (Some expiry) late lack = let later : now < expiry = leb-
 higher_lacks floor now None late lack = lack
 
 module _ {W : Type 0} where
-  pub known : AllowsBasics (is_timer_phase {W = W})
-  known = record { gone = refl; fresh = refl; registered = λ waker. refl; ended = refl }
-
   -- no phase has a place in a queue
   abbrev pub rules : WaiterRules ℕ ℕ W
-  rules = record { phases = is_timer_phase; known = known; place = never_queued; places = never_rule; lacks = lacks }
+  rules = record { phases = is_wait_phase; known = waits_known; place = never_queued; places = never_rule; lacks = lacks }
 
   pub opened_holds : IsSound (opened {W = W}) × OwesNoWake (opened {W = W})
   opened_holds = initial_holds rules 0

@@ -5,7 +5,8 @@ ghost use Rattle.fi_parts.specs.Polled.{unused_after, WouldBeReady, LeavesWhere}
 ghost use Rattle.fi_parts.specs.Waiting.{phase_of, displaced};
 ghost use Rattle.fi_locks.specs.Mutex.{opened, is_free, can_be_polled, Makes, Polls, Cancels, TriesLock};
 ghost use Rattle.fi_locks.specs.Mutex.{Unlocks, Wakes, IsLockedIfReady, IsLockedIfGiven, IsSound, OwesNoWake};
-ghost use Rattle.fi_locks.specs.Live.{AllStayLive};
+ghost use Rattle.futures.specs.Poll.{OnPending};
+ghost use Rattle.fi_parts.specs.Stays.{AllStay, OthersStay, IsApart};
 
 use crate::mutex_future::LocalMutexLockFuture;
 use crate::mutex_guard::LocalMutexGuard;
@@ -80,6 +81,8 @@ impl<T: Drop, W: Drop> MutexState<T, W> {
         ensures pollable { IfOk result (λ future. can_be_polled (phase_at self.new future.name) ≡ true) }
         ensures refused { OnErr result (self.new ≡ self.old) }
         ensures fault { IfErr result (λ fault. fault ≡ Fault.NoMemory) }
+        ensures apart { IfOk result (λ future. IsApart future.name self.old) }
+        ensures all_stay { AllStay can_be_polled self.old self.new }
     {
         let slot = self.claim_lock()?;
         Ok(LocalMutexLockFuture::at(slot))
@@ -92,7 +95,7 @@ impl<T: Drop, W: Drop> MutexState<T, W> {
     pub fn try_lock(&mut self) -> Option<LocalMutexGuard<T>>
         ensures tried { TriesLock self.old result self.new }
         ensures locked { IsLockedIfGiven result self.new }
-        ensures live { AllStayLive self.old self.new }
+        ensures all_stay { AllStay can_be_polled self.old self.new }
     {
         match self.try_take() {
             Some(value) => Some(LocalMutexGuard::of(value)),
@@ -104,7 +107,7 @@ impl<T: Drop, W: Drop> MutexState<T, W> {
     pub fn try_take(&mut self) -> Option<T>
         ensures tried { TriesLock self.old result self.new }
         ensures locked { IsLockedIfGiven result self.new }
-        ensures live { AllStayLive self.old self.new }
+        ensures all_stay { AllStay can_be_polled self.old self.new }
     {
         self.fields.try_take()
     }
@@ -115,12 +118,12 @@ impl<T: Drop, W: Drop> MutexState<T, W> {
     /// Keeps the drop of `GenericMutexGuard`.
     pub fn unlock(&mut self, value: T) -> Result<(), T>
         ensures unlocked { Unlocks self.old value result self.new }
-        ensures live { AllStayLive self.old self.new }
+        ensures all_stay { AllStay can_be_polled self.old self.new }
     {
         self.fields.unlock(value)
     }
 
-    /// Somebody has locked the mutex, and has its value. Keeps `GenericMutex::is_locked`.
+    /// Returns `true` if somebody has locked the mutex, and has its value. Keeps `GenericMutex::is_locked`.
     pub fn is_locked(&self) -> bool
         ensures { result ≡ not (is_free self.now) }
     {
@@ -130,7 +133,7 @@ impl<T: Drop, W: Drop> MutexState<T, W> {
     /// Takes out the oldest waker that was named to be woken; None where none is left.
     pub fn next_wake(&mut self) -> Option<W>
         ensures woken { Wakes self.old result self.new }
-        ensures live { AllStayLive self.old self.new }
+        ensures all_stay { AllStay can_be_polled self.old self.new }
     {
         self.fields.locks.next_wake()
     }
@@ -147,18 +150,20 @@ impl<T: Drop, W: Drop> MutexState<T, W> {
         ensures made { IfOk result (λ slot. Makes self.old slot.0 self.new) }
         ensures refused { OnErr result (self.new ≡ self.old) }
         ensures fault { IfErr result (λ fault. fault ≡ Fault.NoMemory) }
+        ensures apart { IfOk result (λ slot. IsApart slot.0 self.old) }
+        ensures all_stay { AllStay can_be_polled self.old self.new }
     {
         self.fields.claim_lock()
     }
 
-    /// A future lives under this slot.
+    /// Returns `true` if a future lives under this slot.
     pub fn is_live(&self, slot: Slot) -> bool
         ensures { result ≡ is_some (phase_at self.now slot.0) }
     {
         self.fields.locks.phase(slot).is_some()
     }
 
-    /// A future lives under this slot that has not ended.
+    /// Returns `true` if a future lives under this slot that has not ended.
     pub fn can_poll(&self, slot: Slot) -> bool
         ensures { result ≡ can_be_polled (phase_at self.now slot.0) }
     {
@@ -186,6 +191,8 @@ impl<T: Drop, W: Drop> MutexState<T, W> {
         ensures unused { result.1.unused ≡ unused_after result.0 waker }
         ensures locked { IsLockedIfReady result.0 self.new }
         ensures live { is_some (phase_at self.new slot.0) ≡ true }
+        ensures pending { OnPending result.0 (can_be_polled (phase_at self.new slot.0) ≡ true) }
+        ensures others { OthersStay can_be_polled slot.0 self.old self.new }
     {
         self.fields.try_wait(slot, waker)
     }
@@ -199,6 +206,7 @@ impl<T: Drop, W: Drop> MutexState<T, W> {
         ensures locked { IfOk result (λ polled. IsLockedIfReady polled.0 self.new) }
         ensures refused { OnErr result ((can_be_polled (phase_at self.old slot.0) ≡ false) × (self.new ≡ self.old)) }
         ensures handed_back { IfErr result (λ back. back ≡ waker) }
+        ensures others { OthersStay can_be_polled slot.0 self.old self.new }
     {
         if !self.can_poll(slot) {
             return Err(waker);
@@ -212,6 +220,7 @@ impl<T: Drop, W: Drop> MutexState<T, W> {
         ensures left { LeavesWhere (is_some (phase_at self.old slot.0)) (Cancels self.old slot.0 self.new) (displaced_at self.old slot.0)
             self.old result self.new }
         ensures own { self.new.own ≡ self.old.own }
+        ensures others { OthersStay can_be_polled slot.0 self.old self.new }
     {
         if !self.is_live(slot) {
             return None;
@@ -226,6 +235,7 @@ impl<T: Drop, W: Drop> MutexState<T, W> {
         ensures cancelled { Cancels self.old slot.0 self.new }
         ensures own { self.new.own ≡ self.old.own }
         ensures displaced { result ≡ displaced_at self.old slot.0 }
+        ensures others { OthersStay can_be_polled slot.0 self.old self.new }
     {
         self.fields.remove_waiter(slot)
     }

@@ -1,6 +1,8 @@
 //! A future that locks a mutex, polled with the mutex lent to it.
 ghost use Rattle.std.specs.Prelude.{◌≡◌, true, false, is_some, IfSome, IfNone};
+ghost use Rattle.futures.specs.Poll.{OnPending};
 ghost use Rattle.fi_parts.specs.Machine.{phase_at};
+ghost use Rattle.fi_parts.specs.Stays.{OthersStay};
 ghost use Rattle.fi_parts.specs.Polled.{is_ready};
 ghost use Rattle.fi_locks.specs.Mutex.{can_be_polled, Polls, Cancels, IsLockedIfReady};
 
@@ -45,7 +47,7 @@ impl LocalMutexLockFuture {
         self.slot
     }
 
-    /// The future was polled to its end. Keeps `FusedFuture::is_terminated`.
+    /// Returns `true` if the future was polled to its end. Keeps `FusedFuture::is_terminated`.
     pub fn is_terminated(&self) -> bool
         ensures { result ≡ self.now.has_ended }
     {
@@ -66,6 +68,8 @@ impl LocalMutexLockFuture {
         ensures ended { self.new.has_ended ≡ is_ready result }
         ensures live { is_some (phase_at mutex.new self.old.name) ≡ true }
         ensures locked { IsLockedIfReady result mutex.new }
+        ensures pending { OnPending result (can_be_polled (phase_at mutex.new self.new.name) ≡ true) }
+        ensures others { OthersStay can_be_polled self.old.name mutex.old mutex.new }
     {
         let (answer, _leftover) = mutex.try_wait(self.slot, waker);
         self.is_ended = answer.is_ready();
@@ -87,6 +91,7 @@ impl LocalMutexLockFuture {
         ensures locked { IfSome result (λ answer. IsLockedIfReady answer mutex.new) }
         ensures refused { IfNone result (can_be_polled (phase_at mutex.old self.old.name) ≡ false) }
         ensures unchanged { IfNone result ((mutex.new ≡ mutex.old) × (self.new ≡ self.old)) }
+        ensures others { OthersStay can_be_polled self.old.name mutex.old mutex.new }
     {
         let (answer, _leftover) = mutex.poll_checked(self.slot, waker).ok()?;
         self.is_ended = !answer.is_pending();
@@ -101,6 +106,7 @@ impl LocalMutexLockFuture {
         ensures cancelled { is_some (phase_at mutex.old self.name) ≡ true → Cancels mutex.old self.name mutex.new }
         ensures own { mutex.new.own ≡ mutex.old.own }
         ensures unchanged { is_some (phase_at mutex.old self.name) ≡ false → mutex.new ≡ mutex.old }
+        ensures others { OthersStay can_be_polled self.name mutex.old mutex.new }
     {
         let LocalMutexLockFuture { slot, is_ended: _ } = self;
         mutex.leave(slot);
@@ -112,6 +118,7 @@ impl LocalMutexLockFuture {
         requires { is_some (phase_at mutex.old self.name) ≡ true }
         ensures cancelled { Cancels mutex.old self.name mutex.new }
         ensures own { mutex.new.own ≡ mutex.old.own }
+        ensures others { OthersStay can_be_polled self.name mutex.old mutex.new }
     {
         let LocalMutexLockFuture { slot, is_ended: _ } = self;
         mutex.remove_waiter(slot);

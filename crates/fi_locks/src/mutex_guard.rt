@@ -1,8 +1,8 @@
 //! What a local mutex gives to whoever locks it.
 ghost use Rattle.std.specs.Prelude.{◌≡◌, false, Ok};
 ghost use Rattle.std.specs.Borrow.{Lends, sem};
-ghost use Rattle.fi_locks.specs.Live.{AllStayLive};
-ghost use Rattle.fi_locks.specs.Mutex.{is_free, Unlocks};
+ghost use Rattle.fi_parts.specs.Stays.{AllStay};
+ghost use Rattle.fi_locks.specs.Mutex.{can_be_polled, is_free, Unlocks};
 
 use crate::mutex::LocalMutex;
 use std::marker::Model;
@@ -39,7 +39,7 @@ impl<T: Drop> LocalMutexGuard<T> {
     pub fn unlock<W: Drop>(self, mutex: &mut LocalMutex<T, W>)
         requires { is_free mutex.old ≡ false }
         ensures unlocked { Unlocks mutex.old self (Ok tt) mutex.new }
-        ensures live { AllStayLive mutex.old mutex.new }
+        ensures all_stay { AllStay can_be_polled mutex.old mutex.new }
     {
         let LocalMutexGuard { value } = self;
         match mutex.unlock(value) {
@@ -52,7 +52,7 @@ impl<T: Drop> LocalMutexGuard<T> {
     /// for nothing.
     pub fn unlock_checked<W: Drop>(self, mutex: &mut LocalMutex<T, W>) -> Result<(), T>
         ensures unlocked { Unlocks mutex.old self result mutex.new }
-        ensures live { AllStayLive mutex.old mutex.new }
+        ensures all_stay { AllStay can_be_polled mutex.old mutex.new }
     {
         let LocalMutexGuard { value } = self;
         mutex.unlock(value)

@@ -11,7 +11,8 @@ ghost use Rattle.fi_parts.specs.declared.phase.Phase.TheVariants as phases;
 ghost use Rattle.fi_locks.specs.Semaphore.{opened, can_be_polled, need_of, can_take, granted};
 ghost use Rattle.fi_locks.specs.Semaphore.{cancel_tells, Makes, Polls, Cancels, TriesAcquire, Releases};
 ghost use Rattle.fi_locks.specs.Semaphore.{GivesBack, Disarms, Wakes, Tells, AreHeld, IsSound, OwesNoWake};
-ghost use Rattle.fi_locks.specs.Live.{AllStayLive};
+ghost use Rattle.futures.specs.Poll.{OnPending};
+ghost use Rattle.fi_parts.specs.Stays.{AllStay, OthersStay, IsApart};
 ghost use Rattle.fi_locks.specs.SemaphoreFields.{IsMarked};
 
 use crate::asked::Asked;
@@ -104,6 +105,8 @@ impl<W: Drop> SemaphoreState<W> {
         ensures pollable { IfOk result (λ future. can_be_polled (phase_at self.new future.name) ≡ true) }
         ensures refused { OnErr result (self.new ≡ self.old) }
         ensures fault { IfErr result (λ fault. fault ≡ Fault.NoMemory) }
+        ensures apart { IfOk result (λ future. IsApart future.name self.old) }
+        ensures all_stay { AllStay can_be_polled self.old self.new }
     {
         let slot = self.claim_acquire(permits)?;
         Ok(LocalSemaphoreAcquireFuture::at(slot))
@@ -117,7 +120,7 @@ impl<W: Drop> SemaphoreState<W> {
         ensures tried { TriesAcquire self.old permits (is_some result) self.new }
         ensures granted { MatchOption result ⊤ (λ releaser. releaser ≡ permits) }
         ensures held { MatchOption result ⊤ (λ releaser. releaser ≤ self.new.own.held) }
-        ensures live { AllStayLive self.old self.new }
+        ensures all_stay { AllStay can_be_polled self.old self.new }
     {
         if self.try_acquire_sync(permits) {
             Some(LocalSemaphoreReleaser::of(permits))
@@ -135,7 +138,7 @@ impl<W: Drop> SemaphoreState<W> {
         ensures refused { OnErr result (self.new ≡ self.old) }
         ensures fault { IfErr result (λ fault. (fault ≡ Fault.Overflow) × (2 ^ 64 ≤ self.old.own.free + self.old.own.held + permits)) }
         ensures held { self.new.own.held ≡ self.old.own.held }
-        ensures live { AllStayLive self.old self.new }
+        ensures all_stay { AllStay can_be_polled self.old self.new }
     {
         self.fields.release(permits)
     }
@@ -157,7 +160,7 @@ impl<W: Drop> SemaphoreState<W> {
     /// Takes out the oldest waker that was named to be woken; None where none is left.
     pub fn next_wake(&mut self) -> Option<W>
         ensures woken { Wakes self.old result self.new }
-        ensures live { AllStayLive self.old self.new }
+        ensures all_stay { AllStay can_be_polled self.old self.new }
     {
         self.fields.next_wake()
     }
@@ -175,18 +178,20 @@ impl<W: Drop> SemaphoreState<W> {
         ensures made { IfOk result (λ slot. Makes self.old permits slot.0 self.new) }
         ensures refused { OnErr result (self.new ≡ self.old) }
         ensures fault { IfErr result (λ fault. fault ≡ Fault.NoMemory) }
+        ensures apart { IfOk result (λ slot. IsApart slot.0 self.old) }
+        ensures all_stay { AllStay can_be_polled self.old self.new }
     {
         self.fields.claim_acquire(permits)
     }
 
-    /// A future lives under this slot.
+    /// Returns `true` if a future lives under this slot.
     pub fn is_live(&self, slot: Slot) -> bool
         ensures { result ≡ is_some (phase_at self.now slot.0) }
     {
         self.fields.waits.phase(slot).is_some()
     }
 
-    /// A future lives under this slot that has not ended.
+    /// Returns `true` if a future lives under this slot that has not ended.
     pub fn can_poll(&self, slot: Slot) -> bool
         ensures { result ≡ can_be_polled (phase_at self.now slot.0) }
     {
@@ -214,6 +219,8 @@ impl<W: Drop> SemaphoreState<W> {
         ensures displaced { result.1.displaced ≡ displaced_at self.old slot.0 }
         ensures unused { result.1.unused ≡ unused_after result.0 waker }
         ensures live { is_some (phase_at self.new slot.0) ≡ true }
+        ensures pending { OnPending result.0 (can_be_polled (phase_at self.new slot.0) ≡ true) }
+        ensures others { OthersStay can_be_polled slot.0 self.old self.new }
     {
         self.fields.acquire_or_register(slot, waker)
     }
@@ -227,6 +234,7 @@ impl<W: Drop> SemaphoreState<W> {
         ensures unused { IfOk result (λ polled. polled.1.unused ≡ unused_after polled.0 waker) }
         ensures refused { OnErr result ((can_be_polled (phase_at self.old slot.0) ≡ false) × (self.new ≡ self.old)) }
         ensures handed_back { IfErr result (λ back. back ≡ waker) }
+        ensures others { OthersStay can_be_polled slot.0 self.old self.new }
     {
         if !self.can_poll(slot) {
             return Err(waker);
@@ -240,6 +248,7 @@ impl<W: Drop> SemaphoreState<W> {
         ensures left { LeavesWhere (is_some (phase_at self.old slot.0)) (Cancels self.old slot.0 self.new) (displaced_at self.old slot.0)
             self.old result self.new }
         ensures held { self.new.own.held ≡ self.old.own.held }
+        ensures others { OthersStay can_be_polled slot.0 self.old self.new }
     {
         if !self.is_live(slot) {
             return None;
@@ -254,6 +263,7 @@ impl<W: Drop> SemaphoreState<W> {
         ensures cancelled { Cancels self.old slot.0 self.new }
         ensures held { self.new.own.held ≡ self.old.own.held }
         ensures displaced { result ≡ displaced_at self.old slot.0 }
+        ensures others { OthersStay can_be_polled slot.0 self.old self.new }
     {
         self.fields.remove_waiter(slot)
     }
@@ -262,7 +272,7 @@ impl<W: Drop> SemaphoreState<W> {
     /// `disarm` is called with them.
     pub fn try_acquire_sync(&mut self, permits: usize) -> bool
         ensures tried { TriesAcquire self.old permits result self.new }
-        ensures live { AllStayLive self.old self.new }
+        ensures all_stay { AllStay can_be_polled self.old self.new }
     {
         self.fields.try_acquire(permits)
     }
@@ -273,7 +283,7 @@ impl<W: Drop> SemaphoreState<W> {
     pub fn give_back(&mut self, permits: usize)
         requires { permits ≤ self.old.own.held }
         ensures given_back { GivesBack self.old permits self.new }
-        ensures live { AllStayLive self.old self.new }
+        ensures all_stay { AllStay can_be_polled self.old self.new }
     {
         self.fields.give_back(permits);
     }
@@ -284,7 +294,7 @@ impl<W: Drop> SemaphoreState<W> {
     pub fn disarm(&mut self, permits: usize)
         requires { permits ≤ self.old.own.held }
         ensures disarmed { Disarms self.old permits self.new }
-        ensures live { AllStayLive self.old self.new }
+        ensures all_stay { AllStay can_be_polled self.old self.new }
     {
         self.fields.disarm(permits);
     }

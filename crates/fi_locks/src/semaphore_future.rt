@@ -1,8 +1,9 @@
 //! A future of a semaphore, polled with the semaphore lent to it, and the permits that it acquires.
 ghost use Rattle.std.specs.Prelude.{◌≡◌, ◌≤◌, nat_le, true, false, is_some, IfSome, IfNone};
+ghost use Rattle.futures.specs.Poll.{OnPending};
 ghost use Rattle.fi_parts.specs.Machine.{phase_at};
+ghost use Rattle.fi_parts.specs.Stays.{AllStay, OthersStay};
 ghost use Rattle.fi_parts.specs.Polled.{is_ready};
-ghost use Rattle.fi_locks.specs.Live.{AllStayLive};
 ghost use Rattle.fi_locks.specs.Semaphore.{can_be_polled, Polls, Cancels, GivesBack, Disarms, AreHeld};
 
 use crate::semaphore::LocalSemaphore;
@@ -61,7 +62,7 @@ impl LocalSemaphoreAcquireFuture {
         self.slot
     }
 
-    /// The future was polled to its end. Keeps `FusedFuture::is_terminated`.
+    /// Returns `true` if the future was polled to its end. Keeps `FusedFuture::is_terminated`.
     pub fn is_terminated(&self) -> bool
         ensures { result ≡ self.now.has_ended }
     {
@@ -82,6 +83,8 @@ impl LocalSemaphoreAcquireFuture {
         ensures name { self.new.name ≡ self.old.name }
         ensures ended { self.new.has_ended ≡ is_ready result }
         ensures live { is_some (phase_at semaphore.new self.old.name) ≡ true }
+        ensures pending { OnPending result (can_be_polled (phase_at semaphore.new self.new.name) ≡ true) }
+        ensures others { OthersStay can_be_polled self.old.name semaphore.old semaphore.new }
     {
         let (answer, _leftover) = semaphore.acquire_or_register(self.slot, waker);
         self.is_ended = answer.is_ready();
@@ -103,6 +106,7 @@ impl LocalSemaphoreAcquireFuture {
         ensures ended { IfSome result (λ answer. self.new ≡ record { name = self.old.name; has_ended = is_ready answer }) }
         ensures refused { IfNone result (can_be_polled (phase_at semaphore.old self.old.name) ≡ false) }
         ensures unchanged { IfNone result ((semaphore.new ≡ semaphore.old) × (self.new ≡ self.old)) }
+        ensures others { OthersStay can_be_polled self.old.name semaphore.old semaphore.new }
     {
         let (answer, _leftover) = semaphore.poll_checked(self.slot, waker).ok()?;
         self.is_ended = !answer.is_pending();
@@ -117,6 +121,7 @@ impl LocalSemaphoreAcquireFuture {
         ensures cancelled { is_some (phase_at semaphore.old self.name) ≡ true → Cancels semaphore.old self.name semaphore.new }
         ensures held { semaphore.new.own.held ≡ semaphore.old.own.held }
         ensures unchanged { is_some (phase_at semaphore.old self.name) ≡ false → semaphore.new ≡ semaphore.old }
+        ensures others { OthersStay can_be_polled self.name semaphore.old semaphore.new }
     {
         let LocalSemaphoreAcquireFuture { slot, is_ended: _ } = self;
         semaphore.leave(slot);
@@ -130,6 +135,7 @@ impl LocalSemaphoreAcquireFuture {
         requires { is_some (phase_at semaphore.old self.name) ≡ true }
         ensures cancelled { Cancels semaphore.old self.name semaphore.new }
         ensures held { semaphore.new.own.held ≡ semaphore.old.own.held }
+        ensures others { OthersStay can_be_polled self.name semaphore.old semaphore.new }
     {
         let LocalSemaphoreAcquireFuture { slot, is_ended: _ } = self;
         semaphore.remove_waiter(slot);
@@ -157,7 +163,7 @@ impl LocalSemaphoreReleaser {
     pub fn give_back<W: Drop>(self, semaphore: &mut LocalSemaphore<W>)
         requires { self ≤ semaphore.old.own.held }
         ensures given_back { GivesBack semaphore.old self semaphore.new }
-        ensures live { AllStayLive semaphore.old semaphore.new }
+        ensures all_stay { AllStay can_be_polled semaphore.old semaphore.new }
     {
         let LocalSemaphoreReleaser { permits } = self;
         semaphore.give_back(permits);
@@ -186,7 +192,7 @@ impl LocalSemaphoreReleaser {
         ensures disarmed { Disarms semaphore.old self.old semaphore.new }
         ensures count { result ≡ self.old }
         ensures none_left { self.new ≡ 0 }
-        ensures live { AllStayLive semaphore.old semaphore.new }
+        ensures all_stay { AllStay can_be_polled semaphore.old semaphore.new }
     {
         let permits = mem::replace(&mut self.permits, 0);
         semaphore.disarm(permits);

@@ -5,7 +5,8 @@ ghost use Rattle.fi_parts.specs.Waiting.{phase_of, displaced};
 ghost use Rattle.fi_parts.specs.Machine.{phase_at, displaced_at};
 ghost use Rattle.fi_parts.specs.Deadlines.{IsNextExpiry};
 ghost use Rattle.fi_parts.specs.Polled.{unused_after, WouldBeReady, LeavesWhere};
-ghost use Rattle.fi_locks.specs.Live.{AllStayLive};
+ghost use Rattle.futures.specs.Poll.{OnPending};
+ghost use Rattle.fi_parts.specs.Stays.{AllStay, OthersStay, IsApart};
 ghost use Rattle.fi_locks.specs.Timer.{opened, expiry_after, can_be_polled, Makes, Polls, Cancels, Checks, Wakes, IsSound, OwesNoWake};
 
 use crate::timer_future::LocalTimerFuture;
@@ -79,6 +80,8 @@ impl<W: Drop> TimerState<W> {
         ensures pollable { IfOk result (λ future. can_be_polled (phase_at self.new future.name) ≡ true) }
         ensures refused { OnErr result (self.new ≡ self.old) }
         ensures fault { IfErr result (λ fault. fault ≡ Fault.NoMemory) }
+        ensures apart { IfOk result (λ future. IsApart future.name self.old) }
+        ensures all_stay { AllStay can_be_polled self.old self.new }
     {
         let slot = self.claim_deadline(expiry)?;
         Ok(LocalTimerFuture::at(slot))
@@ -94,6 +97,8 @@ impl<W: Drop> TimerState<W> {
         ensures pollable { IfOk result (λ future. can_be_polled (phase_at self.new future.name) ≡ true) }
         ensures refused { OnErr result (self.new ≡ self.old) }
         ensures fault { IfErr result (λ fault. fault ≡ Fault.NoMemory) }
+        ensures apart { IfOk result (λ future. IsApart future.name self.old) }
+        ensures all_stay { AllStay can_be_polled self.old self.new }
     {
         let slot = self.claim_delay(now, delay)?;
         Ok(LocalTimerFuture::at(slot))
@@ -112,7 +117,7 @@ impl<W: Drop> TimerState<W> {
     /// Keeps `GenericTimerService::check_expirations`.
     pub fn check_expirations(&mut self, now: u64)
         ensures checked { Checks self.old now self.new }
-        ensures live { AllStayLive self.old self.new }
+        ensures all_stay { AllStay can_be_polled self.old self.new }
     {
         self.fields.check_expirations(now);
     }
@@ -120,7 +125,7 @@ impl<W: Drop> TimerState<W> {
     /// Takes out the oldest waker that was named to be woken; None where none is left.
     pub fn next_wake(&mut self) -> Option<W>
         ensures woken { Wakes self.old result self.new }
-        ensures live { AllStayLive self.old self.new }
+        ensures all_stay { AllStay can_be_polled self.old self.new }
     {
         self.fields.deadlines.next_wake()
     }
@@ -138,6 +143,8 @@ impl<W: Drop> TimerState<W> {
         ensures made { IfOk result (λ slot. Makes self.old expiry slot.0 self.new) }
         ensures refused { OnErr result (self.new ≡ self.old) }
         ensures fault { IfErr result (λ fault. fault ≡ Fault.NoMemory) }
+        ensures apart { IfOk result (λ slot. IsApart slot.0 self.old) }
+        ensures all_stay { AllStay can_be_polled self.old self.new }
     {
         self.fields.claim_deadline(expiry)
     }
@@ -148,18 +155,20 @@ impl<W: Drop> TimerState<W> {
         ensures made { IfOk result (λ slot. Makes self.old (expiry_after now (as_nanos delay)) slot.0 self.new) }
         ensures refused { OnErr result (self.new ≡ self.old) }
         ensures fault { IfErr result (λ fault. fault ≡ Fault.NoMemory) }
+        ensures apart { IfOk result (λ slot. IsApart slot.0 self.old) }
+        ensures all_stay { AllStay can_be_polled self.old self.new }
     {
         self.claim_deadline(now.saturating_add(whole_millis(delay)))
     }
 
-    /// A future lives under this slot.
+    /// Returns `true` if a future lives under this slot.
     pub fn is_live(&self, slot: Slot) -> bool
         ensures { result ≡ is_some (phase_at self.now slot.0) }
     {
         self.fields.deadlines.phase(slot).is_some()
     }
 
-    /// A future lives under this slot that has not ended.
+    /// Returns `true` if a future lives under this slot that has not ended.
     pub fn can_poll(&self, slot: Slot) -> bool
         ensures { result ≡ can_be_polled (phase_at self.now slot.0) }
     {
@@ -186,6 +195,8 @@ impl<W: Drop> TimerState<W> {
         ensures displaced { result.1.displaced ≡ displaced_at self.old slot.0 }
         ensures unused { result.1.unused ≡ unused_after result.0 waker }
         ensures live { is_some (phase_at self.new slot.0) ≡ true }
+        ensures pending { OnPending result.0 (can_be_polled (phase_at self.new slot.0) ≡ true) }
+        ensures others { OthersStay can_be_polled slot.0 self.old self.new }
     {
         self.fields.try_wait(slot, now, waker)
     }
@@ -203,6 +214,7 @@ impl<W: Drop> TimerState<W> {
         ensures unused { IfOk result (λ polled. polled.1.unused ≡ unused_after polled.0 waker) }
         ensures refused { OnErr result ((can_be_polled (phase_at self.old slot.0) ≡ false) × (self.new ≡ self.old)) }
         ensures handed_back { IfErr result (λ back. back ≡ waker) }
+        ensures others { OthersStay can_be_polled slot.0 self.old self.new }
     {
         if !self.can_poll(slot) {
             return Err(waker);
@@ -213,8 +225,9 @@ impl<W: Drop> TimerState<W> {
     /// Cancels the future under this slot as `remove_waiter` does, if one lives there. Else None, and nothing changes: so it asks its
     /// caller for nothing.
     pub fn leave(&mut self, slot: Slot) -> Option<W>
-        ensures { LeavesWhere (is_some (phase_at self.old slot.0)) (Cancels self.old slot.0 self.new) (displaced_at self.old slot.0)
+        ensures left { LeavesWhere (is_some (phase_at self.old slot.0)) (Cancels self.old slot.0 self.new) (displaced_at self.old slot.0)
             self.old result self.new }
+        ensures others { OthersStay can_be_polled slot.0 self.old self.new }
     {
         if !self.is_live(slot) {
             return None;
@@ -227,6 +240,7 @@ impl<W: Drop> TimerState<W> {
         requires { is_some (phase_at self.old slot.0) ≡ true }
         ensures cancelled { Cancels self.old slot.0 self.new }
         ensures displaced { result ≡ displaced_at self.old slot.0 }
+        ensures others { OthersStay can_be_polled slot.0 self.old self.new }
     {
         self.fields.remove_waiter(slot)
     }

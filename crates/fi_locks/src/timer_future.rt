@@ -1,6 +1,8 @@
 //! A future of a timer, polled with the timer lent to it.
 ghost use Rattle.std.specs.Prelude.{◌≡◌, true, false, is_some, IfSome, IfNone};
+ghost use Rattle.futures.specs.Poll.{OnPending};
 ghost use Rattle.fi_parts.specs.Machine.{phase_at};
+ghost use Rattle.fi_parts.specs.Stays.{OthersStay};
 ghost use Rattle.fi_parts.specs.Polled.{is_ready};
 ghost use Rattle.fi_locks.specs.Timer.{can_be_polled, Polls, Cancels};
 
@@ -44,7 +46,7 @@ impl LocalTimerFuture {
         self.slot
     }
 
-    /// The future was polled to its end. Keeps `FusedFuture::is_terminated`.
+    /// Returns `true` if the future was polled to its end. Keeps `FusedFuture::is_terminated`.
     pub fn is_terminated(&self) -> bool
         ensures { result ≡ self.now.has_ended }
     {
@@ -67,6 +69,8 @@ impl LocalTimerFuture {
         ensures name { self.new.name ≡ self.old.name }
         ensures ended { self.new.has_ended ≡ is_ready result }
         ensures live { is_some (phase_at timer.new self.old.name) ≡ true }
+        ensures pending { OnPending result (can_be_polled (phase_at timer.new self.new.name) ≡ true) }
+        ensures others { OthersStay can_be_polled self.old.name timer.old timer.new }
     {
         let (answer, _leftover) = timer.try_wait(self.slot, now, waker);
         self.is_ended = answer.is_ready();
@@ -85,6 +89,7 @@ impl LocalTimerFuture {
         ensures ended { IfSome result (λ answer. self.new ≡ record { name = self.old.name; has_ended = is_ready answer }) }
         ensures refused { IfNone result (can_be_polled (phase_at timer.old self.old.name) ≡ false) }
         ensures unchanged { IfNone result ((timer.new ≡ timer.old) × (self.new ≡ self.old)) }
+        ensures others { OthersStay can_be_polled self.old.name timer.old timer.new }
     {
         let (answer, _leftover) = timer.poll_checked(self.slot, now, waker).ok()?;
         self.is_ended = !answer.is_pending();
@@ -95,6 +100,7 @@ impl LocalTimerFuture {
     pub fn leave<W: Drop>(self, timer: &mut LocalTimerService<W>)
         ensures cancelled { is_some (phase_at timer.old self.name) ≡ true → Cancels timer.old self.name timer.new }
         ensures unchanged { is_some (phase_at timer.old self.name) ≡ false → timer.new ≡ timer.old }
+        ensures others { OthersStay can_be_polled self.name timer.old timer.new }
     {
         let LocalTimerFuture { slot, is_ended: _ } = self;
         timer.leave(slot);
@@ -103,7 +109,8 @@ impl LocalTimerFuture {
     /// Ends the wait: the future leaves its timer, and nobody is told. The caller lends the future's own timer.
     pub fn cancel<W: Drop>(self, timer: &mut LocalTimerService<W>)
         requires { is_some (phase_at timer.old self.name) ≡ true }
-        ensures { Cancels timer.old self.name timer.new }
+        ensures cancelled { Cancels timer.old self.name timer.new }
+        ensures others { OthersStay can_be_polled self.name timer.old timer.new }
     {
         let LocalTimerFuture { slot, is_ended: _ } = self;
         timer.remove_waiter(slot);

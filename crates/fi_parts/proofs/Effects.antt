@@ -1,5 +1,5 @@
 -- What each effect says of each name, and what it keeps.
-use Rattle.std.specs.Prelude.{◌≡◌, ◌≢◌, ◌⊎◌, ◌||◌, ℕ, Bool, true, false, not, if◌then◌else◌, Option, Some, None, List, [], ◌∷◌, ◌++◌, refl}
+use Rattle.std.specs.Prelude.{◌≡◌, ◌≢◌, ⊤, ◌⊎◌, ◌||◌, ℕ, Bool, true, false, not, if◌then◌else◌, Option, Some, None, List, [], ◌∷◌, ◌++◌, refl}
 use Rattle.std.proofs.Common.{sym, ◌∙◌, ap, subst, inl, inr, is_some}
 use Rattle.std.proofs.lemmas.Bool.{both_ways, cases_Bool, and_parts, or_left, ne_eqb, cases_eq}
 use Rattle.fi_parts.proofs.Slots.{eqb_same}
@@ -25,8 +25,9 @@ use Rattle.fi_parts.specs.Effects.WaiterEffect.{NoChange, Inserts, Registers, Re
 use Rattle.fi_parts.specs.Effects.WaiterEffect.{NotifiesOldest, NotifiesAll, NotifiesListed, NotifiesFront, PopsOldest, AndThen}
 use Rattle.fi_parts.specs.Effects.WaiterEffect.{Asks, Removes, CompletesOldest}
 use Rattle.fi_parts.specs.Machine.{AllowsBasics, AllowsEffect, Given, waker_effect}
-use Rattle.fi_parts.specs.WakerHistory.{WakerEffect}
-use Rattle.fi_parts.specs.WakerHistory.WakerEffect.{Pends, Leaves, NoEffect}
+use Rattle.fi_parts.specs.Polled.{can_be_polled, is_wait_phase}
+use Rattle.fi_parts.specs.WakerHistory.{WakerEffect, gives}
+use Rattle.fi_parts.specs.WakerHistory.WakerEffect.{Pends, Leaves, Gives, NoEffect}
 
 module _ {W : Type 0} where
   pub some_phase : (p : Option (Phase W)) → may_be_named p ≡ true → (phase : Phase W) × (p ≡ Some phase)
@@ -388,64 +389,140 @@ module _ {D W : Type 0} where
       phase_of new.side name ≡ Some Fresh
   added_fresh old new name asks taken = (to old new _ name (Some Fresh) taken.1 (becomes-made old.side name asks)).here
 
-leaves_something : {W : Type 0} (name : ℕ) → ◌≡◌ {A = WakerEffect W} (Leaves name) NoEffect → ⊥
-leaves_something name e = cc
+-- Who is fresh or waits is fit for this, and so is who was notified, in the phases that are known.
+pub record AreFit {W : Type 0} (known fit : Option (Phase W) → Bool) : Type 0 where
+  pub fresh : fit (Some Fresh) ≡ true
+  pub registered : (waker : W) → fit (Some (Registered waker)) ≡ true
+  pub told : known (Some Told) ≡ true → fit (Some Told) ≡ true
+  pub complete : known (Some Complete) ≡ true → fit (Some Complete) ≡ true
 
-pends_something : {W : Type 0} (name : ℕ) (waker : W) → ◌≡◌ {A = WakerEffect W} (Pends name waker) NoEffect → ⊥
-pends_something name waker e = cc
+-- all of these live
+pub are_live : {W : Type 0} (known : Option (Phase W) → Bool) → AreFit known is_some
+are_live known = record { fresh = refl; registered = λ waker. refl; told = λ is. refl; complete = λ is. refl }
 
-still_some : {W : Type 0} (phase : Phase W) (p : Option (Phase W)) → is_some p ≡ true → is_some (noticed_phase phase p) ≡ true
-still_some phase None lives = lives
-still_some phase (Some Fresh) lives = refl
-still_some phase (Some (Registered w)) lives = refl
-still_some phase (Some Told) lives = refl
-still_some phase (Some Complete) lives = refl
-still_some phase (Some Ended) lives = refl
+-- the phases of those that are told what they waited for
+pub waits_known : {W : Type 0} → AllowsBasics (is_wait_phase {W = W})
+waits_known = record { gone = refl; fresh = refl; registered = λ waker. refl; ended = refl }
 
-module _ {D W : Type 0} where
-  some_of_these : (old new : Waiters D W) (names : List ℕ) (phase : Phase W) → AllBecome old new names phase → (q : ℕ) →
-      is_some (phase_of old q) ≡ true → is_some (phase_of new q) ≡ true
-  some_of_these old new names phase now q lives = elim (cases_Bool (holds q names)) [
-    | inl at ↦ ap is_some (now.these q at)
-    | inr off ↦ ap is_some (now.others q off) ∙ lives
+pub waits_are_fit : {W : Type 0} → AreFit (is_wait_phase {W = W}) can_be_polled
+waits_are_fit = record { fresh = refl; registered = λ waker. refl; told = λ is. refl; complete = λ is. absurd (both_ways false refl is) }
+
+-- this name is not the one that such a call ends or removes
+abbrev pub SparedBy : {W : Type 0} → WakerEffect W → ℕ → Type 0
+SparedBy (Leaves name) q = q ≢ name
+SparedBy on_wakers q = ⊤
+
+noticed_fit : {W : Type 0} (known fit : Option (Phase W) → Bool) → AreFit known fit → (notice : Notice) →
+    known (Some (phase_after notice)) ≡ true → fit (Some (phase_after notice)) ≡ true
+noticed_fit known fit can Tell is = can.told is
+noticed_fit known fit can Renew is = can.fresh
+
+module _ {W : Type 0} (fit : Option (Phase W) → Bool) where
+  still_fit : (phase : Phase W) (p : Option (Phase W)) → fit (Some phase) ≡ true → fit p ≡ true → fit (noticed_phase phase p) ≡ true
+  still_fit phase None can was = was
+  still_fit phase (Some Fresh) can was = was
+  still_fit phase (Some (Registered w)) can was = can
+  still_fit phase (Some Told) can was = was
+  still_fit phase (Some Complete) can was = was
+  still_fit phase (Some Ended) can was = was
+
+  module _ {D : Type 0} (old new : Waiters D W) (q : ℕ) where
+    fit_among : (names : List ℕ) (phase : Phase W) → fit (Some phase) ≡ true → AllBecome old new names phase →
+        fit (phase_of old q) ≡ true → fit (phase_of new q) ≡ true
+    fit_among names phase can now was = elim (cases_Bool (holds q names)) [
+      | inl at ↦ ap fit (now.these q at) ∙ can
+      | inr off ↦ ap fit (now.others q off) ∙ was
+    ]
+
+    pub fit_one : (name : ℕ) (phase : Phase W) → fit (Some phase) ≡ true → Becomes old new name (Some phase) → fit (phase_of old q) ≡ true →
+        fit (phase_of new q) ≡ true
+    fit_one name phase can now was = elim (cases_eq q name) [
+      | inl same ↦ ap (λ n. fit (phase_of new n)) same ∙ ap fit now.here ∙ can
+      | inr ne ↦ ap fit (now.others q ne) ∙ was
+    ]
+
+module _ {D W : Type 0} {place : Option (Phase W) → Bool} (rule : IsPlaceRule place) (known : Option (Phase W) → Bool)
+    (knows : AllowsBasics known) (fit : Option (Phase W) → Bool) (can : AreFit known fit) where
+  -- Whoever is fit before an effect is fit after it, but for the one that it ends or removes.
+  pub stays_fit : (effect : WaiterEffect D W) (old new : Waiting D W) → AllowsEffect rule known old effect →
+      AreSoundBy place known old.side old.out → TakesEffect effect old new → After effect old new → (q : ℕ) →
+      SparedBy (waker_effect effect) q → fit (phase_of old.side q) ≡ true → fit (phase_of new.side q) ≡ true
+  stays_fit NoChange old new is sound taken now q spared was = ap fit (now q) ∙ was
+  stays_fit (Inserts name asks) old new is sound taken now q spared was = fit_one fit old.side new.side q name Fresh can.fresh now was
+  stays_fit (Registers name waker) old new is sound taken now q spared was =
+      fit_one fit old.side new.side q name (Registered waker) (can.registered waker) now was
+  stays_fit (RegistersApart name waker) old new is sound taken now q spared was =
+      fit_one fit old.side new.side q name (Registered waker) (can.registered waker) now was
+  stays_fit (KeepsWaiting name waker) old new is sound taken now q spared was =
+      fit_one fit old.side new.side q name (Registered waker) (can.registered waker) now was
+  stays_fit (Ends name) old new is sound taken now q spared was = ap fit (now.others q spared) ∙ was
+  stays_fit (EndsPlaced name) old new is sound taken now q spared was = ap fit (now.others q spared) ∙ was
+  stays_fit (Renews name) old new is sound taken now q spared was = fit_one fit old.side new.side q name Fresh can.fresh now was
+  stays_fit (Asks name asks) old new is sound taken now q spared was = ap fit (now q) ∙ was
+  stays_fit (Removes name) old new is sound taken now q spared was = ap fit (now.others q spared) ∙ was
+  stays_fit (NotifiesOldest notice) old new is sound taken now q spared was = elim (now q) [
+    | inl same ↦ ap fit same ∙ was
+    | inr told ↦ ap fit told ∙ noticed_fit known fit can notice (and_parts _ _ is).0
   ]
+  stays_fit (NotifiesAll notice) old new is sound taken now q spared was =
+      ap fit (now q)
+      ∙ still_fit fit (phase_after notice) (phase_of old.side q) (noticed_fit known fit can notice (and_parts _ _ is).0) was
+  stays_fit (NotifiesListed notice names) old new is sound taken now q spared was =
+      fit_among fit old.side new.side q names (phase_after notice) (noticed_fit known fit can notice (and_parts _ _ is).0) now was
+  stays_fit (NotifiesFront keeps front) old new is sound taken now q spared was =
+      fit_among fit old.side new.side q front Told (can.told is.0) now was
+  stays_fit (CompletesOldest name asks) old new is sound taken now q spared was =
+      fit_one fit old.side new.side q name Complete (can.complete is) now was
+  stays_fit (PopsOldest waker) old new is sound taken now q spared was = ap fit (now q) ∙ was
+  stays_fit (AndThen one other) old new is sound taken now q spared was =
+      let mid = taken.0 in
+      let sound_then = effect_sound rule known knows one old mid is.0 sound taken.1 in
+      let allows = is.1 mid taken.1 in
+      stays_fit other mid new allows sound_then taken.2 (effect_after rule known knows other mid new allows sound_then taken.2) q
+      (subst (λ (e : WakerEffect W). SparedBy e q) (sym is.2) tt)
+      (stays_fit one old mid is.0 sound taken.1 (effect_after rule known knows one old mid is.0 sound taken.1) q spared was)
 
-  some_of_one : (old new : Waiters D W) (name : ℕ) (phase : Phase W) → Becomes old new name (Some phase) → (q : ℕ) →
-      is_some (phase_of old q) ≡ true → is_some (phase_of new q) ≡ true
-  some_of_one old new name phase now q lives = elim (cases_eq q name) [
-    | inl same ↦ ap (λ n. is_some (phase_of new n)) same ∙ ap is_some now.here
-    | inr ne ↦ ap is_some (now.others q ne) ∙ lives
-  ]
+  -- whoever pends by such a call is fit now
+  abbrev pub IsFitIfPending : WakerEffect W → Waiting D W → Type 0
+  IsFitIfPending (Pends name waker) new = fit (phase_of new.side name) ≡ true
+  IsFitIfPending on_wakers new = ⊤
 
-  module _ {place : Option (Phase W) → Bool} (rule : IsPlaceRule place) (known : Option (Phase W) → Bool) (knows : AllowsBasics known) where
-    -- Whoever lives before an effect that is nothing to the wakers lives after it.
-    pub still_lives : (effect : WaiterEffect D W) (old new : Waiting D W) → AllowsEffect rule known old effect →
-        AreSoundBy place known old.side old.out → TakesEffect effect old new → After effect old new → waker_effect effect ≡ NoEffect →
-        (q : ℕ) → is_some (phase_of old.side q) ≡ true → is_some (phase_of new.side q) ≡ true
-    still_lives NoChange old new is was taken now nothing q lives = ap is_some (now q) ∙ lives
-    still_lives (Inserts name asks) old new is was taken now nothing q lives = absurd (leaves_something name nothing)
-    still_lives (Registers name waker) old new is was taken now nothing q lives = absurd (pends_something name waker nothing)
-    still_lives (RegistersApart name waker) old new is was taken now nothing q lives = absurd (pends_something name waker nothing)
-    still_lives (KeepsWaiting name waker) old new is was taken now nothing q lives = absurd (pends_something name waker nothing)
-    still_lives (Ends name) old new is was taken now nothing q lives = absurd (leaves_something name nothing)
-    still_lives (EndsPlaced name) old new is was taken now nothing q lives = absurd (leaves_something name nothing)
-    still_lives (Renews name) old new is was taken now nothing q lives = absurd (leaves_something name nothing)
-    still_lives (Asks name asks) old new is was taken now nothing q lives = ap is_some (now q) ∙ lives
-    still_lives (Removes name) old new is was taken now nothing q lives = absurd (leaves_something name nothing)
-    still_lives (NotifiesOldest notice) old new is was taken now nothing q lives =
-        elim (now q) [ inl same ↦ ap is_some same ∙ lives | inr told ↦ ap is_some told ]
-    still_lives (NotifiesAll notice) old new is was taken now nothing q lives =
-        ap is_some (now q) ∙ still_some (phase_after notice) (phase_of old.side q) lives
-    still_lives (NotifiesListed notice names) old new is was taken now nothing q lives =
-        some_of_these old.side new.side names (phase_after notice) now q lives
-    still_lives (NotifiesFront keeps front) old new is was taken now nothing q lives =
-        some_of_these old.side new.side front Told now q lives
-    still_lives (CompletesOldest name asks) old new is was taken now nothing q lives =
-        some_of_one old.side new.side name Complete now q lives
-    still_lives (PopsOldest waker) old new is was taken now nothing q lives = ap is_some (now q) ∙ lives
-    still_lives (AndThen one other) old new is was taken now nothing q lives =
-        let mid = taken.0 in
-        let sound = effect_sound rule known knows one old mid is.0 was taken.1 in
-        let allows = is.1 mid taken.1 in
-        still_lives other mid new allows sound taken.2 (effect_after rule known knows other mid new allows sound taken.2) is.2 q
-        (still_lives one old mid is.0 was taken.1 (effect_after rule known knows one old mid is.0 was taken.1) nothing q lives)
+  pub still_pending : (on_wakers : WakerEffect W) (mid new : Waiting D W) → IsFitIfPending on_wakers mid →
+      ((q : ℕ) → fit (phase_of mid.side q) ≡ true → fit (phase_of new.side q) ≡ true) → IsFitIfPending on_wakers new
+  still_pending (Pends name waker) mid new was stays = stays name was
+  still_pending (Leaves name) mid new was stays = tt
+  still_pending (Gives waker) mid new was stays = tt
+  still_pending NoEffect mid new was stays = tt
+
+  pub given_away : (waker : Option W) (new : Waiting D W) → IsFitIfPending (gives waker) new
+  given_away None new = tt
+  given_away (Some waker) new = tt
+
+  -- Who was polled and pends is fit.
+  pub pending_is_fit : (effect : WaiterEffect D W) (old new : Waiting D W) → AllowsEffect rule known old effect →
+      AreSoundBy place known old.side old.out → TakesEffect effect old new → After effect old new →
+      IsFitIfPending (waker_effect effect) new
+  pending_is_fit NoChange old new is sound taken now = tt
+  pending_is_fit (Inserts name asks) old new is sound taken now = tt
+  pending_is_fit (Registers name waker) old new is sound taken now = ap fit now.here ∙ can.registered waker
+  pending_is_fit (RegistersApart name waker) old new is sound taken now = ap fit now.here ∙ can.registered waker
+  pending_is_fit (KeepsWaiting name waker) old new is sound taken now = ap fit now.here ∙ can.registered waker
+  pending_is_fit (Ends name) old new is sound taken now = tt
+  pending_is_fit (EndsPlaced name) old new is sound taken now = tt
+  pending_is_fit (Renews name) old new is sound taken now = tt
+  pending_is_fit (Asks name asks) old new is sound taken now = tt
+  pending_is_fit (Removes name) old new is sound taken now = tt
+  pending_is_fit (NotifiesOldest notice) old new is sound taken now = tt
+  pending_is_fit (NotifiesAll notice) old new is sound taken now = tt
+  pending_is_fit (NotifiesListed notice names) old new is sound taken now = tt
+  pending_is_fit (NotifiesFront keeps front) old new is sound taken now = tt
+  pending_is_fit (CompletesOldest name asks) old new is sound taken now = tt
+  pending_is_fit (PopsOldest waker) old new is sound taken now = given_away waker new
+  pending_is_fit (AndThen one other) old new is sound taken now =
+      let mid = taken.0 in
+      let sound_then = effect_sound rule known knows one old mid is.0 sound taken.1 in
+      let allows = is.1 mid taken.1 in
+      still_pending (waker_effect one) mid new
+      (pending_is_fit one old mid is.0 sound taken.1 (effect_after rule known knows one old mid is.0 sound taken.1))
+      (λ q. stays_fit other mid new allows sound_then taken.2 (effect_after rule known knows other mid new allows sound_then taken.2) q
+      (subst (λ (e : WakerEffect W). SparedBy e q) (sym is.2) tt))

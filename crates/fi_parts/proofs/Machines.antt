@@ -1,11 +1,12 @@
 -- What each line of a machine's table keeps.
-use Rattle.std.specs.Prelude.{◌≡◌, ◌≢◌, ℕ, ◌==◌, if◌then◌else◌, true, false, Option, Some, None, List, [], ◌∷◌, refl}
-use Rattle.std.proofs.Common.{sym, ◌∙◌, ap, inl, inr, is_some}
+use Rattle.std.specs.Prelude.{◌≡◌, ◌≢◌, ℕ, ◌==◌, if◌then◌else◌, Bool, true, false, Option, Some, None, Result, Ok, Err, List, [], ◌∷◌, refl}
+use Rattle.std.proofs.Common.{sym, ◌∙◌, ap, subst, inl, inr, is_some, IfOk, OnErr}
 use Rattle.std.proofs.lemmas.Bool.{both_ways, cases_eq, cases_Bool, eq-eqb, ne_eqb}
 use Rattle.std.specs.Ordering.{nat_cmp}
 use Rattle.std.specs.FinMap as map
 use Rattle.futures.specs.declared.task.Poll.{Poll}
 use Rattle.futures.specs.declared.task.Poll.TheVariants.{Ready, Pending}
+use Rattle.futures.specs.Poll.{OnPending}
 use Rattle.fi_parts.specs.declared.phase.Phase.{Phase}
 use Rattle.fi_parts.specs.declared.phase.Phase.TheVariants.{Fresh, Registered, Told, Complete, Ended}
 use Rattle.fi_parts.specs.declared.phase.Notice.{Notice}
@@ -21,14 +22,17 @@ use Rattle.fi_parts.proofs.FiniteMaps.{get-insert_same, get-insert_other, get-re
 use Rattle.fi_parts.specs.WakerHistory.{WakerEffect, gives}
 use Rattle.fi_parts.specs.WakerHistory.WakerEffect.{Leaves, NoEffect}
 use Rattle.fi_parts.proofs.PairsWithin.{if_true, if_false}
-use Rattle.fi_parts.specs.Effects.{WaiterEffect, TakesEffect, oldest_notified}
+use Rattle.fi_parts.proofs.Results.{either, of_made}
+use Rattle.fi_parts.specs.Effects.{WaiterEffect, TakesEffect, oldest_notified, keeps_asks}
 use Rattle.fi_parts.specs.Effects.WaiterEffect.{NoChange, Inserts, Registers, RegistersApart, KeepsWaiting, Ends, EndsPlaced, Renews}
 use Rattle.fi_parts.specs.Effects.WaiterEffect.{NotifiesOldest, NotifiesAll, NotifiesListed, NotifiesFront, PopsOldest, AndThen}
 use Rattle.fi_parts.specs.Effects.WaiterEffect.{Asks, Removes, CompletesOldest}
 use Rattle.fi_parts.specs.Machine.{Machine, phase_at, initial, StepsTo, HasSoundWaitersBy, AllLack, AllowsEffect, LacksAfter, StillLacks}
-use Rattle.fi_parts.specs.Machine.{waker_effect, WaiterRules, Line, poll_effect, PollLine}
+use Rattle.fi_parts.specs.Machine.{waker_effect, WaiterRules, Line, poll_effect, answered_effect, PollLine}
+use Rattle.fi_parts.specs.Stays.{AllStay, OthersStay, IsApart}
+use Rattle.fi_parts.specs.declared.errors.Fault.{Fault}
 use Rattle.fi_parts.proofs.Effects.{After, AreNotified, IsOf, effect_after, effect_sound, notified_after, queues, oldest_are, all_are}
-use Rattle.fi_parts.proofs.Effects.{listed_are, front_are, polled_lives, still_lives, added_fresh}
+use Rattle.fi_parts.proofs.Effects.{listed_are, front_are, polled_lives, AreFit, SparedBy, are_live, fit_one, stays_fit, IsFitIfPending, pending_is_fit, added_fresh}
 
 module _ {D W : Type 0} where
   -- one name changed: another is registered as before, and asks the same
@@ -103,6 +107,27 @@ module _ {D W : Type 0} where
   asks_after (PopsOldest waker) old new did q = asks_to new _ q did.1
   asks_after (AndThen one other) old new did q =
       asks_after other did.0 new did.2 q ∙ ap (asks_step other q) (asks_after one old did.0 did.1 q)
+
+  -- Whoever is not made or removed asks for the same after an effect that keeps what is asked for.
+  pub asks_stay : (effect : WaiterEffect D W) (old new : Waiting D W) → keeps_asks effect ≡ true → TakesEffect effect old new → (q : ℕ) →
+      SparedBy (waker_effect effect) q → asks_of new.side q ≡ asks_of old.side q
+  asks_stay (Inserts name asks) old new keeps did q spared = asks_to new _ q did.1 ∙ asks_made old.side name asks q spared
+  asks_stay (Removes name) old new keeps did q spared = asks_to new _ q did.1 ∙ asks_forgotten old.side name q spared
+  asks_stay NoChange old new keeps did q spared = asks_after NoChange old new did q
+  asks_stay (Registers name waker) old new keeps did q spared = asks_after (Registers name waker) old new did q
+  asks_stay (RegistersApart name waker) old new keeps did q spared = asks_after (RegistersApart name waker) old new did q
+  asks_stay (KeepsWaiting name waker) old new keeps did q spared = asks_after (KeepsWaiting name waker) old new did q
+  asks_stay (Ends name) old new keeps did q spared = asks_after (Ends name) old new did q
+  asks_stay (EndsPlaced name) old new keeps did q spared = asks_after (EndsPlaced name) old new did q
+  asks_stay (Renews name) old new keeps did q spared = asks_after (Renews name) old new did q
+  asks_stay (NotifiesOldest notice) old new keeps did q spared = asks_after (NotifiesOldest notice) old new did q
+  asks_stay (NotifiesAll notice) old new keeps did q spared = asks_after (NotifiesAll notice) old new did q
+  asks_stay (NotifiesListed notice names) old new keeps did q spared = asks_after (NotifiesListed notice names) old new did q
+  asks_stay (NotifiesFront stays front) old new keeps did q spared = asks_after (NotifiesFront stays front) old new did q
+  asks_stay (PopsOldest waker) old new keeps did q spared = asks_after (PopsOldest waker) old new did q
+  asks_stay (Asks name asks) old new keeps did q spared = absurd (both_ways false refl keeps)
+  asks_stay (CompletesOldest name asks) old new keeps did q spared = absurd (both_ways false refl keeps)
+  asks_stay (AndThen one other) old new keeps did q spared = absurd (both_ways false refl keeps)
 
 module _ {S D W : Type 0} (rules : WaiterRules S D W) where
   abbrev Lack : S → Waiting D W → Type 0
@@ -251,6 +276,15 @@ module _ {S D W : Type 0} (rules : WaiterRules S D W) where
   pub pops : (waker : Option W) (old new : Machine S D W) → StepsTo old old.own (PopsOldest waker) new → Line rules (gives waker) old new
   pops waker old new did = line old.own (PopsOldest waker) old new did tt (λ asks lack. lack)
 
+  -- Who was fit before a line is fit after it, but for the one that it ends or removes.
+  line_keeps_fit : {on_wakers : WakerEffect W} (fit : Option (Phase W) → Bool) → AreFit rules.phases fit → (old new : Machine S D W) →
+      Line rules on_wakers old new → HasSoundWaitersBy rules.place rules.phases old → (q : ℕ) → SparedBy on_wakers q →
+      fit (phase_at old q) ≡ true → fit (phase_at new q) ≡ true
+  line_keeps_fit fit can old new did sound q spared =
+      stays_fit rules.places rules.phases rules.known fit can did.effect old.waiting new.waiting did.allows sound did.steps.1
+      (effect_after rules.places rules.phases rules.known did.effect old.waiting new.waiting did.allows sound did.steps.1) q
+      (subst (λ (e : WakerEffect W). SparedBy e q) (sym did.effect_is) spared)
+
   -- A poll by one effect on the name that was polled.
   pub polls : {on_wakers : WakerEffect W} (own : S) (effect : WaiterEffect D W) (name : ℕ) (old new : Machine S D W) →
       StepsTo old own effect new → AllowsEffect rules.places rules.phases old.waiting effect →
@@ -276,7 +310,8 @@ module _ {S D W : Type 0} (rules : WaiterRules S D W) where
       let now = effect_after rules.places rules.phases rules.known other mid new.waiting allowed sound steps.1.2 in
       record {
         line = record { own = own; effect = AndThen one other; steps = steps; allows = allows; lack = lack; effect_is = is };
-        lives = still_lives rules.places rules.phases rules.known other mid new.waiting allowed sound steps.1.2 now allows.2 name
+        lives = stays_fit rules.places rules.phases rules.known is_some (are_live rules.phases) other mid new.waiting allowed sound
+            steps.1.2 now name (subst (λ (e : WakerEffect W). SparedBy e name) (sym allows.2) tt)
             (polled_lives one old.waiting mid name of steps.1.1);
         asks = λ q. asks_after (AndThen one other) old.waiting new.waiting steps.1 q ∙ same q;
       }
@@ -338,6 +373,97 @@ module _ {S D W : Type 0} (rules : WaiterRules S D W) where
       AllowsEffect rules.places rules.phases old.waiting effect → StepsTo old own effect new → After effect old.waiting new.waiting
   phases_after own effect old new was allows steps =
       effect_after rules.places rules.phases rules.known effect old.waiting new.waiting allows was steps.1
+
+-- Who lives or can be polled before a call does so after it, but for the one that it ends or removes.
+module _ {S D W : Type 0} (rules : WaiterRules S D W) (can_poll : Option (Phase W) → Bool) (can : AreFit rules.phases can_poll)
+    (old new : Machine S D W) (sound : HasSoundWaitersBy rules.place rules.phases old) where
+  keep_fit : {on_wakers : WakerEffect W} → Line rules on_wakers old new → (fit : Option (Phase W) → Bool) → AreFit rules.phases fit →
+      (q : ℕ) → SparedBy on_wakers q → fit (phase_at old q) ≡ true → fit (phase_at new q) ≡ true
+  keep_fit did fit may q spared = line_keeps_fit rules fit may old new did sound q spared
+
+  -- a call that is nothing to the wakers
+  pub all_stay : Line rules NoEffect old new → AllStay can_poll old new
+  all_stay did = record {
+    live = λ q. keep_fit did is_some (are_live rules.phases) q tt;
+    pollable = λ q. keep_fit did can_poll can q tt;
+  }
+
+  apart_stay : {on_wakers : WakerEffect W} (name : ℕ) → Line rules on_wakers old new → ((q : ℕ) → q ≢ name → SparedBy on_wakers q) →
+      OthersStay can_poll name old new
+  apart_stay name did spared = record {
+    live = λ q ne. keep_fit did is_some (are_live rules.phases) q (spared q ne);
+    pollable = λ q ne. keep_fit did can_poll can q (spared q ne);
+  }
+
+  -- a cancel
+  pub others_stay : (name : ℕ) → Line rules (Leaves name) old new → OthersStay can_poll name old new
+  others_stay name did = apart_stay name did (λ q ne. ne)
+
+  -- a poll
+  pub polling_stays : {A : Type 0} (name : ℕ) (waker : W) (answer : Poll A) → Line rules (poll_effect name waker answer) old new →
+      OthersStay can_poll name old new
+  polling_stays name waker Pending did = apart_stay name did (λ q ne. tt)
+  polling_stays name waker (Ready x) did = apart_stay name did (λ q ne. ne)
+
+  -- a poll that may be refused
+  pub answering_stays : {A : Type 0} (name : ℕ) (waker : W) (answer : Poll (Result A Fault)) →
+      Line rules (answered_effect name waker answer) old new → OthersStay can_poll name old new
+  answering_stays name waker Pending did = apart_stay name did (λ q ne. tt)
+  answering_stays name waker (Ready (Ok x)) did = apart_stay name did (λ q ne. ne)
+  answering_stays name waker (Ready (Err fault)) did = apart_stay name did (λ q ne. tt)
+
+  -- a making
+  making_stays : (own : S) (name : ℕ) (asks : D) → StepsTo old own (Inserts name asks) new → AllStay can_poll old new
+  making_stays own name asks did =
+      let now = phases_after rules own (Inserts name asks) old new sound tt did in
+      record {
+        live = λ q. fit_one is_some old.waiting.side new.waiting.side q name Fresh refl now;
+        pollable = λ q. fit_one can_poll old.waiting.side new.waiting.side q name Fresh can.fresh now;
+      }
+
+  -- a making that may be refused
+  pub claiming_stays : {A E : Type 0} (result : Result A E) (name : A → ℕ) (own : S) (asks : D) →
+      IfOk result (λ x. StepsTo old own (Inserts (name x) asks) new) → OnErr result (new ≡ old) → AllStay can_poll old new
+  claiming_stays result name own asks made refused =
+      either result _ _ (AllStay can_poll old new) made refused (λ x did. making_stays own (name x) asks did)
+      (λ same. all_stay (unchanged rules old new same))
+
+  -- a poll that is pending leaves its future fit to be polled
+  is_fit : {on_wakers : WakerEffect W} → Line rules on_wakers old new →
+      IsFitIfPending rules.places rules.phases rules.known can_poll can on_wakers new.waiting
+  is_fit did =
+      subst (λ (e : WakerEffect W). IsFitIfPending rules.places rules.phases rules.known can_poll can e new.waiting) did.effect_is
+      (pending_is_fit rules.places rules.phases rules.known can_poll can did.effect old.waiting new.waiting did.allows sound did.steps.1
+      (effect_after rules.places rules.phases rules.known did.effect old.waiting new.waiting did.allows sound did.steps.1))
+
+  pub pending_stays : {A : Type 0} (name : ℕ) (waker : W) (answer : Poll A) → Line rules (poll_effect name waker answer) old new →
+      OnPending answer (can_poll (phase_at new name) ≡ true)
+  pending_stays name waker Pending did = is_fit did
+  pending_stays name waker (Ready x) did = tt
+
+  pub pending_answer_stays : {A : Type 0} (name : ℕ) (waker : W) (answer : Poll (Result A Fault)) →
+      Line rules (answered_effect name waker answer) old new → OnPending answer (can_poll (phase_at new name) ≡ true)
+  pending_answer_stays name waker Pending did = is_fit did
+  pending_answer_stays name waker (Ready x) did = tt
+
+module _ {S D W : Type 0} (old new : Machine S D W) where
+  -- the taking out of the oldest waker
+  pub popping_stays : (can_poll : Option (Phase W) → Bool) (own : S) (waker : Option W) → StepsTo old own (PopsOldest waker) new →
+      AllStay can_poll old new
+  popping_stays can_poll own waker did = record {
+    live = λ name is. ap (λ (w : Waiting D W). is_some (phase_of w.side name)) did.1.1 ∙ is;
+    pollable = λ name is. ap (λ (w : Waiting D W). can_poll (phase_of w.side name)) did.1.1 ∙ is;
+  }
+
+  -- whoever lived has another name than the one that was made
+  made_apart : (own : S) (name : ℕ) (asks : D) → StepsTo old own (Inserts name asks) new → IsApart name old
+  made_apart own name asks did q lives same =
+      both_ways false refl (sym (ap is_some did.1.0) ∙ ap (λ n. is_some (phase_at old n)) (sym same) ∙ lives)
+
+  pub claimed_apart : {A E : Type 0} (result : Result A E) (name : A → ℕ) (own : S) (asks : D) →
+      IfOk result (λ x. StepsTo old own (Inserts (name x) asks) new) → IfOk result (λ x. IsApart (name x) old)
+  claimed_apart result name own asks made =
+      of_made result _ (λ x. IsApart (name x) old) made (λ x did. made_apart own (name x) asks did)
 
 -- What the history says of a name and what the name's phase says stay the same, where one name changed.
 module _ {X D W : Type 0} (said : Option (Phase W) → X) where

@@ -41,3 +41,4 @@ pub mod Deadlines
 pub mod Seats
 pub mod Polled
 pub mod WaiterPolls
+pub mod Stays

@@ -1,7 +1,9 @@
--- What a poll leaves behind.
+-- Who may be polled, and what a poll leaves behind.
 use Rattle.std.specs.Prelude.{◌≡◌, ℕ, Bool, true, false, Option, Some, None}
 use Rattle.futures.specs.declared.task.Poll.{Poll}
 use Rattle.futures.specs.declared.task.Poll.TheVariants.{Ready, Pending}
+use Rattle.fi_parts.specs.declared.phase.Phase.{Phase}
+use Rattle.fi_parts.specs.declared.phase.Phase.TheVariants.{Fresh, Registered, Told, Complete}
 
 -- A future outside its primitive: its name there, and whether it was polled to its end.
 pub record LocalFuture : Type 0 where
@@ -26,3 +28,15 @@ WouldBeReady {A} {S} {W} polls is_ready_now =
 abbrev pub LeavesWhere : {S W : Type 0} → Bool → Type 0 → Option W → S → Option W → S → Type 0
 LeavesWhere true cancels had old left new = cancels × (left ≡ had)
 LeavesWhere false cancels had old left new = (new ≡ old) × (left ≡ None)
+
+-- a poll may be made: the future lives and has not ended
+abbrev pub can_be_polled : {W : Type 0} → Option (Phase W) → Bool
+can_be_polled (Some Fresh) = true
+can_be_polled (Some (Registered waker)) = true
+can_be_polled (Some Told) = true
+can_be_polled phase = false
+
+-- the phases of a future that is told what it waited for: none is complete
+abbrev pub is_wait_phase : {W : Type 0} → Option (Phase W) → Bool
+is_wait_phase (Some Complete) = false
+is_wait_phase phase = true

@@ -139,21 +139,21 @@ impl<W: Drop> Deadlines<W> {
         }
     }
 
-    /// True if a live future has this name and is registered.
+    /// Returns `true` if a live future has this name and is registered.
     pub fn is_registered(&self, slot: Slot) -> bool
         ensures { result ≡ is_registered (phase_of self.now.side slot.0) }
     {
         matches!(self.phase(slot), Some(Phase::Registered(_)))
     }
 
-    /// True if a live future has this name and is fresh.
+    /// Returns `true` if a live future has this name and is fresh.
     pub fn is_fresh(&self, slot: Slot) -> bool
         ensures { result ≡ is_fresh (phase_of self.now.side slot.0) }
     {
         matches!(self.phase(slot), Some(Phase::Fresh))
     }
 
-    /// True if the expiry of a live name has come at this moment.
+    /// Returns `true` if the expiry of a live name has come at this moment.
     pub fn has_come(&self, slot: Slot, now: u64) -> bool
         requires { IsLive self.now.side slot.0 }
         ensures { result ≡ nat_le (expiry_of self.now.side slot.0) now }

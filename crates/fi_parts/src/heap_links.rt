@@ -149,7 +149,7 @@ impl NodeLinks {
         }
     }
 
-    /// The node has links.
+    /// Returns `true` if the node has links.
     pub fn is_some(&self) -> bool
         ensures { result ≡ is_some self.now }
     {

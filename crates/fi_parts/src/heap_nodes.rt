@@ -98,7 +98,7 @@ impl<T> HeapNodes<T> {
         &mut node.value
     }
 
-    /// The node has links, so it is in the heap.
+    /// Returns `true` if the node has links, so it is in the heap.
     pub fn is_linked(&self, slot: usize) -> bool
         ensures { result ≡ is_some (links_of self.now slot) }
     {

@@ -1,5 +1,12 @@
 //! The parts that the primitives stand on: a list over live slots, an outbox of named wakers, a store of waiting futures over
 //! both, and one of futures that wait for a moment, over that and a heap.
+//!
+//! - `LinkedList` and `PairingHeap` keep values under slots (`Slot`), in a list or by order.
+//! - `Outbox` keeps the wakers that are named to be woken, each by its `Ticket`.
+//! - `Waits` keeps futures with what they ask for and their `Phase`, those that wait in a queue (a `Line` and an `Outbox`);
+//!   `Deadlines` those that wait for a moment (`Waits` and a heap).
+//! - `buffer` has what a channel keeps its values in. `Clock` says which moment it is.
+//! - `Fault`, `NoRoom`, `ChannelSendError`, `CloseStatus` and `StateId` are what calls answer everywhere.
 #![tactic(auto)]
 
 mod blocks;

@@ -45,7 +45,7 @@ impl<T> LinkedList<T> {
         }
     }
 
-    /// No slot is in the list. The slots in the list are live, none is there twice, and there are fewer than 2^64.
+    /// Returns `true` if no slot is in the list. The slots in the list are live, none is there twice, and there are fewer than 2^64.
     pub fn is_empty(&self) -> bool
         ensures empty { result ≡ (length self.now.order == 0) }
         ensures listed { IsListed self.now }
@@ -125,7 +125,7 @@ impl<T> LinkedList<T> {
         self.blocks.link(slot.0);
     }
 
-    /// Takes a slot out of the list; it stays live. False where it was not in the list. Keeps `LinkedList::remove`.
+    /// Takes a slot out of the list; it stays live. `false` where it was not in the list. Keeps `LinkedList::remove`.
     #[tactic(auto, using(crate::proofs::Queues::taken_out))]
     pub fn remove(&mut self, slot: Slot) -> bool
         ensures found { result ≡ holds slot.0 self.old.order }

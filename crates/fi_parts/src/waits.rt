@@ -197,7 +197,7 @@ impl<D: Drop, W: Drop> Waits<D, W> {
         self.outbox.name(ticket, (slot.0, waker.unwrap()));
     }
 
-    /// True if a live future has this name and is registered.
+    /// Returns `true` if a live future has this name and is registered.
     pub fn is_registered(&self, slot: Slot) -> bool
         ensures { result ≡ is_registered (phase_of self.now.side slot.0) }
     {

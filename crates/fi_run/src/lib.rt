@@ -1,4 +1,11 @@
 //! Primitives as machines that answer calls, and lists of calls as runs.
+//!
+//! - `Primitive` is a state that answers the calls of its type (`EventCall`, `ChannelCall`, ..) with an `Answer`; `run` makes a list
+//!   of calls on it.
+//! - `every_run`, and `every_run_of_an_event` to `every_run_of_a_pool`, have contracts that say what holds over every list of calls.
+//! - `PoolState` is a worker pool, made of a channel, a semaphore and an event.
+//! - `Journal` keeps the history of one primitive, as `Entry`s, and gives a `Receipt` for each call. `Desk` shares a journal among
+//!   callers, each of whom has a `Seat`; `Settled` is a history that has exactly the receipts of all seats.
 #![tactic(auto)]
 
 mod answer;

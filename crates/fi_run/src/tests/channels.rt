@@ -1,5 +1,6 @@
 //! The local futures, each call once at a concrete type.
 
+mod beside;
 mod by_slot;
 mod channel;
 mod clones;

@@ -1,3 +1,4 @@
+use Rattle.fi_channels.proofs.ChannelStays.{claimed_send_stays, claimed_send_apart}
 use Rattle.fi_channels.specs.ChannelFields.{machine_of}
 use Rattle.fi_channels.proofs.ChannelLaws.{makes_send, unchanged}
 use Rattle.fi_channels.proofs.Results.{either}
@@ -10,3 +11,17 @@ invariant_of-self g c =
     either c.claim_send.result _ _ _ c.claim_send.ensures.made c.claim_send.ensures.refused
     (λ slot did. (makes_send old new c.args.value slot.0 did c.self.invariant).1) (λ same.
     (unchanged old new same c.self.invariant).1)
+
+pub returns-clause-all_stay : goal.returns-clause-all_stay
+returns-clause-all_stay g c =
+    let old = machine_of g.B.RingBuf.bounded c.self.inside.fields in
+    let new = machine_of g.B.RingBuf.bounded c.claim_send.new.self in
+    rw (← c.self.view_is) (claimed_send_stays old new c.self.invariant c.claim_send.result (λ slot. slot.0) c.args.value
+    c.claim_send.ensures.made c.claim_send.ensures.refused)
+
+pub returns-clause-apart : goal.returns-clause-apart
+returns-clause-apart g c =
+    let old = machine_of g.B.RingBuf.bounded c.self.inside.fields in
+    let new = machine_of g.B.RingBuf.bounded c.claim_send.new.self in
+    rw (← c.self.view_is) (claimed_send_apart old new c.self.invariant c.claim_send.result (λ slot. slot.0) c.args.value
+    c.claim_send.ensures.made)

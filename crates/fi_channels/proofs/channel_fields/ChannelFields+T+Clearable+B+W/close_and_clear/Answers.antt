@@ -1,5 +1,5 @@
-use Rattle.std.proofs.Common.{ap, refl}
-use Rattle.fi_channels.specs.ChannelFields.{machine, machine_of}
+use Rattle.std.proofs.Common.{refl}
+use Rattle.fi_channels.specs.ChannelFields.{machine_of}
 use Rattle.fi_channels.specs.Clearable.{bounded_of}
 use Rattle.fi_channels.proofs.channel_fields.ChannelFields+T+Clearable+B+W.close_and_clear.Goals as goal
 

@@ -1,4 +1,4 @@
-use Rattle.std.proofs.Common.{subst, sym}
+use Rattle.std.proofs.Common.{subst}
 use Rattle.fi_channels.specs.Polled.{Answered, WouldBeReady}
 use Rattle.fi_channels.specs.StateBroadcast.{Polls, LacksClone}
 use Rattle.fi_channels.proofs.state.StateBroadcastStateChannelReceiveAccess.receive_ends_now.Goals as goal

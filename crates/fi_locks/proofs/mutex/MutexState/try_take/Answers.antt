@@ -1,4 +1,6 @@
-use Rattle.fi_locks.specs.LiveLaws.{stay_live}
+use Rattle.fi_parts.proofs.Effects.{waits_are_fit}
+use Rattle.fi_parts.proofs.Machines.{all_stay}
+use Rattle.fi_locks.specs.Mutex.{can_be_polled}
 use Rattle.fi_locks.specs.MutexFields.{machine_of}
 use Rattle.fi_locks.specs.MutexLaws.{rules, stays_well, tried, locks_if_given}
 use Rattle.fi_locks.proofs.mutex.MutexState.try_take.Goals as goal
@@ -13,9 +15,9 @@ pub returns-clause-locked : goal.returns-clause-locked
 returns-clause-locked g c =
     locks_if_given (machine_of c.self.inside.fields) (machine_of c.try_take.new.self) c.try_take.result c.try_take.ensures
 
-pub returns-clause-live : goal.returns-clause-live
-returns-clause-live g c =
+pub returns-clause-all_stay : goal.returns-clause-all_stay
+returns-clause-all_stay g c =
     let old = machine_of c.self.inside.fields in
     let new = machine_of c.try_take.new.self in
-    rw (← c.self.view_is) (stay_live old new (rules old.own.is_fair)
-    (tried old new c.self.invariant c.try_take.result c.try_take.ensures).line c.self.invariant.0)
+    rw (← c.self.view_is) (all_stay (rules old.own.is_fair) can_be_polled waits_are_fit old new c.self.invariant.0
+    (tried old new c.self.invariant c.try_take.result c.try_take.ensures).line)

@@ -1,4 +1,4 @@
-use Rattle.std.proofs.Common.{◌≡◌, ℕ, true, Some, refl, ap, sym, ◌∙◌}
+use Rattle.std.proofs.Common.{◌≡◌, ℕ, true, refl, ap, sym, ◌∙◌}
 use Rattle.fi_parts.specs.declared.phase.Phase.TheVariants.{Ended}
 use Rattle.fi_parts.specs.Effects.{TakesEffect}
 use Rattle.fi_parts.specs.Effects.WaiterEffect.{Registers, Ends}

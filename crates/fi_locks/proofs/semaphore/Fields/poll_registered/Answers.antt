@@ -1,4 +1,4 @@
-use Rattle.std.proofs.Common.{◌≡◌, ℕ, ap, ◌∙◌}
+use Rattle.std.proofs.Common.{ℕ, ap, ◌∙◌}
 use Rattle.fi_parts.specs.declared.phase.Phase.TheVariants.{Registered}
 use Rattle.fi_parts.specs.Effects.{TakesEffect}
 use Rattle.fi_parts.specs.Effects.WaiterEffect.{KeepsWaiting}

@@ -8,7 +8,7 @@ use Rattle.fi_locks.specs.Semaphore.{cancel_tells, IsSound, Tells}
 use Rattle.fi_locks.specs.SemaphoreFields.{machine_of}
 use Rattle.fi_locks.specs.SemaphoreSoundLaws.{at_own, after, sound_removed}
 use Rattle.fi_locks.proofs.SemaphoreMarks.{marks_removed}
-use Rattle.fi_locks.proofs.SemaphoreSteps.{telling_if, quiet_if, live_from}
+use Rattle.fi_locks.proofs.SemaphoreSteps.{telling_if, live_from}
 use Rattle.fi_locks.proofs.semaphore.Fields.remove_waiter.Goals as goal
 
 -- the future is removed from the waiters as they were

@@ -1,8 +1,7 @@
-use Rattle.std.proofs.Common.{◌≡◌, ◌<◌, ◌≤◌, ◌++◌, ◌∷◌, ℕ, List, refl, ap, sym, ◌∙◌}
+use Rattle.std.proofs.Common.{◌≡◌, ◌<◌, ◌≤◌, ℕ, ap, ◌∙◌}
 use Rattle.fi_parts.specs.Waiting.{Waiting, told_one}
 use Rattle.fi_locks.specs.declared.semaphore.Fields.{Fields}
 use Rattle.fi_locks.specs.Semaphore.{need_of}
-use Rattle.fi_locks.specs.SemaphoreFields.{IsFirst}
 use Rattle.fi_locks.proofs.TellingRounds.{walk_stops, walk_on, walk_queued, walk_ordered, walk_smaller}
 use Rattle.fi_locks.proofs.semaphore.Fields.tell_from.Goals as goal
 

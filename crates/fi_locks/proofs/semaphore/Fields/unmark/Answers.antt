@@ -1,4 +1,4 @@
-use Rattle.std.proofs.Common.{◌≡◌, ◌≢◌, ℕ, ◌∷◌, ◌++◌, Some, None, MatchOption, sym, subst, ◌∙◌}
+use Rattle.std.proofs.Common.{◌≡◌, ◌≢◌, ℕ, ◌∷◌, ◌++◌, MatchOption, sym, subst, ◌∙◌}
 use Rattle.fi_locks.specs.SemaphoreFields.{machine_of}
 use Rattle.fi_locks.proofs.SemaphoreMarks.{told_need_free, unmark_told, unmark_other, unmark_first}
 use Rattle.fi_locks.proofs.semaphore.Fields.unmark.Goals as goal

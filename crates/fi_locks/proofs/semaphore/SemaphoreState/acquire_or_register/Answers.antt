@@ -1,3 +1,7 @@
+use Rattle.fi_parts.proofs.Effects.{waits_are_fit}
+use Rattle.fi_parts.proofs.Machines.{polling_stays, pending_stays}
+use Rattle.fi_locks.specs.Semaphore.{can_be_polled}
+use Rattle.fi_locks.specs.SemaphoreSoundLaws.{rules}
 use Rattle.fi_locks.specs.SemaphoreFields.{machine_of}
 use Rattle.fi_locks.specs.SemaphoreLaws.{poll_holds, polled, polled_held}
 use Rattle.fi_locks.proofs.semaphore.SemaphoreState.acquire_or_register.Goals as goal
@@ -20,3 +24,21 @@ returns-clause-live g c =
     let new = machine_of c.acquire_or_register.new.self in
     (polled old c.args.slot.0 c.args.waker c.acquire_or_register.result.0 new c.self.invariant.0.0
     c.acquire_or_register.ensures.polled).lives
+
+pub returns-clause-pending : goal.returns-clause-pending
+returns-clause-pending g c =
+    let old = machine_of c.self.inside.fields in
+    let new = machine_of c.acquire_or_register.new.self in
+    pending_stays (rules old.own.is_fair) can_be_polled waits_are_fit old new c.self.invariant.0.0.waiters c.args.slot.0 c.args.waker
+    c.acquire_or_register.result.0
+    (polled old c.args.slot.0 c.args.waker c.acquire_or_register.result.0 new c.self.invariant.0.0
+    c.acquire_or_register.ensures.polled).line
+
+pub returns-clause-others : goal.returns-clause-others
+returns-clause-others g c =
+    let old = machine_of c.self.inside.fields in
+    let new = machine_of c.acquire_or_register.new.self in
+    rw (← c.self.view_is) (polling_stays (rules old.own.is_fair) can_be_polled waits_are_fit old new c.self.invariant.0.0.waiters
+    c.args.slot.0 c.args.waker c.acquire_or_register.result.0
+    (polled old c.args.slot.0 c.args.waker c.acquire_or_register.result.0 new c.self.invariant.0.0
+    c.acquire_or_register.ensures.polled).line)

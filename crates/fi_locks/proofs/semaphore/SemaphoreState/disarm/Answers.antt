@@ -1,4 +1,6 @@
-use Rattle.fi_locks.specs.LiveLaws.{stay_live}
+use Rattle.fi_parts.proofs.Effects.{waits_are_fit}
+use Rattle.fi_parts.proofs.Machines.{all_stay}
+use Rattle.fi_locks.specs.Semaphore.{can_be_polled}
 use Rattle.fi_locks.specs.SemaphoreFields.{machine_of}
 use Rattle.fi_locks.specs.SemaphoreLaws.{disarmed, disarm_holds}
 use Rattle.fi_locks.specs.SemaphoreSoundLaws.{rules}
@@ -10,9 +12,9 @@ invariant_of-self g c = (
   c.disarm.ensures.marked,
 )
 
-pub returns-clause-live : goal.returns-clause-live
-returns-clause-live g c =
+pub returns-clause-all_stay : goal.returns-clause-all_stay
+returns-clause-all_stay g c =
     let old = machine_of c.self.inside.fields in
     let new = machine_of c.disarm.new.self in
     rw (← c.self.view_is)
-    (stay_live old new (rules old.own.is_fair) (disarmed old new c.args.permits c.disarm.ensures.disarmed) c.self.invariant.0.0.waiters)
+    (all_stay (rules old.own.is_fair) can_be_polled waits_are_fit old new c.self.invariant.0.0.waiters (disarmed old new c.args.permits c.disarm.ensures.disarmed))

@@ -1,4 +1,5 @@
-use Rattle.fi_locks.specs.LiveLaws.{wake_leaves_live}
+use Rattle.fi_parts.proofs.Machines.{popping_stays}
+use Rattle.fi_locks.specs.Semaphore.{can_be_polled}
 use Rattle.fi_locks.specs.SemaphoreFields.{machine_of}
 use Rattle.fi_locks.specs.SemaphoreLaws.{wake_holds}
 use Rattle.fi_locks.proofs.semaphore.SemaphoreState.next_wake.Goals as goal
@@ -10,8 +11,8 @@ invariant_of-self g c = (
   c.next_wake.ensures.marked,
 )
 
-pub returns-clause-live : goal.returns-clause-live
-returns-clause-live g c =
+pub returns-clause-all_stay : goal.returns-clause-all_stay
+returns-clause-all_stay g c =
     let old = machine_of c.self.inside.fields in
     let new = machine_of c.next_wake.new.self in
-    rw (← c.self.view_is) (wake_leaves_live old new old.own c.next_wake.result c.next_wake.ensures.popped)
+    rw (← c.self.view_is) (popping_stays old new can_be_polled old.own c.next_wake.result c.next_wake.ensures.popped)

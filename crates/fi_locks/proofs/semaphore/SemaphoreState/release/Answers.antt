@@ -1,8 +1,10 @@
 use Rattle.std.specs.Prelude.{◌≡◌, refl}
 use Rattle.std.proofs.Common.{sym, subst}
 use Rattle.fi_parts.proofs.Results.{either}
-use Rattle.fi_locks.specs.Live.{AllStayLive}
-use Rattle.fi_locks.specs.LiveLaws.{stay_live}
+use Rattle.fi_parts.specs.Stays.{AllStay}
+use Rattle.fi_parts.proofs.Effects.{waits_are_fit}
+use Rattle.fi_parts.proofs.Machines.{all_stay, unchanged}
+use Rattle.fi_locks.specs.Semaphore.{can_be_polled}
 use Rattle.fi_locks.specs.SemaphoreFields.{machine_of}
 use Rattle.fi_locks.specs.SemaphoreLaws.{Holds, released, released_held, release_holds}
 use Rattle.fi_locks.specs.SemaphoreSoundLaws.{rules}
@@ -17,14 +19,15 @@ invariant_of-self g c =
       c.release.ensures.marked,
     )
 
-pub returns-clause-live : goal.returns-clause-live
-returns-clause-live g c =
+pub returns-clause-all_stay : goal.returns-clause-all_stay
+returns-clause-all_stay g c =
     let old = machine_of c.self.inside.fields in
     let new = machine_of c.release.new.self in
     rw (← c.self.view_is)
-    (either c.release.result _ _ (AllStayLive old new) c.release.ensures.released c.release.ensures.refused
-    (λ done did. stay_live old new (rules old.own.is_fair) (released old new c.args.permits did) c.self.invariant.0.0.waiters)
-    (λ same. subst (λ m. AllStayLive old m) (sym same) (λ name lives. lives)))
+    (either c.release.result _ _ (AllStay can_be_polled old new) c.release.ensures.released c.release.ensures.refused
+    (λ done did. all_stay (rules old.own.is_fair) can_be_polled waits_are_fit old new c.self.invariant.0.0.waiters (released old new c.args.permits did))
+    (λ same. all_stay (rules old.own.is_fair) can_be_polled waits_are_fit old new c.self.invariant.0.0.waiters
+    (unchanged (rules old.own.is_fair) old new same)))
 
 pub returns-clause-held : goal.returns-clause-held
 returns-clause-held g c =

@@ -1,0 +1,169 @@
+-- Which sends, receives and streams of a channel stay fit: all but the one that a call ends or removes.
+use Rattle.std.specs.Prelude.{◌≡◌, ◌≢◌, ⊤, ℕ, true, false, Option, Some, None, is_some, Result, Ok, Err, IfOk, OnErr, refl}
+use Rattle.std.proofs.Common.{ap, sym, ◌∙◌}
+use Rattle.std.proofs.lemmas.Bool.{both_ways}
+use Rattle.futures.specs.Poll.{OnPending}
+use Rattle.futures.specs.declared.task.Poll.{Poll}
+use Rattle.futures.specs.declared.task.Poll.TheVariants.{Ready, Pending}
+use Rattle.fi_parts.specs.declared.phase.Phase.{Phase}
+use Rattle.fi_parts.specs.Machine.{poll_effect}
+use Rattle.fi_parts.specs.WakerHistory.{WakerEffect, gives}
+use Rattle.fi_parts.specs.WakerHistory.WakerEffect.{Leaves, NoEffect}
+use Rattle.fi_parts.proofs.Effects.{AreFit, SparedBy, are_live}
+use Rattle.fi_channels.specs.declared.channel_errors.SendFault.{SendFault}
+use Rattle.fi_channels.specs.declared.channel_errors.SendFault.TheVariants as send_fault
+use Rattle.fi_channels.specs.declared.channel_fields.ReceiveKind.{ReceiveKind}
+use Rattle.fi_channels.specs.declared.channel_fields.ReceiveKind.TheVariants.{Single, Stream}
+use Rattle.fi_channels.specs.Channel.{ChannelMachine, rules, is_send_phase, is_receive_phase, can_send, can_take, can_receive, can_stream}
+use Rattle.fi_channels.specs.Channel.{send_phase, receive_phase, kind_of, MakesSend, MakesReceive}
+use Rattle.fi_channels.specs.ChannelStays.{TheseStay, AllStay, OtherSendsStay, OtherReceivesStay, IsApartFromSends, IsApartFromReceives}
+use Rattle.fi_channels.proofs.ChannelLaws.{Holds, Goes, sent_effect, makes_send, makes_receive, unchanged}
+use Rattle.fi_channels.proofs.Results.{either, of_made}
+use Rattle.fi_channels.proofs.TwoSidedStays.{line_sends_fit, line_receives_fit, line_kinds_stay, line_send_pends, line_receive_pends}
+
+module _ {W : Type 0} where
+  sends_are_fit : AreFit (is_send_phase {W = W}) can_send
+  sends_are_fit = record { fresh = refl; registered = λ waker. refl; told = λ is. absurd (both_ways false refl is); complete = λ is. refl }
+
+  receives_are_fit : AreFit (is_receive_phase {W = W}) can_take
+  receives_are_fit = record { fresh = refl; registered = λ waker. refl; told = λ is. refl; complete = λ is. absurd (both_ways false refl is) }
+
+  send_lives : (phase : Option (Phase W)) → can_send phase ≡ true → is_some phase ≡ true
+  send_lives None can = can
+  send_lives (Some phase) can = refl
+
+  receive_lives : (kind : Option ReceiveKind) (phase : Option (Phase W)) → can_receive kind phase ≡ true → is_some phase ≡ true
+  receive_lives (Some Single) (Some phase) can = refl
+  receive_lives (Some Single) None can = can
+  receive_lives (Some Stream) phase can = absurd (both_ways false refl can)
+  receive_lives None phase can = absurd (both_ways false refl can)
+
+  stream_lives : (kind : Option ReceiveKind) (phase : Option (Phase W)) → can_stream kind phase ≡ true → is_some phase ≡ true
+  stream_lives (Some Stream) phase can = can
+  stream_lives (Some Single) phase can = absurd (both_ways false refl can)
+  stream_lives None phase can = absurd (both_ways false refl can)
+
+  still_received : (kind : Option ReceiveKind) (before after : Option (Phase W)) → (can_take before ≡ true → can_take after ≡ true) →
+      can_receive kind before ≡ true → can_receive kind after ≡ true
+  still_received (Some Single) before after stays can = stays can
+  still_received (Some Stream) before after stays can = absurd (both_ways false refl can)
+  still_received None before after stays can = absurd (both_ways false refl can)
+
+  still_streamed : (kind : Option ReceiveKind) (before after : Option (Phase W)) → (is_some before ≡ true → is_some after ≡ true) →
+      can_stream kind before ≡ true → can_stream kind after ≡ true
+  still_streamed (Some Stream) before after stays can = stays can
+  still_streamed (Some Single) before after stays can = absurd (both_ways false refl can)
+  still_streamed None before after stays can = absurd (both_ways false refl can)
+
+module _ {T W : Type 0} (old new : ChannelMachine T W) (was : Holds old) where
+  module _ {on_send on_receive : WakerEffect W} (did : Goes old new on_send on_receive) (sends receives : ℕ → Type 0)
+      (send_spared : (q : ℕ) → sends q → is_some (send_phase old q) ≡ true → SparedBy on_send q)
+      (receive_spared : (q : ℕ) → receives q → is_some (receive_phase old q) ≡ true → SparedBy on_receive q) where
+    these_stay : TheseStay sends receives old new
+    these_stay = record {
+      sends_live = λ q of lives.
+          line_sends_fit rules old new did.0 was.0.waiters is_some (are_live is_send_phase) q (send_spared q of lives) lives;
+      sends_pollable = λ q of can.
+          line_sends_fit rules old new did.0 was.0.waiters can_send sends_are_fit q (send_spared q of (send_lives (send_phase old q) can))
+          can;
+      receives_live = λ q of lives.
+          line_receives_fit rules old new did.0 was.0.waiters is_some (are_live is_receive_phase) q (receive_spared q of lives) lives;
+      receives_pollable = λ q of can.
+          let spared = receive_spared q of (receive_lives (kind_of old q) (receive_phase old q) can) in
+          rw (line_kinds_stay rules old new did.0 was.0.waiters q spared)
+          (still_received (kind_of old q) (receive_phase old q) (receive_phase new q)
+          (line_receives_fit rules old new did.0 was.0.waiters can_take receives_are_fit q spared) can);
+      streams_pollable = λ q of can.
+          let spared = receive_spared q of (stream_lives (kind_of old q) (receive_phase old q) can) in
+          rw (line_kinds_stay rules old new did.0 was.0.waiters q spared)
+          (still_streamed (kind_of old q) (receive_phase old q) (receive_phase new q)
+          (line_receives_fit rules old new did.0 was.0.waiters is_some (are_live is_receive_phase) q spared) can);
+    }
+
+  -- a call that is nothing to the wakers
+  pub all_stay : Goes old new NoEffect NoEffect → AllStay old new
+  all_stay did = these_stay did (λ q. ⊤) (λ q. ⊤) (λ q of lives. tt) (λ q of lives. tt)
+
+  given_spares : (waker : Option W) (q : ℕ) → SparedBy (gives waker) q
+  given_spares None q = tt
+  given_spares (Some waker) q = tt
+
+  -- the taking out of the oldest waker
+  pub popping_stays : (waker : Option W) → Goes old new (gives waker) (gives waker) → AllStay old new
+  popping_stays waker did =
+      these_stay did (λ q. ⊤) (λ q. ⊤) (λ q of lives. given_spares waker q) (λ q of lives. given_spares waker q)
+
+  -- a cancel
+  pub other_sends_stay : (name : ℕ) → Goes old new (Leaves name) NoEffect → OtherSendsStay name old new
+  other_sends_stay name did = these_stay did (λ q. q ≢ name) (λ q. ⊤) (λ q ne lives. ne) (λ q of lives. tt)
+
+  pub other_receives_stay : (name : ℕ) → Goes old new NoEffect (Leaves name) → OtherReceivesStay name old new
+  other_receives_stay name did = these_stay did (λ q. ⊤) (λ q. q ≢ name) (λ q of lives. tt) (λ q ne lives. ne)
+
+  -- a making
+  made_apart : (name q : ℕ) (phase : ℕ → Option (Phase W)) → phase name ≡ None → is_some (phase q) ≡ true → q ≢ name
+  made_apart name q phase none lives same = both_ways false refl (sym (ap is_some none) ∙ ap (λ n. is_some (phase n)) (sym same) ∙ lives)
+
+  pub claimed_send_stays : {A E : Type 0} (result : Result A E) (name : A → ℕ) (value : T) →
+      IfOk result (λ x. MakesSend old value (name x) new) → OnErr result (new ≡ old) → AllStay old new
+  claimed_send_stays result name value made refused =
+      either result _ _ (AllStay old new) made refused
+      (λ x did. these_stay (makes_send old new value (name x) did was) (λ q. ⊤) (λ q. ⊤)
+      (λ q of lives. made_apart (name x) q (send_phase old) did.1.0.0 lives) (λ q of lives. tt))
+      (λ same. all_stay (unchanged old new same was))
+
+  pub claimed_receive_stays : {A E : Type 0} (result : Result A E) (name : A → ℕ) (kind : ReceiveKind) →
+      IfOk result (λ x. MakesReceive old kind (name x) new) → OnErr result (new ≡ old) → AllStay old new
+  claimed_receive_stays result name kind made refused =
+      either result _ _ (AllStay old new) made refused
+      (λ x did. these_stay (makes_receive old new kind (name x) did was) (λ q. ⊤) (λ q. ⊤) (λ q of lives. tt)
+      (λ q of lives. made_apart (name x) q (receive_phase old) did.1.0.0 lives))
+      (λ same. all_stay (unchanged old new same was))
+
+  pub claimed_send_apart : {A E : Type 0} (result : Result A E) (name : A → ℕ) (value : T) →
+      IfOk result (λ x. MakesSend old value (name x) new) → IfOk result (λ x. IsApartFromSends (name x) old)
+  claimed_send_apart result name value made =
+      of_made result _ (λ x. IsApartFromSends (name x) old) made
+      (λ x did q lives. made_apart (name x) q (send_phase old) did.1.0.0 lives)
+
+  pub claimed_receive_apart : {A E : Type 0} (result : Result A E) (name : A → ℕ) (kind : ReceiveKind) →
+      IfOk result (λ x. MakesReceive old kind (name x) new) → IfOk result (λ x. IsApartFromReceives (name x) old)
+  claimed_receive_apart result name kind made =
+      of_made result _ (λ x. IsApartFromReceives (name x) old) made
+      (λ x did q lives. made_apart (name x) q (receive_phase old) did.1.0.0 lives)
+
+  -- a poll of a receive
+  receive_poll_spares : {A : Type 0} (name : ℕ) (waker : W) (answer : Poll A) (q : ℕ) → q ≢ name → SparedBy (poll_effect name waker answer) q
+  receive_poll_spares name waker Pending q ne = tt
+  receive_poll_spares name waker (Ready x) q ne = ne
+
+  pub polled_receive_stays : {A : Type 0} (name : ℕ) (waker : W) (answer : Poll A) → Goes old new NoEffect (poll_effect name waker answer) →
+      OtherReceivesStay name old new
+  polled_receive_stays name waker answer did =
+      these_stay did (λ q. ⊤) (λ q. q ≢ name) (λ q of lives. tt) (λ q ne lives. receive_poll_spares name waker answer q ne)
+
+  pub pending_receive : {A : Type 0} (name : ℕ) (waker : W) (answer : Poll A) → Goes old new NoEffect (poll_effect name waker answer) →
+      kind_of new name ≡ kind_of old name → can_receive (kind_of old name) (receive_phase old name) ≡ true →
+      OnPending answer (can_receive (kind_of new name) (receive_phase new name) ≡ true)
+  pending_receive name waker (Ready x) did same can = tt
+  pending_receive name waker Pending did same can =
+      rw same (still_received (kind_of old name) (receive_phase old name) (receive_phase new name)
+      (λ could. line_receive_pends rules old new did.0 was.0.waiters can_take receives_are_fit) can)
+
+  -- a poll of a send
+  send_poll_spares : (name : ℕ) (waker : W) (answer : Poll (Result (Unit {0}) (SendFault T))) (q : ℕ) → q ≢ name →
+      SparedBy (sent_effect name waker answer) q
+  send_poll_spares name waker Pending q ne = tt
+  send_poll_spares name waker (Ready (Ok x)) q ne = ne
+  send_poll_spares name waker (Ready (Err (send_fault.Closed value))) q ne = ne
+  send_poll_spares name waker (Ready (Err (send_fault.Fault fault))) q ne = tt
+
+  pub polled_send_stays : (name : ℕ) (waker : W) (answer : Poll (Result (Unit {0}) (SendFault T))) →
+      Goes old new (sent_effect name waker answer) NoEffect → OtherSendsStay name old new
+  polled_send_stays name waker answer did =
+      these_stay did (λ q. q ≢ name) (λ q. ⊤) (λ q ne lives. send_poll_spares name waker answer q ne) (λ q of lives. tt)
+
+  pub pending_send : (name : ℕ) (waker : W) (answer : Poll (Result (Unit {0}) (SendFault T))) →
+      Goes old new (sent_effect name waker answer) NoEffect → OnPending answer (can_send (send_phase new name) ≡ true)
+  pending_send name waker (Ready x) did = tt
+  pending_send name waker Pending did = line_send_pends rules old new did.0 was.0.waiters can_send sends_are_fit
