@@ -6,7 +6,7 @@
 //! and with an unlock or a give-back where nothing is held.
 
 use super::driver::tasks::Tasks;
-use super::driver::{Flavour, Line, Opened, Play, Played, agrees};
+use super::driver::{Flavour, Line, Opened, Play, Played, agrees, take_wakers};
 use crate::Fault;
 use crate::run::{Answer, Primitive};
 use std::alloc::AllocGlobal;
@@ -21,6 +21,7 @@ mod one_value;
 mod semaphore;
 mod state;
 mod timer;
+mod turns;
 
 /// Draws numbers: the same ones in each run.
 #[derive(Clone, Copy, Drop)]
@@ -104,21 +105,6 @@ fn is_left_out(answer: &Answer<u64, u64>) -> bool {
         answer,
         Answer::Refused(Fault::NoSlot | Fault::NotHeld) | Answer::Back(_, Fault::NotHeld)
     )
-}
-
-// Takes out the wakers that the state has to hand out, of which there are at most four.
-fn take_wakers<R: Abort + AllocGlobal, P: Primitive<Answer = Answer<u64, u64>>>(
-    rt: &R,
-    state: &mut P,
-) -> Vec<u64> {
-    let mut wakers = Vec::new(rt.alloc());
-    for _ in 0..5u64 {
-        match state.apply(P::next_wake_call()) {
-            Answer::Woken(Some(waker)) => wakers.push(waker).ok().expect(rt, "memory"),
-            _ => return wakers,
-        }
-    }
-    wakers
 }
 
 // Draws so many lists of so many calls, and asserts that both do the same at each that is not left

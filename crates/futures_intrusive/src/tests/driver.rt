@@ -4,7 +4,8 @@
 //!
 //! A drop stands for a cancel, and has no answer.
 
-use crate::run::Answer;
+use crate::run::{Answer, Primitive};
+use std::alloc::AllocGlobal;
 use std::process::Abort;
 use std::sync::Wait;
 use tasks::{TaskSet, Tasks};
@@ -68,6 +69,17 @@ impl Seen {
             None => true,
         }
     }
+
+    /// Whether this is the answer, and those with these wakers were woken.
+    pub(super) fn agrees<R: Wait + Abort>(
+        &self,
+        rt: &R,
+        tasks: &mut Tasks,
+        answer: Answer<u64, u64>,
+        woken: &[u64],
+    ) -> bool {
+        self.is_answer(answer) && tasks.are_woken(rt, self.own, woken)
+    }
 }
 
 /// A primitive that threads share, with its futures.
@@ -90,7 +102,22 @@ pub(super) fn agrees<R: Wait + Abort, C: Copy, O: Opened<R, C>>(
     line: Line<C>,
 ) -> bool {
     let seen = opened.apply(rt, tasks, line.call);
-    seen.is_answer(line.answer) && tasks.are_woken(rt, seen.own, line.woken)
+    seen.agrees(rt, tasks, line.answer, line.woken)
+}
+
+/// Takes out the wakers that a plain state has to hand out, of which there are at most four.
+pub(super) fn take_wakers<R: Abort + AllocGlobal, P: Primitive<Answer = Answer<u64, u64>>>(
+    rt: &R,
+    state: &mut P,
+) -> Vec<u64> {
+    let mut wakers = Vec::new(rt.alloc());
+    for _ in 0..5u64 {
+        match state.apply(P::next_wake_call()) {
+            Answer::Woken(Some(waker)) => wakers.push(waker).ok().expect(rt, "memory"),
+            _ => return wakers,
+        }
+    }
+    wakers
 }
 
 /// How a list of calls went.

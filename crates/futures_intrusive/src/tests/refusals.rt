@@ -3,6 +3,7 @@
 //! Where nothing is refused, as in a run without proofs, `memory_runs_out` fails and the others say nothing.
 mod boxes;
 mod buffers;
+mod deliveries;
 mod growth;
 mod hoard;
 mod journals;

@@ -32,75 +32,165 @@ pub(in crate::tests) enum Closer {
     Stream,
 }
 
-/// Both ends, with the sends, and with receives or streams: no list has both.
+/// The sending end, with its sends. `OpenedEnds` sees it as this, since the prover follows every part of a type that it can see.
+trait SendingSide<R> {
+    fn make(&mut self, rt: &R, value: u64) -> Seen;
+
+    fn poll(&mut self, rt: &R, tasks: &mut Tasks, number: usize, waker: u64) -> Seen;
+
+    fn let_go(&mut self, rt: &R, number: usize) -> Seen;
+
+    fn try_send(&self, value: u64) -> Seen;
+
+    fn close(&self) -> CloseStatus;
+}
+
+/// The receiving end, with receives or streams: no list has both.
+trait ReceivingSide<R> {
+    fn make(&mut self, rt: &R) -> Seen;
+
+    fn make_stream(&mut self, rt: &R) -> Seen;
+
+    fn poll(&mut self, rt: &R, tasks: &mut Tasks, number: usize, waker: u64) -> Seen;
+
+    fn poll_next(&mut self, rt: &R, tasks: &mut Tasks, number: usize, waker: u64) -> Seen;
+
+    fn let_go(&mut self, rt: &R, number: usize) -> Seen;
+
+    fn try_receive(&self) -> Seen;
+
+    /// Closes the channel by the stream that was made last, if it is wanted and there is one, or by the receiver.
+    fn close(&self, is_by_stream: bool) -> CloseStatus;
+}
+
 #[derive(Drop)]
-struct OpenedEnds<E: Drop, D: Drop, S: Drop, F: Drop, T: Drop> {
-    closer: Closer,
+struct Sends<E: Drop, S: Drop> {
     sender: E,
-    receiver: D,
     sends: Futures<S>,
+}
+
+impl<R: Wait + Abort + Drop> SendingSide<R> for Sends<Sender<u64, R>, Sending<R>> {
+    fn make(&mut self, rt: &R, value: u64) -> Seen {
+        let send = self.sender.send(value).ok().expect(rt, "memory");
+        self.sends.keep(rt, send)
+    }
+
+    fn poll(&mut self, rt: &R, tasks: &mut Tasks, number: usize, waker: u64) -> Seen {
+        let polled = self.sends.poll(rt, tasks, number, waker);
+        self.sends.seen(rt, number, of_send(polled))
+    }
+
+    fn let_go(&mut self, rt: &R, number: usize) -> Seen {
+        self.sends.let_go(rt, number)
+    }
+
+    fn try_send(&self, value: u64) -> Seen {
+        Seen::answered(of_try_send(self.sender.try_send(value)))
+    }
+
+    fn close(&self) -> CloseStatus {
+        self.sender.close()
+    }
+}
+
+#[derive(Drop)]
+struct Receives<E: Drop, F: Drop, T: Drop> {
+    receiver: E,
     receives: Futures<F>,
     streams: Futures<T>,
 }
 
-impl<R: Wait + Drop, S: Drop, F: Drop> OpenedEnds<
-    Sender<u64, R>,
-    Receiver<u64, R>,
-    S,
-    F,
-    Streaming<R>,
-> {
-    fn close(&self) -> CloseStatus {
-        match (self.closer, self.streams.last()) {
-            (Closer::Sender, _) => self.sender.close(),
-            (Closer::Stream, Some(stream)) => stream.close(),
+impl<R: Wait + Abort + Drop> ReceivingSide<R>
+    for Receives<Receiver<u64, R>, Receiving<R>, Streaming<R>> {
+    fn make(&mut self, rt: &R) -> Seen {
+        let receive = self.receiver.receive().expect(rt, "memory");
+        self.receives.keep(rt, receive)
+    }
+
+    fn make_stream(&mut self, rt: &R) -> Seen {
+        let receiver = self.receiver.clone().expect(rt, "memory");
+        let stream = receiver.into_stream().ok().expect(rt, "memory");
+        self.streams.keep(rt, stream)
+    }
+
+    fn poll(&mut self, rt: &R, tasks: &mut Tasks, number: usize, waker: u64) -> Seen {
+        let polled = self.receives.poll(rt, tasks, number, waker);
+        self.receives.seen(rt, number, of_receive(polled))
+    }
+
+    fn poll_next(&mut self, rt: &R, tasks: &mut Tasks, number: usize, waker: u64) -> Seen {
+        let polled = self.streams.poll_next(rt, tasks, number, waker);
+        self.streams.seen(rt, number, of_next(polled))
+    }
+
+    fn let_go(&mut self, rt: &R, number: usize) -> Seen {
+        if self.streams.is_empty() {
+            return self.receives.let_go(rt, number);
+        }
+        self.streams.let_go(rt, number)
+    }
+
+    fn try_receive(&self) -> Seen {
+        Seen::answered(of_try_receive(self.receiver.try_receive()))
+    }
+
+    fn close(&self, is_by_stream: bool) -> CloseStatus {
+        match self.streams.last() {
+            Some(stream) if is_by_stream => stream.close(),
             _ => self.receiver.close(),
         }
     }
 }
 
-impl<R: Wait + Abort + Drop> Opened<R, ChannelCall<u64, u64>>
-    for OpenedEnds<Sender<u64, R>, Receiver<u64, R>, Sending<R>, Receiving<R>, Streaming<R>> {
+/// Both ends, and who closes.
+#[derive(Drop)]
+struct OpenedEnds<S, E> {
+    closer: Closer,
+    sends: S,
+    receives: E,
+}
+
+impl<R, S: SendingSide<R>, E: ReceivingSide<R>> Opened<R, ChannelCall<u64, u64>>
+    for OpenedEnds<S, E> {
     fn apply(&mut self, rt: &R, tasks: &mut Tasks, call: ChannelCall<u64, u64>) -> Seen {
         match call {
-            ChannelCall::Send(value) => {
-                let send = self.sender.send(value).ok().expect(rt, "memory");
-                self.sends.keep(rt, send)
-            }
-            ChannelCall::Receive => {
-                let receive = self.receiver.receive().expect(rt, "memory");
-                self.receives.keep(rt, receive)
-            }
-            ChannelCall::Stream => {
-                let receiver = self.receiver.clone().expect(rt, "memory");
-                let stream = receiver.into_stream().ok().expect(rt, "memory");
-                self.streams.keep(rt, stream)
-            }
-            ChannelCall::PollSend(Slot(number), waker) => {
-                let polled = self.sends.poll(rt, tasks, number, waker);
-                self.sends.seen(rt, number, of_send(polled))
-            }
+            ChannelCall::Send(value) => self.sends.make(rt, value),
+            ChannelCall::Receive => self.receives.make(rt),
+            ChannelCall::Stream => self.receives.make_stream(rt),
+            ChannelCall::PollSend(Slot(number), waker) => self.sends.poll(rt, tasks, number, waker),
             ChannelCall::PollReceive(Slot(number), waker) => {
-                let polled = self.receives.poll(rt, tasks, number, waker);
-                self.receives.seen(rt, number, of_receive(polled))
+                self.receives.poll(rt, tasks, number, waker)
             }
             ChannelCall::PollNext(Slot(number), waker) => {
-                let polled = self.streams.poll_next(rt, tasks, number, waker);
-                self.streams.seen(rt, number, of_next(polled))
+                self.receives.poll_next(rt, tasks, number, waker)
             }
             ChannelCall::CancelSend(Slot(number)) => self.sends.let_go(rt, number),
-            ChannelCall::CancelReceive(Slot(number)) => {
-                if self.streams.is_empty() {
-                    return self.receives.let_go(rt, number);
-                }
-                self.streams.let_go(rt, number)
-            }
-            ChannelCall::TrySend(value) => Seen::answered(of_try_send(self.sender.try_send(value))),
-            ChannelCall::TryReceive => Seen::answered(of_try_receive(self.receiver.try_receive())),
-            ChannelCall::Close => Seen::answered(of_close(self.close())),
+            ChannelCall::CancelReceive(Slot(number)) => self.receives.let_go(rt, number),
+            ChannelCall::TrySend(value) => self.sends.try_send(value),
+            ChannelCall::TryReceive => self.receives.try_receive(),
+            ChannelCall::Close => Seen::answered(of_close(match self.closer {
+                Closer::Sender => self.sends.close(),
+                Closer::Receiver => self.receives.close(false),
+                Closer::Stream => self.receives.close(true),
+            })),
             ChannelCall::NextWake => Seen::answered(Answer::Woken(None)),
         }
     }
+}
+
+// Plays a list on two ends.
+fn play_on<R, S, E, P>(
+    rt: &R,
+    tasks: &mut Tasks,
+    list: &mut P,
+    mut opened: OpenedEnds<S, E>,
+) -> Played
+where
+    S: SendingSide<R> + Drop,
+    E: ReceivingSide<R> + Drop,
+    P: Play<R, ChannelCall<u64, u64>>,
+{
+    list.play(rt, tasks, &mut opened)
 }
 
 /// The ends of a channel of this capacity, and the one that closes it.
@@ -121,14 +211,20 @@ impl<R: Wait + Abort + Copy + Drop + AllocGlobal> Flavour<R> for ChannelEnds {
     ) -> Played {
         let ends = channel::<u64, R>(rt.alloc(), *rt, self.capacity);
         let (sender, receiver) = ends.expect(rt, "memory");
-        let mut opened = OpenedEnds {
-            closer: self.closer,
+        let sends = Sends {
             sender,
-            receiver,
             sends: Futures::new(rt.alloc()),
+        };
+        let receives = Receives {
+            receiver,
             receives: Futures::new(rt.alloc()),
             streams: Futures::new(rt.alloc()),
         };
-        list.play(rt, tasks, &mut opened)
+        let opened = OpenedEnds {
+            closer: self.closer,
+            sends,
+            receives,
+        };
+        play_on(rt, tasks, list, opened)
     }
 }

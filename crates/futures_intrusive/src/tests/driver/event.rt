@@ -7,14 +7,23 @@ use super::{Flavour, Opened, Play, Played, Seen};
 use crate::Slot;
 use crate::run::{Answer, EventCall};
 use crate::sync::{ManualResetEvent, WaitForEventFuture};
-use std::alloc::AllocGlobal;
+use std::alloc::{AllocGlobal, Global};
 use std::process::Abort;
 use std::sync::Wait;
 
 #[derive(Drop)]
-struct OpenedEvent<'a, E, F: Drop> {
+pub(in crate::tests) struct OpenedEvent<'a, E, F: Drop> {
     event: &'a E,
     waits: Futures<F>,
+}
+
+impl<'a, E, F: Drop> OpenedEvent<'a, E, F> {
+    pub(in crate::tests) fn new(alloc: Global, event: &'a E) -> Self {
+        OpenedEvent {
+            event,
+            waits: Futures::new(alloc),
+        }
+    }
 }
 
 impl<'a, R: Wait + Abort> Opened<R, EventCall<u64>>
@@ -51,7 +60,6 @@ impl<R: Wait + Abort + Copy + AllocGlobal> Flavour<R> for Event {
 
     fn play<P: Play<R, EventCall<u64>>>(&self, rt: &R, tasks: &mut Tasks, list: &mut P) -> Played {
         let event = &ManualResetEvent::new(rt.alloc(), *rt, self.is_set);
-        let waits = Futures::new(rt.alloc());
-        list.play(rt, tasks, &mut OpenedEvent { event, waits })
+        list.play(rt, tasks, &mut OpenedEvent::new(rt.alloc(), event))
     }
 }

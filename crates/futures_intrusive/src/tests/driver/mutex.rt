@@ -8,17 +8,27 @@ use crate::run::{Answer, MutexCall};
 use crate::sync::{Mutex, MutexGuard, MutexLockFuture};
 use crate::{Fault, Slot};
 use futures::task::Poll;
-use std::alloc::AllocGlobal;
+use std::alloc::{AllocGlobal, Global};
 use std::marker::Brand;
 use std::process::Abort;
 use std::sync::Wait;
 use std::sync::ledger::{Blank, Ledger};
 
 #[derive(Drop)]
-struct OpenedMutex<'a, M, F: Drop, G> {
+pub(in crate::tests) struct OpenedMutex<'a, M, F: Drop, G> {
     mutex: &'a M,
     locks: Futures<F>,
     guard: Option<G>,
+}
+
+impl<'a, M, F: Drop, G> OpenedMutex<'a, M, F, G> {
+    pub(in crate::tests) fn new(alloc: Global, mutex: &'a M) -> Self {
+        OpenedMutex {
+            mutex,
+            locks: Futures::new(alloc),
+            guard: None,
+        }
+    }
 }
 
 impl<'a, M, F: Drop, R: Wait, L: Ledger> OpenedMutex<'a, M, F, MutexGuard<'a, u64, R, L>> {
@@ -94,12 +104,7 @@ where
     requires one { blank.parts ≡ 1 }
 {
     let mutex = &Mutex::<u64, R, L>::new(rt.alloc(), *rt, blank, 7, is_fair);
-    let mut opened = OpenedMutex {
-        mutex,
-        locks: Futures::new(rt.alloc()),
-        guard: None,
-    };
-    list.play(rt, tasks, &mut opened)
+    list.play(rt, tasks, &mut OpenedMutex::new(rt.alloc(), mutex))
 }
 
 /// A mutex of a seven.

@@ -26,7 +26,7 @@ struct Held<H> {
 }
 
 #[derive(Drop)]
-struct OpenedSemaphore<S, F: Drop, H: Drop> {
+pub(in crate::tests) struct OpenedSemaphore<S, F: Drop, H: Drop> {
     semaphore: S,
     acquires: Futures<F>,
     // How many permits each future needs.
@@ -36,7 +36,7 @@ struct OpenedSemaphore<S, F: Drop, H: Drop> {
 }
 
 impl<S, F: Drop, H: Drop> OpenedSemaphore<S, F, H> {
-    fn new(alloc: Global, semaphore: S) -> Self {
+    pub(in crate::tests) fn new(alloc: Global, semaphore: S) -> Self {
         OpenedSemaphore {
             semaphore,
             acquires: Futures::new(alloc),

@@ -1,4 +1,5 @@
-//! A growing buffer of thousands of values: each growth is refused once, and a send that finds room never is.
+//! A growing buffer of thousands of values: each growth is refused once, and a send that finds room never is. Where memory has no end,
+//! all are accepted.
 use super::hoard::Hoard;
 use fi_channels::ChannelState;
 use fi_parts::buffer::GrowingHeapBuf;
@@ -49,17 +50,15 @@ fn each_growth_is_refused_to_a_send_at_once(rt: HostRuntime) -> Result<(), Fail>
     let mut from = 0u64;
     for room in ROOMS {
         let is_used_up = hoard.leave(0);
-        let last = Answer::Back(room, Fault::NoMemory);
+        let last = if is_used_up {
+            Answer::Back(room, Fault::NoMemory)
+        } else {
+            Answer::Done
+        };
         let is_right = are_accepted(&mut channel, from, room, last);
         hoard.let_go();
-        if !is_used_up {
-            return Ok(());
-        }
-        assert!(rt; is_right, "room for {room}");
-        assert!(rt;
-            channel.apply(ChannelCall::TrySend(room)) == Answer::Done,
-            "room for {room}"
-        );
+        let is_sent = !is_used_up || channel.apply(ChannelCall::TrySend(room)) == Answer::Done;
+        assert!(rt; is_right && is_sent, "room for {room}");
         from = room.wrapping_add(1);
     }
     hoard.leave(0);
@@ -116,8 +115,8 @@ fn goes_on(channel: &mut Growing, slot: Slot, value: u64, is_cancelled: bool) ->
         && channel.apply(ChannelCall::CancelSend(slot)) == Answer::Nothing
 }
 
-// Sends these values, for which there is room, and one more by a poll that is refused. Answers whether they did so; None where nothing
-// is refused.
+// Sends these values, for which there is room, and one more by a poll that is refused, or accepted where nothing is refused. Answers
+// whether they did so.
 fn refused_poll(
     alloc: Global,
     hoard: &mut Hoard,
@@ -125,24 +124,24 @@ fn refused_poll(
     from: u64,
     end: u64,
     is_cancelled: bool,
-) -> Result<Option<bool>, AllocError> {
+) -> Result<bool, AllocError> {
     let mut sends = Vec::new(alloc);
     make_sends(channel, &mut sends, from, end.wrapping_add(1))?;
     let Some((last, before)) = sends.as_slice().split_last() else {
-        return Ok(Some(false));
+        return Ok(false);
     };
     let is_used_up = hoard.leave(0);
     let are_sent = are_sent(channel, before);
     let answer = channel.apply(ChannelCall::PollSend(*last, WAKER));
     hoard.let_go();
-    if !is_used_up {
-        return Ok(None);
-    }
-    let is_right = are_sent
-        && answer == Answer::Refused(Fault::NoMemory)
-        && goes_on(channel, *last, end, is_cancelled)
-        && are_cancelled(channel, before);
-    Ok(Some(is_right))
+    let is_right = if is_used_up {
+        answer == Answer::Refused(Fault::NoMemory)
+            && goes_on(channel, *last, end, is_cancelled)
+            && are_cancelled(channel, before)
+    } else {
+        answer == Answer::Done && are_cancelled(channel, sends.as_slice())
+    };
+    Ok(are_sent && is_right)
 }
 
 fn sends_by_polls(rt: &impl Abort, alloc: Global, is_cancelled: bool) -> Result<(), Fail> {
@@ -150,10 +149,7 @@ fn sends_by_polls(rt: &impl Abort, alloc: Global, is_cancelled: bool) -> Result<
     let mut channel = growing(rt, alloc);
     let mut from = 0u64;
     for room in ROOMS {
-        let polled = refused_poll(alloc, &mut hoard, &mut channel, from, room, is_cancelled)?;
-        let Some(is_right) = polled else {
-            return Ok(());
-        };
+        let is_right = refused_poll(alloc, &mut hoard, &mut channel, from, room, is_cancelled)?;
         assert!(rt; is_right, "room for {room}");
         from = room.wrapping_add(1);
     }

@@ -1,0 +1,117 @@
+//! The mutex, fair and unfair: each thread unlocks what it locked.
+ghost use Rattle.std.specs.Prelude.{◌≡◌};
+
+use super::{Choices, Holds, LISTS, List, next_turns, plays};
+use crate::Slot;
+use crate::run::{Answer, MutexCall};
+use crate::sync::{Mutex, MutexState};
+use crate::tests::drawn_threads::Draws;
+use crate::tests::driver::mutex::OpenedMutex;
+use std::alloc::AllocGlobal;
+use std::marker::Brand;
+use std::process::Abort;
+use std::random::RandomSource;
+use std::sync::ledger::{Blank, Ledger};
+use std::sync::{Barrier, Wait};
+use std::thread;
+use std::thread::Threads;
+
+const FIRST: [MutexCall<u64, u64>; 6] = [
+    MutexCall::Poll(Slot(0), 1),
+    MutexCall::Poll(Slot(1), 2),
+    MutexCall::Cancel(Slot(0)),
+    MutexCall::Cancel(Slot(1)),
+    MutexCall::TryLock,
+    MutexCall::Unlock(8),
+];
+
+const SECOND: [MutexCall<u64, u64>; 6] = [
+    MutexCall::Poll(Slot(2), 3),
+    MutexCall::Poll(Slot(3), 4),
+    MutexCall::Cancel(Slot(2)),
+    MutexCall::Cancel(Slot(3)),
+    MutexCall::TryLock,
+    MutexCall::Unlock(9),
+];
+
+impl Holds for MutexCall<u64, u64> {
+    fn held_after(self, answer: Answer<u64, u64>, held: u64) -> Option<u64> {
+        match (self, answer) {
+            (MutexCall::Unlock(_), _) => held.checked_sub(1),
+            (_, Answer::Item(_)) => held.checked_add(1),
+            _ => Some(held),
+        }
+    }
+}
+
+// Plays a list on this mutex.
+fn play_at<'a, R, L>(
+    rt: &'a R,
+    mutex: &'a Mutex<u64, R, L>,
+    list: List<'a, MutexCall<u64, u64>>,
+) -> bool
+where
+    R: Wait + Threads + Abort + RandomSource + AllocGlobal + Send + Sync,
+    L: Ledger + Send + Sync,
+{
+    let barrier = &Barrier::new(2);
+    let (first, second) = thread::join(
+        rt,
+        move || plays(
+            rt,
+            barrier,
+            &mut OpenedMutex::new(rt.alloc(), mutex),
+            true,
+            list,
+        ),
+        move || plays(
+            rt,
+            barrier,
+            &mut OpenedMutex::new(rt.alloc(), mutex),
+            false,
+            list,
+        ),
+    );
+    first && second
+}
+
+// Plays a list on a mutex of a seven.
+fn play_at_seven<R, L>(rt: &R, blank: Blank, is_fair: bool, list: List<MutexCall<u64, u64>>) -> bool
+where
+    R: Wait + Threads + Abort + Copy + RandomSource + AllocGlobal + Send + Sync,
+    L: Ledger + Send + Sync,
+    requires name { blank.name ≡ L.name }
+    requires parts { blank.parts ≡ L.parts }
+    requires one { blank.parts ≡ 1 }
+{
+    let mutex = Mutex::<u64, R, L>::new(rt.alloc(), *rt, blank, 7, is_fair);
+    play_at(rt, &mutex, list)
+}
+
+// Two hundred lists.
+fn try_turns<R>(rt: &R, is_fair: bool)
+where
+    R: Wait + Threads + Abort + Copy + RandomSource + AllocGlobal + Send + Sync,
+{
+    let choices = Choices {
+        makings: &[MutexCall::Lock; 4],
+        first: &FIRST,
+        second: &SECOND,
+    };
+    let mut draws = Draws(1);
+    for number in 0..LISTS {
+        let turns = next_turns::<R, MutexState<u64, u64>>(rt, (7, is_fair), choices, &mut draws);
+        let list = List {
+            makings: choices.makings,
+            turns: turns.as_slice(),
+        };
+        let is_right = play_at_seven::<R, Brand>(rt, Blank::new(1), is_fair, list);
+        assert!(*rt; is_right, "list {number}");
+    }
+}
+
+#[test]
+fn two_threads_take_turns_at_a_mutex(rt: HostRuntime) {
+    try_turns(&rt, true);
+    try_turns(&rt, false);
+}

@@ -1,0 +1,120 @@
+//! The semaphore of one permit, fair and unfair: each thread gives back what it acquired.
+ghost use Rattle.std.specs.Prelude.{◌≡◌};
+
+use super::{Choices, Holds, LISTS, List, next_turns, plays};
+use crate::Slot;
+use crate::run::{Answer, SemaphoreCall};
+use crate::sync::{Semaphore, SemaphoreState};
+use crate::tests::drawn_threads::Draws;
+use crate::tests::driver::semaphore::OpenedSemaphore;
+use std::alloc::AllocGlobal;
+use std::marker::Brand;
+use std::process::Abort;
+use std::random::RandomSource;
+use std::sync::ledger::{Blank, Ledger};
+use std::sync::{Barrier, Wait};
+use std::thread;
+use std::thread::Threads;
+
+const FIRST: [SemaphoreCall<u64>; 7] = [
+    SemaphoreCall::Poll(Slot(0), 1),
+    SemaphoreCall::Poll(Slot(1), 2),
+    SemaphoreCall::Cancel(Slot(0)),
+    SemaphoreCall::Cancel(Slot(1)),
+    SemaphoreCall::TryAcquire(1),
+    SemaphoreCall::Release(1),
+    SemaphoreCall::GiveBack(1),
+];
+
+const SECOND: [SemaphoreCall<u64>; 7] = [
+    SemaphoreCall::Poll(Slot(2), 3),
+    SemaphoreCall::Poll(Slot(3), 4),
+    SemaphoreCall::Cancel(Slot(2)),
+    SemaphoreCall::Cancel(Slot(3)),
+    SemaphoreCall::TryAcquire(1),
+    SemaphoreCall::Release(1),
+    SemaphoreCall::GiveBack(1),
+];
+
+impl Holds for SemaphoreCall<u64> {
+    fn held_after(self, answer: Answer<u64, u64>, held: u64) -> Option<u64> {
+        match (self, answer) {
+            (SemaphoreCall::GiveBack(_), _) => held.checked_sub(1),
+            (SemaphoreCall::TryAcquire(_), Answer::Done) => held.checked_add(1),
+            (SemaphoreCall::Poll(..), Answer::Ready) => held.checked_add(1),
+            _ => Some(held),
+        }
+    }
+}
+
+// Plays a list on this semaphore.
+fn play_at<'a, R, L>(
+    rt: &'a R,
+    semaphore: &'a Semaphore<R, L>,
+    list: List<'a, SemaphoreCall<u64>>,
+) -> bool
+where
+    R: Wait + Threads + Abort + RandomSource + AllocGlobal + Send + Sync,
+    L: Ledger + Send + Sync,
+{
+    let barrier = &Barrier::new(2);
+    let (first, second) = thread::join(
+        rt,
+        move || plays(
+            rt,
+            barrier,
+            &mut OpenedSemaphore::new(rt.alloc(), semaphore),
+            true,
+            list,
+        ),
+        move || plays(
+            rt,
+            barrier,
+            &mut OpenedSemaphore::new(rt.alloc(), semaphore),
+            false,
+            list,
+        ),
+    );
+    first && second
+}
+
+// Plays a list on a semaphore of one permit.
+fn play_at_one<R, L>(rt: &R, blank: Blank, is_fair: bool, list: List<SemaphoreCall<u64>>) -> bool
+where
+    R: Wait + Threads + Abort + Copy + RandomSource + AllocGlobal + Send + Sync,
+    L: Ledger + Send + Sync,
+    requires name { blank.name ≡ L.name }
+    requires parts { blank.parts ≡ L.parts }
+    requires all { blank.parts ≡ 18446744073709551615 }
+{
+    let semaphore = Semaphore::<R, L>::new(rt.alloc(), *rt, blank, is_fair, 1);
+    play_at(rt, &semaphore, list)
+}
+
+// Two hundred lists.
+fn try_turns<R>(rt: &R, is_fair: bool)
+where
+    R: Wait + Threads + Abort + Copy + RandomSource + AllocGlobal + Send + Sync,
+{
+    let choices = Choices {
+        makings: &[SemaphoreCall::Acquire(1); 4],
+        first: &FIRST,
+        second: &SECOND,
+    };
+    let mut draws = Draws(1);
+    for number in 0..LISTS {
+        let turns = next_turns::<R, SemaphoreState<u64>>(rt, (1, is_fair), choices, &mut draws);
+        let list = List {
+            makings: choices.makings,
+            turns: turns.as_slice(),
+        };
+        let is_right = play_at_one::<R, Brand>(rt, Blank::new(u64::MAX), is_fair, list);
+        assert!(*rt; is_right, "list {number}");
+    }
+}
+
+#[test]
+fn two_threads_take_turns_at_a_semaphore(rt: HostRuntime) {
+    try_turns(&rt, true);
+    try_turns(&rt, false);
+}
