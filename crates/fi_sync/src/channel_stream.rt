@@ -76,7 +76,7 @@ impl<'a, T: Drop, B: RingBuf<Item = T>, R: Wait> ChannelStream<'a, T, B, R> {
         answer
     }
 
-    /// The stream has answered its end. It takes no lock. Keeps `FusedStream::is_terminated`.
+    /// Returns `true` if the stream has answered its end. It takes no lock. Keeps `FusedStream::is_terminated`.
     pub fn is_terminated(&self) -> bool
         ensures { result ≡ self.now.has_ended }
     {

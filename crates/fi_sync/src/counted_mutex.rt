@@ -69,6 +69,32 @@ impl<T, L: Ledger> Locked<T, L> {
     }
 }
 
+impl<T, L: Ledger> CountedMutex<T, L> {
+    ghost use Rattle.std.specs.Borrow.{LendsIf, sem};
+    ghost use Rattle.std.specs.Option.{option_copied_mut};
+    ghost use Rattle.fi_locks.specs.Mutex.{with_value};
+    ghost use Rattle.fi_sync.specs.contracts.counted_mutex.CountedMutex.{the_row};
+
+    /// Takes the value out of a mutex that is used no more. None if it is locked: then its holder has the value.
+    pub fn into_inner(self) -> Option<T>
+        ensures { result ≡ self.own.value }
+    {
+        let CountedMutex { state, .. } = self;
+        state.into_inner()
+    }
+
+    /// Lends the value out, to be changed in place. None if the mutex is locked: then its holder has the value.
+    pub fn get_mut(&mut self) -> Option<&mut T>
+        ensures* writes_back { sem 𝓛 (LendsIf (the_row T.row L.row L.Ledger) T.row self.entry result (with_value self.old) self.old) }
+        ensures shows { option_copied_mut result ≡ self.old.own.value }
+    {
+        match self.state.get_mut() {
+            Some(value) => Some(value),
+            None => None,
+        }
+    }
+}
+
 /// The kind of a mutex's futures.
 pub struct MutexLock;
 
@@ -93,7 +119,7 @@ impl<T: Drop, L: Ledger> CountedMutex<T, L> {
         self.state.claim_lock()
     }
 
-    /// Somebody has locked the mutex.
+    /// Returns `true` if somebody has locked the mutex.
     pub fn is_locked(&self) -> bool
         ensures { result ≡ not (is_free self.now) }
     {

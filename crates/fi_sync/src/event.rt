@@ -52,7 +52,7 @@ impl<R: Wait> ManualResetEvent<R> {
         self.monitor.call((), |event, ()| event.reset());
     }
 
-    /// The event was set when it was looked at. Keeps `ManualResetEvent::is_set`.
+    /// Returns `true` if the event was set when it was looked at. Keeps `ManualResetEvent::is_set`.
     pub fn is_set(&self) -> bool {
         self.monitor.call((), |event, ()| event.is_set())
     }

@@ -1,5 +1,12 @@
 //! The primitives that threads share: each state stands behind a lock, and its futures implement the kit's `Future`.
 //!
+//! - `ManualResetEvent`, `Mutex`, `Semaphore`, `SharedSemaphore`, `TimerService`, and the channels: `Channel`, `UnbufferedChannel`,
+//!   `OneshotChannel`, `OneshotBroadcastChannel`, `StateBroadcastChannel`. `futures_intrusive` has them under the crate's paths.
+//! - A future is dropped where it is not wanted any more: it leaves its primitive, and passes on a notice that it has not used.
+//! - `Blocking` and `wait_for` wait for a future on a thread of their own.
+//! - `Monitor` is a state behind its lock, `Claim` a future's place in it. A call gives what it owes (whom to wake) beside its answer,
+//!   and that is paid with no lock held.
+//!
 //! "Keeps `X`" says which item of futures-intrusive an item stands for.
 #![tactic(auto)]
 
@@ -28,8 +35,6 @@ mod tally;
 mod tests;
 mod timed;
 mod timer;
-#[cfg(test)]
-mod uses;
 mod wakes;
 
 pub use blocking::{Blocking, wait_for};

@@ -6,6 +6,8 @@ ghost use Rattle.futures.specs.Task.{Covers, Keeps};
 ghost use Rattle.fi_parts.specs.declared.errors.Slot.{Slot};
 ghost use Rattle.fi_sync.specs.Waiting.{IsLeft, IsPolled};
 
+mod taken_apart;
+
 use crate::claim::{Cancel, Claim};
 use crate::slot_future::{PollSlot, SlotPolled};
 use crate::wakes::{Guarded, HasOutbox};

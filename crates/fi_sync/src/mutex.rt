@@ -26,7 +26,7 @@ use std::sync::ledger::{Blank, Ledger};
 /// A mutex: one holder at a time has its value, and futures wait for it. Threads share it by reference.
 ///
 /// A fair mutex is granted in the order of the futures' first polls. An unfair one is granted to whoever comes while it is free.
-/// Each call but `new` takes the lock. Keeps `GenericMutex` of futures-intrusive's `sync`.
+/// Each call but `new`, `into_inner` and `get_mut` takes the lock. Keeps `GenericMutex` of futures-intrusive's `sync`.
 #[derive(Drop)]
 pub struct Mutex<T, R, L: Ledger> {
     monitor: Monitor<CountedMutex<T, L>, R>,
@@ -50,6 +50,24 @@ impl<T: Drop, R, L: Ledger> Mutex<T, R, L> {
         Mutex {
             monitor: Monitor::new(rt, CountedMutex::new(alloc, blank, value, is_fair)),
         }
+    }
+}
+
+impl<T, R, L: Ledger> Mutex<T, R, L> {
+    /// Takes the value out of a mutex that is used no more. None only if a guard of it was forgotten and never dropped: then the value
+    /// is with that. It takes no lock and no memory, and constant time. Not in futures-intrusive.
+    pub fn into_inner(self) -> Option<T>
+    where
+        R: Drop,
+    {
+        let Mutex { monitor } = self;
+        monitor.into_inner()
+    }
+
+    /// Lends the value out, to be changed in place. None only if a guard of it was forgotten and never dropped. It takes no lock and no
+    /// memory, and constant time: whoever can borrow the mutex so shares it with nobody. Not in futures-intrusive.
+    pub fn get_mut(&mut self) -> Option<&mut T> {
+        self.monitor.get_mut()
     }
 }
 
@@ -77,7 +95,7 @@ impl<T: Drop, R: Wait, L: Ledger> Mutex<T, R, L> {
         })
     }
 
-    /// Somebody held the mutex when it was looked at. Keeps `GenericMutex::is_locked`.
+    /// Returns `true` if somebody held the mutex when it was looked at. Keeps `GenericMutex::is_locked`.
     pub fn is_locked(&self) -> bool {
         self.monitor.call((), |mutex, ()| mutex.is_locked())
     }
@@ -179,7 +197,7 @@ impl<'a, T: Drop, R: Wait, L: Ledger> Model for MutexLockFuture<'a, T, R, L> {
 }
 
 impl<T: Drop, R: Wait, L: Ledger> MutexLockFuture<'_, T, R, L> {
-    /// The future was polled to its end. It takes no lock. Keeps `FusedFuture::is_terminated`.
+    /// Returns `true` if the future was polled to its end. It takes no lock. Keeps `FusedFuture::is_terminated`.
     pub fn is_terminated(&self) -> bool
         ensures { result ≡ self.now.has_ended }
     {

@@ -53,7 +53,7 @@ impl<M: HasMonitor<State = CountedSemaphore<L>>, L: Ledger> SemaphoreAcquireFutu
         }
     }
 
-    /// The future was polled to its end. It takes no lock. Keeps `FusedFuture::is_terminated`.
+    /// Returns `true` if the future was polled to its end. It takes no lock. Keeps `FusedFuture::is_terminated`.
     pub fn is_terminated(&self) -> bool
         ensures { result ≡ self.now.has_ended }
     {

@@ -124,7 +124,7 @@ where
         }
     }
 
-    /// The future was polled to its end, or cancelled. It takes no lock. Keeps `FusedFuture::is_terminated`.
+    /// Returns `true` if the future was polled to its end, or cancelled. It takes no lock. Keeps `FusedFuture::is_terminated`.
     pub fn is_terminated(&self) -> bool
         ensures { result ≡ self.now.has_ended }
     {

@@ -7,6 +7,8 @@ ghost use Rattle.futures.specs.declared.task.waker.Waker.{Waker};
 ghost use Rattle.fi_sync.specs.Waiting.{IsPolled};
 ghost use Rattle.fi_sync.specs.Wakes.{TakesOldest};
 
+mod taken_apart;
+
 use crate::claim::Claim;
 use crate::slot_future::{PollSlot, SlotPolled};
 use fi_parts::Slot;

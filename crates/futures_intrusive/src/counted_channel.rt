@@ -128,14 +128,14 @@ impl<T: Drop, B: RingBuf<Item = T>> CountedEnds<ChannelState<T, Clearable<B>, Po
         self.state.len()
     }
 
-    /// No value is buffered.
+    /// Returns `true` if no value is buffered.
     pub fn is_empty(&self) -> bool
         ensures { result ≡ (length self.now.state.own.buffer.items == 0) }
     {
         self.state.is_empty()
     }
 
-    /// The buffer has no room for one more value.
+    /// Returns `true` if the buffer has no room for one more value.
     pub fn is_full(&self) -> bool
         ensures { result ≡ not (has_room self.now.state.own) }
     {

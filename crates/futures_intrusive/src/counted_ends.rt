@@ -29,7 +29,7 @@ pub trait ClosesByEnds: HasOutbox {
     /// The close after the last receiver lets this go and leads from old to new.
     ghost clears: { Self → Self.Cleared → Self → Type 0 };
 
-    /// The channel is closed.
+    /// Returns `true` if the channel is closed.
     fn is_closed(&self) -> bool
         ensures closed { result ≡ true → closing.IsClosed self.now }
         ensures open { closing.IsClosed self.now → result ≡ true };
@@ -130,7 +130,7 @@ impl<S: ClosesByEnds> CountedEnds<S> {
         self.receivers
     }
 
-    /// The channel is closed.
+    /// Returns `true` if the channel is closed.
     pub fn is_closed(&self) -> bool
         ensures closed { result ≡ true → S.closing.IsClosed self.now.state }
         ensures open { S.closing.IsClosed self.now.state → result ≡ true }
@@ -225,6 +225,8 @@ impl<S: SendsClosed> ChannelSendAccess for CountedEnds<S> {
 
     ghost withdraws = { λ old name left new. OnState (λ before after. S.withdraws before name left after) old new };
 
+    ghost others_stay = { λ name old new. S.others_stay name old.state new.state };
+
     fn can_send(&self, slot: Slot) -> bool {
         self.state.can_send(slot)
     }
@@ -261,6 +263,8 @@ impl<S: ReceivesClosed> ChannelReceiveAccess for CountedEnds<S> {
         OnState (λ before after. S.receives before name waker answer after) old new };
 
     ghost cancels = { λ old name new. OnState (λ before after. S.cancels before name after) old new };
+
+    ghost others_stay = { λ name old new. S.others_stay name old.state new.state };
 
     fn can_receive(&self, slot: Slot) -> bool {
         self.state.can_receive(slot)

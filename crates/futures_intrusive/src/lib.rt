@@ -29,7 +29,5 @@ pub mod sync;
 #[cfg(test)]
 mod tests;
 pub mod timer;
-#[cfg(test)]
-mod uses;
 
 pub use fi_parts::{Fault, Leftover, NoRoom, Slot};

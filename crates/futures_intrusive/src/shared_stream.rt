@@ -85,7 +85,7 @@ impl<T: Drop, B: RingBuf<Item = T>, R: Wait + Drop> SharedStream<T, B, R> {
         self.receiver.close()
     }
 
-    /// The stream has answered its end. It takes no lock. Keeps `FusedStream::is_terminated`.
+    /// Returns `true` if the stream has answered its end. It takes no lock. Keeps `FusedStream::is_terminated`.
     pub fn is_terminated(&self) -> bool
         ensures { result ≡ self.now.has_ended }
     {

@@ -1,4 +1,10 @@
 //! Answers a script of calls on one primitive, line by line.
+//!
+//! - `program` is a whole run: arguments, input, output and status (`run_program`). `engine` answers a script (`run_script`) and each
+//!   of its lines, and `fault` says how that can fail.
+//! - `words`, `verb`, `label`, `numbers` and `row` read a line. `scripted` is what a primitive adds, a table from rows to calls; each
+//!   primitive has a module with its own (`event`, `channel`, ..), and `named` and `buffer` read what the first line opens.
+//! - `labelled` keeps futures by their labels; `texts` and `output` write the answers.
 #![tactic(auto)]
 
 mod buffer;

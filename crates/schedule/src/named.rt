@@ -17,7 +17,7 @@ pub enum Named {
 }
 
 impl Named {
-    /// The primitive of this name, if it is one's.
+    /// Parses a primitive's name.
     pub fn by(word: &[u8]) -> Option<Named>
         ensures { MatchOption result (IsNoName word.now) (λ named. word.now ≡ name_of named) }
     {

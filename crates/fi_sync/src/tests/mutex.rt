@@ -6,6 +6,7 @@ use crate::Mutex;
 use futures::executor::block_on;
 use std::alloc::AllocGlobal;
 use std::marker::Brand;
+use std::mem::forget;
 use std::process::Abort;
 use std::random::RandomSource;
 use std::sync::Wait;
@@ -39,4 +40,31 @@ where
 #[test]
 fn mutex_crosses_threads(rt: HostRuntime) {
     crosses::<HostRuntime, Brand>(rt, Blank::new(1))
+}
+
+// Its owner needs no lock: the value is changed in place and taken out, unless a guard was forgotten that has it.
+fn takes_apart<R, L: Ledger>(rt: R, blank: Blank, is_guard_forgotten: bool) -> Option<u64>
+where
+    R: Wait + Abort + Copy + AllocGlobal + Drop,
+    requires blank { IsLockBlank L.Ledger blank }
+{
+    let mut mutex = Mutex::<u64, R, L>::new(rt.alloc(), rt, blank, 7, true);
+    *mutex.get_mut().expect(&rt, "free") = 8;
+    let guard = mutex.try_lock().expect(&rt, "free");
+    assert!(rt; *guard == 8);
+    if is_guard_forgotten {
+        forget(guard);
+        assert!(rt; mutex.get_mut().is_none());
+    } else {
+        drop(guard);
+    }
+    mutex.into_inner()
+}
+
+#[test]
+fn mutex_taken_apart(rt: HostRuntime) {
+    let whole = takes_apart::<HostRuntime, Brand>(rt, Blank::new(1), false);
+    assert_eq!(rt; whole, Some(8));
+    let lent = takes_apart::<HostRuntime, Brand>(rt, Blank::new(1), true);
+    assert_eq!(rt; lent, None);
 }
