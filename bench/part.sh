@@ -1,8 +1,7 @@
 #!/bin/sh
-# Proves, builds and runs one of bench/programs beside a copy of the crates that it uses: `bench/part.sh bench_heap time`,
-# `bench/part.sh bench_buffer 20000000`, `bench/part.sh bench_locks`, `.. bench_journal`, `.. bench_pool`, `.. bench_sync`. The
-# programs stand here under another ending, so that the gate takes them for no crate. Where KEEP names a folder, the copy is made there
-# and stays.
+# Proves, builds and runs one of bench/programs beside a copy of the crates that it uses: `bench/part.sh bench_calls timer 1000 1`,
+# `bench/part.sh bench_sync lock 1000 1`, `bench/part.sh bench_buffer 20000000`. The programs stand here under another ending, so that the
+# gate takes them for no crate. Where KEEP names a folder, the copy is made there and stays.
 set -eu
 here=$(cd "$(dirname "$0")" && pwd)
 program=$1

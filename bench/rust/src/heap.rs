@@ -1,10 +1,10 @@
-//! Fills and empties the pairing heap of futures-intrusive, as bench_heap does ours. bench/rust/build.sh puts the crate's file beside it.
+//! Fills and empties the pairing heap of futures-intrusive, as bench_calls does ours: `heap LOAD COUNT ROUNDS`. bench/rust/build.sh puts
+//! the crate's file beside it.
 
 #[allow(dead_code)]
 mod intrusive_pairing_heap;
 
 use intrusive_pairing_heap::{HeapNode, PairingHeap};
-use std::time::Instant;
 
 /// So many values in this order.
 fn values(order: &str, count: u64) -> Vec<u64> {
@@ -12,8 +12,8 @@ fn values(order: &str, count: u64) -> Vec<u64> {
     let value = |i| {
         draw = draw.wrapping_mul(6_364_136_223_846_793_005).wrapping_add(1_442_695_040_888_963_407);
         match order {
-            "sorted" => i,
-            "reversed" => count - i,
+            "heap-sorted" => i,
+            "heap-reversed" => count - i,
             _ => draw >> 33,
         }
     };
@@ -40,13 +40,11 @@ fn through_the_heap(list: &[u64]) -> Vec<u64> {
 }
 
 fn main() {
-    let count = 1_000_000;
-    for order in ["sorted", "reversed", "drawn"] {
-        let list = values(order, count);
-        let start = Instant::now();
-        let out = through_the_heap(&list);
-        let taken = start.elapsed().as_nanos() / u128::from(count);
-        let is_sorted = out.windows(2).all(|pair| pair[0] <= pair[1]);
-        println!("{order}: {count} values, in order: {is_sorted}\n  the crate's heap {taken} ns a value");
-    }
+    let words: Vec<String> = std::env::args().collect();
+    let [_, load, count, rounds] = &words[..] else {
+        panic!("usage: heap LOAD COUNT ROUNDS");
+    };
+    let list = values(load, count.parse().expect("a number"));
+    let rounds: u64 = rounds.parse().expect("a number");
+    println!("{}", (0..rounds).map(|_| through_the_heap(&list).len()).sum::<usize>());
 }

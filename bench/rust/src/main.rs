@@ -1,10 +1,12 @@
 //! Answers scripts with the Rust crate futures-intrusive, to be timed beside `schedule`.
 //!
-//! Its grammar is that of `schedule` for the event, the timer, the semaphore (whose permits are given back one by one) and the channel over
-//! an array of two, without `hold` and `wakes`.
+//! Its grammar is that of `schedule` without `hold`, `wakes` and the pool, for what the scripts of bench/script.sh ask: a semaphore's
+//! permits are given back one by one, a channel stands over an array of two, and a state is asked for that is newer than none.
 
-use futures_intrusive::channel::LocalChannel;
-use futures_intrusive::sync::{LocalManualResetEvent, LocalSemaphore};
+use futures_intrusive::channel::{
+    LocalChannel, LocalOneshotBroadcastChannel, LocalOneshotChannel, LocalStateBroadcastChannel, StateId,
+};
+use futures_intrusive::sync::{LocalManualResetEvent, LocalMutex, LocalSemaphore};
 use futures_intrusive::timer::{LocalTimer, LocalTimerService, MockClock};
 use std::cell::RefCell;
 use std::collections::hash_map::{Entry, HashMap};
@@ -104,6 +106,15 @@ fn make<F>(words: &mut Words, futures: &mut Futures<F>, future: impl FnOnce(&mut
 fn poll<F: Future>(future: Pin<&mut F>, number: u64) -> Poll<F::Output> {
     let waker = waker(number);
     future.poll(&mut Context::from_waker(&waker))
+}
+
+/// Writes what a poll for a value was answered.
+fn write_received(received: Poll<Option<u64>>, output: &mut impl Write) -> io::Result<()> {
+    match received {
+        Poll::Ready(Some(value)) => write!(output, "some {value}"),
+        Poll::Ready(None) => output.write_all(b"none"),
+        Poll::Pending => output.write_all(b"pending"),
+    }
 }
 
 fn write_wakes(output: &mut impl Write) -> io::Result<()> {
@@ -211,8 +222,8 @@ fn run_timer<'a>(lines: impl Iterator<Item = &'a [u8]>, output: &mut impl Write)
     })
 }
 
-fn run_semaphore<'a>(permits: usize, lines: impl Iterator<Item = &'a [u8]>, output: &mut impl Write) -> Ended {
-    let semaphore = LocalSemaphore::new(true, permits);
+fn run_semaphore<'a>(is_fair: bool, lines: impl Iterator<Item = &'a [u8]>, output: &mut impl Write) -> Ended {
+    let semaphore = LocalSemaphore::new(is_fair, 0);
     let mut futures = Futures::new();
     let mut releasers = Vec::new();
     answer_lines(lines, output, |verb, words, output| {
@@ -250,6 +261,118 @@ fn run_semaphore<'a>(permits: usize, lines: impl Iterator<Item = &'a [u8]>, outp
     })
 }
 
+fn run_mutex<'a>(value: u64, lines: impl Iterator<Item = &'a [u8]>, output: &mut impl Write) -> Ended {
+    let mutex = LocalMutex::new(value, true);
+    let mut futures = Futures::new();
+    let mut held = None;
+    answer_lines(lines, output, |verb, words, output| {
+        let text: &[u8] = match verb {
+            b"lock" => {
+                make(words, &mut futures, |_| Some(mutex.lock()))?;
+                b"made"
+            }
+            b"poll" => {
+                let future = futures.get_mut(&words.label()?)?;
+                match poll(future.as_mut(), words.number()?) {
+                    Poll::Ready(guard) => return Some(write!(output, "some {}", **held.insert(guard))),
+                    Poll::Pending => b"pending",
+                }
+            }
+            b"cancel" => {
+                drop(futures.remove(&words.label()?)?);
+                b"ok"
+            }
+            b"try-lock" => match mutex.try_lock() {
+                Some(guard) => return Some(write!(output, "some {}", **held.insert(guard))),
+                None => b"none",
+            },
+            b"unlock" => {
+                let value = words.number()?;
+                match held.take() {
+                    Some(mut guard) => {
+                        *guard = value;
+                        b"ok"
+                    }
+                    None => return Some(write!(output, "not-held {value}")),
+                }
+            }
+            b"is-locked" if mutex.is_locked() => b"true",
+            b"is-locked" => b"false",
+            _ => return None,
+        };
+        Some(output.write_all(text))
+    })
+}
+
+/// Answers the lines of a channel of one value.
+macro_rules! run_one_value {
+    ($channel:expr, $lines:expr, $output:expr) => {{
+        let channel = $channel;
+        let mut futures = Futures::new();
+        answer_lines($lines, $output, |verb, words, output| {
+            let text: &[u8] = match verb {
+                b"receive" => {
+                    make(words, &mut futures, |_| Some(channel.receive()))?;
+                    b"made"
+                }
+                b"poll" => {
+                    let future = futures.get_mut(&words.label()?)?;
+                    return Some(write_received(poll(future.as_mut(), words.number()?), output));
+                }
+                b"cancel" => {
+                    drop(futures.remove(&words.label()?)?);
+                    b"ok"
+                }
+                b"send" => match channel.send(words.number()?) {
+                    Ok(()) => b"ok",
+                    Err(closed) => return Some(write!(output, "closed {}", closed.0)),
+                },
+                b"close" if channel.close().is_newly_closed() => b"newly-closed",
+                b"close" => b"already-closed",
+                _ => return None,
+            };
+            Some(output.write_all(text))
+        })
+    }};
+}
+
+fn run_state<'a>(lines: impl Iterator<Item = &'a [u8]>, output: &mut impl Write) -> Ended {
+    let channel = LocalStateBroadcastChannel::<u64>::new();
+    let mut futures = Futures::new();
+    let mut sent = 0u64;
+    answer_lines(lines, output, |verb, words, output| {
+        let text: &[u8] = match verb {
+            b"receive" => {
+                make(words, &mut futures, |words| (words.number()? == 0).then(|| channel.receive(StateId::new())))?;
+                b"made"
+            }
+            b"poll" => {
+                let future = futures.get_mut(&words.label()?)?;
+                match poll(future.as_mut(), words.number()?) {
+                    Poll::Ready(Some((_, value))) => return Some(write!(output, "some {sent} {value}")),
+                    Poll::Ready(None) => b"none",
+                    Poll::Pending => b"pending",
+                }
+            }
+            b"cancel" => {
+                drop(futures.remove(&words.label()?)?);
+                b"ok"
+            }
+            b"send" => match channel.send(words.number()?) {
+                Ok(()) => {
+                    sent += 1;
+                    b"ok"
+                }
+                Err(closed) => return Some(write!(output, "closed {}", closed.0)),
+            },
+            b"close" if channel.close().is_newly_closed() => b"newly-closed",
+            b"close" => b"already-closed",
+            _ => return None,
+        };
+        Some(output.write_all(text))
+    })
+}
+
 fn run_channel<'a>(lines: impl Iterator<Item = &'a [u8]>, output: &mut impl Write) -> Ended {
     let channel = LocalChannel::<u64, [u64; 2]>::new();
     let mut sends = Futures::new();
@@ -274,11 +397,7 @@ fn run_channel<'a>(lines: impl Iterator<Item = &'a [u8]>, output: &mut impl Writ
                         Poll::Pending => b"pending",
                     }
                 } else {
-                    match poll(receives.get_mut(&label)?.as_mut(), number) {
-                        Poll::Ready(Some(value)) => return Some(write!(output, "some {value}")),
-                        Poll::Ready(None) => b"none",
-                        Poll::Pending => b"pending",
-                    }
+                    return Some(write_received(poll(receives.get_mut(&label)?.as_mut(), number), output));
                 }
             }
             b"cancel" => {
@@ -322,7 +441,12 @@ fn main() -> io::Result<ExitCode> {
         Some(b"event set") => run_event(true, lines, &mut output),
         Some(b"event reset") => run_event(false, lines, &mut output),
         Some(b"timer") => run_timer(lines, &mut output),
-        Some(b"semaphore fair 0") => run_semaphore(0, lines, &mut output),
+        Some(b"mutex fair 0") => run_mutex(0, lines, &mut output),
+        Some(b"semaphore fair 0") => run_semaphore(true, lines, &mut output),
+        Some(b"semaphore unfair 0") => run_semaphore(false, lines, &mut output),
+        Some(b"oneshot") => run_one_value!(LocalOneshotChannel::<u64>::new(), lines, &mut output),
+        Some(b"oneshot-broadcast") => run_one_value!(LocalOneshotBroadcastChannel::<u64>::new(), lines, &mut output),
+        Some(b"state-broadcast") => run_state(lines, &mut output),
         Some(b"channel array 2") => run_channel(lines, &mut output),
         _ => Ok(Some(1)),
     }?;

@@ -1,4 +1,4 @@
-//! Times the primitives of futures-intrusive by call, as bench_calls times ours.
+//! Calls the primitives of futures-intrusive as bench_calls calls ours: `calls LOAD COUNT ROUNDS`.
 
 use futures_intrusive::channel::{LocalChannel, LocalUnbufferedChannel};
 use futures_intrusive::sync::{LocalManualResetEvent, LocalMutex, LocalSemaphore};
@@ -7,7 +7,6 @@ use std::cell::Cell;
 use std::future::Future;
 use std::pin::{Pin, pin};
 use std::task::{Context, Poll, RawWaker, RawWakerVTable, Waker};
-use std::time::Instant;
 
 thread_local! {
     static SUM: Cell<u64> = const { Cell::new(0) };
@@ -207,86 +206,41 @@ fn receive_cancels(channel: &LocalUnbufferedChannel<u64>, count: u64) {
     }
 }
 
-fn nanos_of(rounds: u64, mut round: impl FnMut()) -> u128 {
-    let start = Instant::now();
-    for _ in 0..rounds {
-        round();
-    }
-    start.elapsed().as_nanos()
-}
-
-fn sum() -> u64 {
-    SUM.with(|sum| sum.get())
-}
-
-fn time_locks(count: u64, rounds: u64) {
-    let mutex = LocalMutex::new(0, true);
-    locks_served(&mutex, count);
-    let pairs = nanos_of(rounds, || lock_pairs(&mutex, count));
-    let served_locks = nanos_of(rounds, || locks_served(&mutex, count));
-    println!("crate {count} {rounds} lock_pairs {pairs} locks_served {served_locks} ({})", sum());
-    let one = LocalSemaphore::new(true, 1);
-    acquire_pairs(&one, count);
-    let pairs = nanos_of(rounds, || acquire_pairs(&one, count));
-    let semaphore = LocalSemaphore::new(true, 0);
-    served(&semaphore, count, count as usize);
-    let one_by_one = nanos_of(rounds, || served(&semaphore, count, 1));
-    let at_once = nanos_of(rounds, || served(&semaphore, count, count as usize));
-    println!("crate {count} {rounds} acquire_pairs {pairs} one_by_one {one_by_one} at_once {at_once} ({})", sum());
-}
-
-fn time_channels(count: u64, rounds: u64) {
-    let channel = LocalChannel::new();
-    full_sends(&channel, count);
-    let pairs = nanos_of(rounds, || channel_pairs(&channel, count));
-    let full = nanos_of(rounds, || full_sends(&channel, count));
-    println!("crate {count} {rounds} channel_pairs {pairs} full_sends {full} ({})", sum());
-    let channel = LocalUnbufferedChannel::new();
-    receive_cancels(&channel, count);
-    let met = nanos_of(rounds, || rendezvous(&channel, count));
-    let cancelled = nanos_of(rounds, || receive_cancels(&channel, count));
-    println!("crate {count} {rounds} rendezvous {met} receive_cancels {cancelled} ({})", sum());
-}
-
-fn time(count: u64, rounds: u64) {
-    let nanos = |start: Instant| start.elapsed().as_nanos();
-    let event = LocalManualResetEvent::new(false);
-    event_round(&event, count);
-    let start = Instant::now();
-    for _ in 0..rounds {
-        event_round(&event, count);
-    }
-    let kept = nanos(start);
-    let start = Instant::now();
-    for _ in 0..rounds {
-        event_round(&LocalManualResetEvent::new(false), count);
-    }
-    let fresh = nanos(start);
-    cancel_round(&event, count);
-    let start = Instant::now();
-    for _ in 0..rounds {
-        cancel_round(&event, count);
-    }
-    let cancelled = nanos(start);
-    println!(
-        "crate {count} {rounds} event_kept {kept} event_fresh {fresh} cancels {cancelled} ({})",
-        sum()
-    );
+/// Runs so many rounds of a load on one object, or on a fresh one each.
+fn run(load: &str, count: u64, rounds: u64) {
     static CLOCK: MockClock = MockClock::new();
+    let event = LocalManualResetEvent::new(false);
     let service = LocalTimerService::new(&CLOCK);
-    timer_round(&service, &CLOCK, count);
-    let start = Instant::now();
+    let mutex = LocalMutex::new(0, true);
+    let one = LocalSemaphore::new(true, 1);
+    let semaphore = LocalSemaphore::new(true, 0);
+    let channel = LocalChannel::new();
+    let unbuffered = LocalUnbufferedChannel::new();
     for _ in 0..rounds {
-        timer_round(&service, &CLOCK, count);
+        match load {
+            "event-kept" => event_round(&event, count),
+            "event-fresh" => event_round(&LocalManualResetEvent::new(false), count),
+            "cancels" => cancel_round(&event, count),
+            "timer" => timer_round(&service, &CLOCK, count),
+            "lock-pairs" => lock_pairs(&mutex, count),
+            "locks-served" => locks_served(&mutex, count),
+            "acquire-pairs" => acquire_pairs(&one, count),
+            "acquires-served" => served(&semaphore, count, 1),
+            "acquires-at-once" => served(&semaphore, count, count as usize),
+            "channel-pairs" => channel_pairs(&channel, count),
+            "full-sends" => full_sends(&channel, count),
+            "rendezvous" => rendezvous(&unbuffered, count),
+            "receive-cancels" => receive_cancels(&unbuffered, count),
+            _ => panic!("no such load: {load}"),
+        }
     }
-    let timed = nanos(start);
-    println!("crate {count} {rounds} timer {timed} ({})", sum());
 }
 
 fn main() {
-    for (count, rounds) in [(1_000, 2_000), (10_000, 200), (100_000, 20), (1_000_000, 2)] {
-        time(count, rounds);
-        time_locks(count, rounds);
-        time_channels(count, rounds);
-    }
+    let words: Vec<String> = std::env::args().collect();
+    let [_, load, count, rounds] = &words[..] else {
+        panic!("usage: calls LOAD COUNT ROUNDS");
+    };
+    run(load, count.parse().expect("a number"), rounds.parse().expect("a number"));
+    println!("{}", SUM.with(|sum| sum.get()));
 }

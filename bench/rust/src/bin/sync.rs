@@ -1,4 +1,4 @@
-//! Times the thread-safe primitives of futures-intrusive by call, as bench_sync times ours.
+//! Calls the thread-safe primitives of futures-intrusive as bench_sync calls ours: `sync LOAD COUNT THREADS`.
 
 use futures_intrusive::buffer::ArrayBuf;
 use futures_intrusive::channel::GenericChannel;
@@ -9,7 +9,6 @@ use std::future::Future;
 use std::pin::pin;
 use std::sync::atomic::{AtomicU64, Ordering};
 use std::task::{Context, Poll, Waker};
-use std::time::Instant;
 
 type Mutex = GenericMutex<StdLock, u64>;
 type Semaphore = GenericSemaphore<StdLock>;
@@ -149,41 +148,75 @@ fn end_pairs(sender: &Sender, receiver: &Receiver, cx: &mut Context, count: u64)
     done
 }
 
-fn timed(name: &str, count: u64, load: impl FnOnce() -> u64) {
-    let start = Instant::now();
-    let done = load();
-    let time = start.elapsed().as_nanos();
-    println!("crate {name} {count} {time} {done}");
+const WAITERS: u64 = 100;
+
+/// Of a hundred futures that wait for a mutex the oldest is served and made again, so many times.
+fn lock_queue(mutex: &Mutex, cx: &mut Context, count: u64) -> u64 {
+    let mut held = mutex.try_lock();
+    let mut locks: Vec<_> = (0..WAITERS).map(|_| Box::pin(mutex.lock())).collect();
+    for lock in &mut locks {
+        let _ = lock.as_mut().poll(cx);
+    }
+    let mut done = 0;
+    for i in 0..count {
+        drop(held.take());
+        let oldest = &mut locks[(i % WAITERS) as usize];
+        if let Poll::Ready(guard) = oldest.as_mut().poll(cx) {
+            held = Some(guard);
+            done += 1;
+        }
+        oldest.set(mutex.lock());
+        let _ = oldest.as_mut().poll(cx);
+    }
+    done
+}
+
+/// Does the work in so many threads at once, and adds up what was done.
+fn in_threads(threads: u64, work: impl Fn() -> u64 + Sync) -> u64 {
+    let sum = AtomicU64::new(0);
+    std::thread::scope(|scope| {
+        for _ in 0..threads {
+            scope.spawn(|| sum.fetch_add(work(), Ordering::SeqCst));
+        }
+    });
+    sum.into_inner()
+}
+
+/// Sends by half of so many threads what the other half receives.
+fn in_pairs(threads: u64, send: impl Fn() -> u64 + Sync, receive: impl Fn() -> u64 + Sync) -> u64 {
+    let turn = AtomicU64::new(0);
+    in_threads(threads, || if turn.fetch_add(1, Ordering::SeqCst) % 2 == 0 { send() } else { receive() }) / 2
+}
+
+fn run(load: &str, count: u64, threads: u64) -> u64 {
+    let mutex = Mutex::new(0, true);
+    let semaphore = Semaphore::new(true, threads as usize);
+    let channel = Channel::new();
+    let (sender, receiver) = generic_channel::<StdLock, u64, ArrayBuf<u64, [u64; 2]>>(2);
+    let cx = &mut Context::from_waker(Waker::noop());
+    let share = count / threads;
+    match load {
+        "try-lock" => in_threads(threads, || try_lock_pairs(&mutex, share)),
+        "lock" => lock_pairs(&mutex, cx, count),
+        "lock-queue" => lock_queue(&mutex, cx, count),
+        "try-acquire" => in_threads(threads, || try_acquire_pairs(&semaphore, share)),
+        "acquire" => acquire_pairs(&semaphore, cx, count),
+        "try-send" if threads < 2 => try_send_pairs(&channel, count),
+        "try-send" => in_pairs(threads, || try_sends(&channel, 2 * share), || try_receives(&channel, 2 * share)),
+        "send" => send_pairs(&channel, cx, count),
+        "end-try-send" if threads < 2 => try_end_pairs(&sender, &receiver, count),
+        "end-try-send" => {
+            in_pairs(threads, || try_end_sends(&sender, 2 * share), || try_end_receives(&receiver, 2 * share))
+        }
+        "end-send" => end_pairs(&sender, &receiver, cx, count),
+        _ => panic!("no such load: {load}"),
+    }
 }
 
 fn main() {
-    let count = 1_000_000;
-    let mutex = Mutex::new(0, true);
-    let semaphore = Semaphore::new(true, 1);
-    let channel = Channel::new();
-    let mut cx = Context::from_waker(Waker::noop());
-    timed("try_lock", count, || try_lock_pairs(&mutex, count));
-    timed("lock", count, || lock_pairs(&mutex, &mut cx, count));
-    timed("try_acquire", count, || try_acquire_pairs(&semaphore, count));
-    timed("acquire", count, || acquire_pairs(&semaphore, &mut cx, count));
-    timed("try_send", count, || try_send_pairs(&channel, count));
-    timed("send", count, || send_pairs(&channel, &mut cx, count));
-    timed("two_lock", count, || both(|| try_lock_pairs(&mutex, count / 2), || try_lock_pairs(&mutex, count / 2)));
-    timed("two_acquire", count, || {
-        both(|| try_acquire_pairs(&semaphore, count / 2), || try_acquire_pairs(&semaphore, count / 2))
-    });
-    timed("two_send", count, || both(|| try_sends(&channel, count), || try_receives(&channel, count)) / 2);
-    let (sender, receiver) = generic_channel::<StdLock, u64, ArrayBuf<u64, [u64; 2]>>(2);
-    timed("end_try_send", count, || try_end_pairs(&sender, &receiver, count));
-    timed("end_send", count, || end_pairs(&sender, &receiver, &mut cx, count));
-    timed("two_end_send", count, || both(|| try_end_sends(&sender, count), || try_end_receives(&receiver, count)) / 2);
-}
-
-fn both(first: impl FnOnce() -> u64 + Send, second: impl FnOnce() -> u64 + Send) -> u64 {
-    let sum = AtomicU64::new(0);
-    std::thread::scope(|scope| {
-        scope.spawn(|| sum.fetch_add(first(), Ordering::SeqCst));
-        sum.fetch_add(second(), Ordering::SeqCst);
-    });
-    sum.into_inner()
+    let words: Vec<String> = std::env::args().collect();
+    let [_, load, count, threads] = &words[..] else {
+        panic!("usage: sync LOAD COUNT THREADS");
+    };
+    println!("{}", run(load, count.parse().expect("a number"), threads.parse().expect("a number")));
 }
