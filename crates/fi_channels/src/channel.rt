@@ -31,6 +31,20 @@ use std::marker::Model;
 /// value. The channel names the wakers to be woken and wakes nobody itself: whoever calls it takes them out by `next_wake`.
 /// But for the makings and a send into a buffer that has to grow, each call takes constant time (`close` for each future that
 /// waits) and no memory. Keeps `GenericChannel` of futures-intrusive's `channel`.
+///
+/// # Examples
+///
+/// ```
+/// let Ok(slot) = pipe.claim_send(self.next.wrapping_mul(self.next)) else {    // `pipe` is a `ChannelState` over an array
+///     return Err(Fault::NoMemory);
+/// };
+/// // ..
+/// let Ok((answer, _leftover)) = pipe.next_checked(self.stream, SUM) else {
+///     return;
+/// };
+/// // ..
+/// pipe.leave_receive(self.stream);
+/// ```
 #[derive(Drop)]
 pub struct ChannelState<T: Drop, B: RingBuf<Item = T>, W> {
     fields: ChannelFields<T, B, W>,
@@ -40,11 +54,36 @@ pub struct ChannelState<T: Drop, B: RingBuf<Item = T>, W> {
 /// them.
 ///
 /// Keeps `LocalChannel` of futures-intrusive's `channel`.
+///
+/// # Examples
+///
+/// ```
+/// let mut channel: LocalChannel<u64, 1, u64> = LocalChannel::new(rt.alloc());
+/// let stored = channel.try_send(5);
+/// let mut send = channel.send(6).expect(&rt, "memory");
+/// let waits = send.poll_if_live(&mut channel, 1);
+/// let received = channel.try_receive();
+/// let woken = channel.next_wake();
+/// let ends = send.poll_if_live(&mut channel, 2);
+/// let left = send.leave(&mut channel);
+/// assert_eq!(rt; (stored, received, woken), (Ok(()), Ok(5), Some(1)));
+/// ```
 pub type LocalChannel<T, const N: usize, W> = ChannelState<T, ArrayBuf<T, N>, W>;
 
 /// The channel for one thread without a buffer: each value is handed from a send that waits to a receive.
 ///
 /// Keeps `LocalUnbufferedChannel` of futures-intrusive's `channel`.
+///
+/// # Examples
+///
+/// ```
+/// let mut channel: LocalUnbufferedChannel<u64, u64> = LocalUnbufferedChannel::new(rt.alloc());
+/// let mut stream = channel.stream().expect(&rt, "room");
+/// let answer = stream.poll_next(&mut channel, 2);
+/// let is_ended = stream.is_terminated();
+/// stream.cancel(&mut channel);
+/// assert_eq!(rt; answer, Poll::Pending);
+/// ```
 pub type LocalUnbufferedChannel<T, W> = LocalChannel<T, 0, W>;
 
 impl<T: Drop, B: RingBuf<Item = T>, W> Model for ChannelState<T, B, W> {

@@ -6,6 +6,17 @@ use std::error::Error;
 use std::fmt;
 
 /// Why a send ended without its value, or got no further.
+///
+/// # Examples
+///
+/// ```
+/// let sent = match answer {
+///     Poll::Pending => return Ok(false),
+///     Poll::Ready(Err(SendFault::Fault(fault))) => return Err(fault),     // the send keeps its value, and may be polled again
+///     Poll::Ready(Err(SendFault::Closed(_))) => Err(Fault::Closed),
+///     Poll::Ready(Ok(())) => Ok(true),
+/// };
+/// ```
 #[derive(Debug, PartialEq, Drop)]
 pub enum SendFault<T> {
     /// The channel is closed; the value is handed back.
@@ -28,6 +39,16 @@ impl<T: fmt::Debug + Drop> Error for SendFault<T> {}
 /// Why a value was not sent at once; it is handed back.
 ///
 /// Keeps `TrySendError` of futures-intrusive's `channel`.
+///
+/// # Examples
+///
+/// ```
+/// if !matches!(channel.try_send(9), Err(TrySendError::Full(9))) {
+///     return false;
+/// }
+/// let is_closed = channel.close().is_newly_closed() && !channel.close().is_newly_closed();
+/// is_closed && channel.is_closed() && matches!(channel.try_send(8), Err(TrySendError::Closed(8)))
+/// ```
 #[derive(Debug, PartialEq, Drop)]
 pub enum TrySendError<T> {
     /// The buffer has no room.
@@ -101,6 +122,17 @@ impl<T: Drop> TrySendError<T> {
 /// Why nothing was received at once.
 ///
 /// Keeps `TryReceiveError` of futures-intrusive's `channel`.
+///
+/// # Examples
+///
+/// ```
+/// let channel = Channel::<u64, 2, HostRuntime>::new(rt.alloc(), rt);
+/// assert!(rt; channel.try_send(1).is_ok() && channel.try_send(2).is_ok());
+/// assert!(rt; channel.try_send(3).is_err());
+/// channel.close();
+/// assert!(rt; channel.try_receive() == Ok(1) && channel.try_receive() == Ok(2));
+/// assert!(rt; channel.try_receive() == Err(TryReceiveError::Closed));
+/// ```
 #[derive(Clone, Copy, Debug, PartialEq, Eq)]
 pub enum TryReceiveError {
     /// The channel has no value, and is open.

@@ -29,12 +29,40 @@ struct Fields<T, W> {
 /// also before those who were told. It names the wakers to be woken and wakes nobody itself: whoever calls it takes them out by
 /// `next_wake`. Each call but a making takes constant time, and only the makings of futures take memory. Keeps `GenericMutex` of
 /// futures-intrusive's `sync`.
+///
+/// # Examples
+///
+/// ```
+/// let mut mutex = MutexState::new(rt.alloc(), 7, false);
+/// assert_eq!(rt; mutex.try_take(), Some(7));
+/// let a = mutex.claim_lock().expect(&rt, "room");
+/// let b = mutex.claim_lock().expect(&rt, "room");
+/// assert_eq!(rt; poll(&mut mutex, a, 1), Some(Poll::Pending));        // `mutex.try_wait(a, 1)`, if `mutex.can_poll(a)`
+/// assert_eq!(rt; poll(&mut mutex, b, 2), Some(Poll::Pending));
+/// assert_eq!(rt; mutex.unlock(8), Ok(()));
+/// assert_eq!(rt; woken(&mut mutex), (Some(1), None));                 // the next two wakers
+/// ```
 #[derive(Drop)]
 pub struct MutexState<T, W> {
     fields: Fields<T, W>,
 }
 
 /// The mutex for one thread: futures are polled with the mutex lent to them. Keeps `LocalMutex` of futures-intrusive's `sync`.
+///
+/// # Examples
+///
+/// ```
+/// let mut mutex: LocalMutex<u64, u64> = LocalMutex::new(rt.alloc(), 7, true);
+/// let mut future = mutex.lock().expect(&rt, "room");
+/// // ..
+/// if let Poll::Ready(mut guard) = future.poll(&mut mutex, 1) {
+///     read = *guard;
+///     *guard += 1;
+///     guard.unlock(&mut mutex);
+/// }
+/// // ..
+/// future.cancel(&mut mutex);
+/// ```
 pub type LocalMutex<T, W> = MutexState<T, W>;
 
 impl<T, W> Model for MutexState<T, W> {

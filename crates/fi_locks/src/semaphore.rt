@@ -47,6 +47,20 @@ struct Fields<W> {
 /// It names the wakers to be woken and wakes nobody itself: whoever calls it takes them out by `next_wake`. Each call but a making
 /// takes constant time, and constant time more for each future that it tells; only the makings of futures take memory. Keeps
 /// `GenericSemaphore` of futures-intrusive's `sync`.
+///
+/// # Examples
+///
+/// ```
+/// let permits = LocalSemaphore::new(alloc, true, limit);      // a `SemaphoreState`
+/// // ..
+/// self.permits.claim_acquire(1)
+/// // ..
+/// let Ok((Poll::Ready(used), _leftover)) = self.permits.poll_checked(request, task) else {
+///     return false;
+/// };
+/// self.permits.disarm(used);
+/// self.permits.leave(request);
+/// ```
 #[derive(Drop)]
 pub struct SemaphoreState<W> {
     fields: Fields<W>,
@@ -54,6 +68,22 @@ pub struct SemaphoreState<W> {
 
 /// The semaphore for one thread: futures are polled, and permits given back, with the semaphore lent to them. Keeps
 /// `LocalSemaphore` of futures-intrusive's `sync`.
+///
+/// # Examples
+///
+/// ```
+/// let mut semaphore: LocalSemaphore<u64> = LocalSemaphore::new(rt.alloc(), true, 3);
+/// let mut future = semaphore.acquire(2).expect(&rt, "room");
+/// let was_ended = future.is_terminated();
+/// let answer = future.poll(&mut semaphore, 1);
+/// let is_ended = future.is_terminated();
+/// future.cancel(&mut semaphore);
+/// // ..
+/// if let Poll::Ready(releaser) = answer {
+///     count = releaser.permits();
+///     releaser.give_back(&mut semaphore);
+/// }
+/// ```
 pub type LocalSemaphore<W> = SemaphoreState<W>;
 
 impl<W> Model for SemaphoreState<W> {

@@ -29,12 +29,40 @@ struct Fields<W> {
 /// It has no clock: whoever polls or checks says which moment it is, in milliseconds. It names the wakers to be woken and wakes
 /// nobody itself: whoever calls it takes them out by `next_wake`. Only the makings of futures take memory. Keeps
 /// `GenericTimerService` of futures-intrusive's `timer`.
+///
+/// # Examples
+///
+/// ```
+/// let mut timer = TimerState::new(rt.alloc());
+/// for (expiry, waker) in [(50_u64, 5_u64), (20, 2), (40, 4), (10, 1), (30, 3), (60, 6)] {
+///     let slot = timer.claim_deadline(expiry).expect(&rt, "room");
+///     assert_eq!(rt; poll(&mut timer, slot, 0, waker), Some(Poll::Pending));  // `timer.try_wait(slot, 0, waker)`
+/// }
+/// timer.check_expirations(50);
+/// for waker in 1..=5_u64 {
+///     assert_eq!(rt; timer.next_wake(), Some(waker));
+/// }
+/// ```
 #[derive(Drop)]
 pub struct TimerState<W> {
     fields: Fields<W>,
 }
 
 /// The timer for one thread: futures are polled with the timer lent to them, and the moment.
+///
+/// # Examples
+///
+/// ```
+/// let mut timer: LocalTimerService<u64> = LocalTimerService::new(rt.alloc());
+/// let mut deadline = timer.deadline(5).expect(&rt, "memory");
+/// let waits = deadline.poll_if_live(&mut timer, 4, 1);
+/// timer.check_expirations(5);
+/// let woken = timer.next_wake();
+/// let ends = deadline.poll_if_live(&mut timer, 5, 2);
+/// deadline.leave(&mut timer);
+/// assert_eq!(rt; (waits, woken), (Some(Poll::Pending), Some(1)));
+/// assert_eq!(rt; ends, Some(Poll::Ready(())));
+/// ```
 pub type LocalTimerService<W> = TimerState<W>;
 
 impl<W> Model for TimerState<W> {

@@ -23,6 +23,18 @@ pub use growing::GrowingHeapBuf;
 /// so only such a push can be refused. The capacity never changes, and what is reserved never falls.
 ///
 /// A caller learns of a buffer what `bounded` says of it: its items, oldest first, its capacity and what is reserved.
+///
+/// # Examples
+///
+/// ```
+/// fn refill<B: RingBuf>(buffer: &mut B, item: B::Item) -> Result<Option<B::Item>, NoRoom<B::Item>>
+/// // ..
+///     if buffer.is_empty() {
+///         buffer.push(item)?;
+///         return Ok(None);
+///     }
+///     let oldest = buffer.pop();
+/// ```
 pub trait RingBuf: Drop {
     /// What is buffered.
     type Item: Drop;

@@ -11,6 +11,16 @@ use std::{io, time};
 /// A source of the time for a timer.
 ///
 /// Keeps `Clock` of futures-intrusive.
+///
+/// # Examples
+///
+/// ```
+/// impl Clock for Shown<'_> {
+///     fn now(&self) -> u64 {
+///         self.time.load(Ordering::SeqCst)
+///     }
+/// }
+/// ```
 pub trait Clock {
     /// The time in milliseconds since a moment of the clock's own.
     fn now(&self) -> u64;
@@ -20,6 +30,16 @@ pub trait Clock {
 ///
 /// Keeps `MockClock` of futures-intrusive. Threads that share it by a reference or an `Arc` may set
 /// and read it at once.
+///
+/// # Examples
+///
+/// ```
+/// let clock = Arc::new(rt.alloc(), MockClock::new())?;
+/// let other = Arc::try_clone(&clock)?;
+/// assert_eq!(rt; read(&other), 0);                // `other.now()`
+/// clock.set_time(3);
+/// assert_eq!(rt; read(&other), 3);
+/// ```
 #[derive(Drop)]
 pub struct MockClock {
     now: AtomicU64,
@@ -54,6 +74,17 @@ impl Clock for Arc<MockClock> {
 /// A clock that counts from its making, by the runtime's monotonic clock.
 ///
 /// Keeps `StdClock` of futures-intrusive.
+///
+/// # Examples
+///
+/// ```
+/// let start = Instant::now(&rt).ok().expect(&rt, "a clock");
+/// let clock = StdClock::new(rt).ok().expect(&rt, "a clock");
+/// thread::sleep(&rt, Duration::from_millis(50));
+/// let shown = clock.now();
+/// let passed = start.elapsed(&rt).ok().expect(&rt, "a clock");
+/// assert!(rt; shown >= 50 && shown <= whole_millis(passed));
+/// ```
 #[derive(Drop)]
 pub struct StdClock<H> {
     rt: H,

@@ -17,6 +17,21 @@ use std::marker::Model;
 /// values may be in it at once. Only `claim` takes memory.
 ///
 /// Keeps `PairingHeap` of futures-intrusive, with slots in place of pinned nodes.
+///
+/// # Examples
+///
+/// ```
+/// let mut heap = PairingHeap::new(rt.alloc());
+/// let other = heap.claim(6).expect(&rt, "no memory");
+/// heap.insert(other);
+/// let slot = heap.claim(7).expect(&rt, "no memory");
+/// if let Some(value) = heap.get_mut(slot) {
+///     *value = 5;
+/// }
+/// // ..
+/// heap.insert(slot);
+/// assert_eq!(rt; heap.peek_min(), Some(slot));
+/// ```
 #[derive(Drop)]
 pub struct PairingHeap<T: Ord> {
     nodes: HeapNodes<T>,

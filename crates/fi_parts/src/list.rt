@@ -17,6 +17,16 @@ use std::marker::Model;
 /// A slot is claimed for a value, may then be put in front and taken out any number of times, and is freed with its
 /// value. Every call but `claim` takes constant time, and only `claim` takes memory. Keeps `LinkedList` of futures-intrusive's
 /// `intrusive_double_linked_list`, whose nodes are pinned by their owners.
+///
+/// # Examples
+///
+/// ```
+/// let (mut list, oldest, _) = three(rt.alloc()).expect(&rt, "room");  // 31, 7 and 5 were put in front, in this order
+/// assert!(rt; !list.is_empty());
+/// assert_eq!(rt; list.last_slot(), Some(oldest));
+/// assert_eq!(rt; list.peek_first().copied(), Some(5));
+/// assert_eq!(rt; list.peek_last().copied(), Some(31));
+/// ```
 #[derive(Drop)]
 pub struct LinkedList<T> {
     blocks: Blocks<T>,

@@ -24,6 +24,20 @@ use std::alloc::Global;
 /// Sends have their own slots; receives and streams share theirs, and each is polled by its own call. Making one may answer
 /// `Refused(NoMemory)`, of a send `Back(value, NoMemory)`. A poll or a cancel where none lives, or a poll of one that has ended,
 /// answers `Refused(NoSlot)`.
+///
+/// # Examples
+///
+/// ```
+/// let lines = [
+///     // ..
+///     (ChannelCall::Receive, Answer::Made(A)),
+///     (ChannelCall::PollNext(A, 1), Answer::Refused(Fault::NoSlot)),
+///     (ChannelCall::TrySend(4), Answer::Done),
+///     (ChannelCall::PollReceive(A, 1), Answer::Item(4)),
+///     // ..
+/// ];
+/// assert!(rt; holds_over_each::<1>(rt.alloc(), &lines)?);
+/// ```
 #[derive(Clone, Copy, Debug, PartialEq, Eq, Drop)]
 pub enum ChannelCall<T, W> {
     /// Makes a future that sends this value. Answers `Made`, `Back(value, NoMemory)`.

@@ -18,6 +18,17 @@ use std::sync::ledger::{Blank, Book, Ledger, Share};
 use std::sync::{Mutex, Wait};
 
 /// Why a desk could not be settled.
+///
+/// # Examples
+///
+/// ```
+/// let desk: Desk<EventState<u64>, R, L> = Desk::new(rt.alloc(), rt, blank, false, 2)?;
+/// let mut seats = Vec::new(rt.alloc());
+/// seats.push(desk.seat()?)?;
+/// let mut second = desk.seat()?;
+/// desk.call(&mut second, EventCall::Set)?;
+/// Ok(desk.settle(seats).err())                    // it lacks the second: `Some(Mismatch::Seats)`
+/// ```
 #[derive(Clone, Copy, Debug, PartialEq, Eq, Drop)]
 pub enum Mismatch {
     /// Fewer seats were given than were made, or their numbers are not those from 0 on.
@@ -38,6 +49,18 @@ impl fmt::Display for Mismatch {
 impl Error for Mismatch {}
 
 /// A seat at a desk: its number, and the receipts of its calls in the order of the calls.
+///
+/// # Examples
+///
+/// ```
+/// for _ in 0..3 {
+///     let next = match desk.call(&mut seat, SemaphoreCall::TryAcquire(1))?.answer() {
+///         Answer::Done => SemaphoreCall::GiveBack(1),
+///         _ => SemaphoreCall::Permits,
+///     };
+///     desk.call(&mut seat, next)?;
+/// }
+/// ```
 #[derive(Drop)]
 pub struct Seat<P: Primitive, L: Ledger> {
     number: u64,
@@ -342,6 +365,19 @@ where
 
 /// A journal among threads: each has a seat, makes its calls with it, and is given receipts. Each call is one entry of the journal,
 /// made in one hold of the lock.
+///
+/// # Examples
+///
+/// ```
+/// let desk: Desk<SemaphoreState<u64>, R, L> = Desk::new(rt.alloc(), rt, blank, (2, false), 3)?;
+/// let (mut a, mut b, mut c) = (desk.seat()?, desk.seat()?, desk.seat()?);
+/// let shared = &desk;
+/// let others = || thread::join(&rt, || tries(shared, &mut b), || tries(shared, &mut c));
+/// let (first, (second, third)) = thread::join(&rt, || tries(shared, &mut a), others);
+/// // ..
+/// let settled = desk.settle(seats)?;
+/// assert!(rt; settled.history.len() == calls);
+/// ```
 #[derive(Drop)]
 pub struct Desk<P: Primitive, R, L: Ledger> {
     rt: R,

@@ -17,6 +17,16 @@ use std::alloc::Global;
 ///
 /// Making a wait may answer `Refused(NoMemory)`. A poll or a cancel where none lives, or a poll of one that has ended, answers
 /// `Refused(NoSlot)`.
+///
+/// # Examples
+///
+/// ```
+/// let mut event: EventState<u64> = EventState::open(rt.alloc(), false)?;
+/// let calls = vec![in rt.alloc(); EventCall::Set, EventCall::IsSet]?;
+/// let mut answers = Vec::new(rt.alloc());
+/// run(&mut event, calls, &mut answers)?;
+/// assert!(rt; answers.as_slice() == [Answer::Done, Answer::Flag(true)].as_slice());
+/// ```
 #[derive(Clone, Copy, Debug, PartialEq, Eq, Drop)]
 pub enum EventCall<W> {
     /// Makes a wait. Answers `Made`.

@@ -14,6 +14,19 @@ use crate::timer::TimerCall;
 use fi_parts::{Fault, Slot, StateId};
 
 /// Plain values whose `==` tells any two of them apart, so that a history can be compared with receipts.
+///
+/// # Examples
+///
+/// ```
+/// fn records<P: Primitive + Drop>(
+/// // ..
+/// where
+///     P::Opening: ExactEq,
+///     P::Call: ExactEq,
+///     P::Answer: ExactEq,
+/// // ..
+///     let mut journal: Journal<P> = Journal::new(alloc, opening)?;
+/// ```
 pub trait ExactEq: Copy + Eq + Drop {
     /// Equal values are identical.
     ghost exact: { (x y : Self) → Self.eq x y ≡ true → x ≡ y };

@@ -9,6 +9,15 @@ use std::alloc::Global;
 use std::marker::Model;
 
 /// A call that was made, the seat that made it, and its answer.
+///
+/// # Examples
+///
+/// ```
+/// let is_entry = match settled.history.first() {
+///     Some(entry) => entry.seat == 3 && entry.call == call && entry.answer == answer,
+///     None => false,
+/// };
+/// ```
 #[derive(Clone, Copy, Debug, PartialEq, Eq, Drop)]
 pub struct Entry<C, A> {
     pub seat: u64,
@@ -17,6 +26,14 @@ pub struct Entry<C, A> {
 }
 
 /// What a caller is given of its call: the opening of the journal, how many entries were before, the call and its answer.
+///
+/// # Examples
+///
+/// ```
+/// let receipt = desk.call(&mut second, EventCall::IsSet)?;
+/// assert!(rt; receipt.answer() == Answer::Flag(true));
+/// assert!(rt; receipt.number() == 1);
+/// ```
 #[derive(Drop)]
 pub struct Receipt<P: Primitive> {
     opening: P::Opening,
@@ -105,6 +122,18 @@ where
 }
 
 /// A primitive with the history of its calls, which replays.
+///
+/// # Examples
+///
+/// ```
+/// let mut journal: Journal<P> = Journal::new(alloc, opening)?;
+/// let receipt = journal.record(3, call)?;
+/// let settled = journal.settle();
+/// let is_receipt = receipt.opening() == opening
+///     && receipt.number() == 0
+///     && receipt.call() == call
+///     && receipt.answer() == answer;
+/// ```
 #[derive(Drop)]
 pub struct Journal<P: Primitive> {
     opening: P::Opening,
@@ -124,6 +153,17 @@ impl<P: Primitive> Model for Journal<P> {
 }
 
 /// What a journal leaves: its opening, its history and the state.
+///
+/// # Examples
+///
+/// ```
+/// let mut fresh: SemaphoreState<u64> = SemaphoreState::open(rt.alloc(), settled.opening)?;
+/// for entry in &settled.history {
+///     if fresh.apply(entry.call) != entry.answer {
+///         return Ok(false);
+///     }
+/// }
+/// ```
 #[derive(Drop)]
 pub struct Settled<P: Primitive> {
     pub opening: P::Opening,

@@ -17,6 +17,21 @@ use std::alloc::Global;
 ///
 /// Making a future may answer `Refused(NoMemory)`. A poll or a cancel where none lives, or a poll of one that has ended, answers
 /// `Refused(NoSlot)`.
+///
+/// # Examples
+///
+/// ```
+/// let rows = [
+///     // ..
+///     (MutexCall::Lock, Answer::Made(A)),
+///     (MutexCall::Poll(A, 1), Answer::Item(7)),
+///     (MutexCall::Poll(A, 1), Answer::Refused(Fault::NoSlot)),
+///     (MutexCall::Cancel(A), Answer::Done),
+///     (MutexCall::Unlock(9), Answer::Done),
+///     (MutexCall::IsLocked, Answer::Flag(false)),
+/// ];
+/// assert!(rt; answers::<MutexState<u64, u64>>(rt.alloc(), (7, true), rows.as_slice())?);
+/// ```
 #[derive(Clone, Copy, Debug, PartialEq, Eq, Drop)]
 pub enum MutexCall<T, W> {
     /// Makes a future that locks the mutex. Answers `Made`.

@@ -24,6 +24,21 @@ use std::alloc::Global;
 ///
 /// Making a receive may answer `Refused(NoMemory)`. A poll or a cancel where none lives, or a poll of one that has ended, answers
 /// `Refused(NoSlot)`.
+///
+/// # Examples
+///
+/// ```
+/// let lines = [
+///     (OneshotCall::Receive, Answer::Made(Slot(0))),
+///     (OneshotCall::Poll(Slot(0), 1), Answer::Pending),
+///     (OneshotCall::Send(5), Answer::Done),
+///     (OneshotCall::Send(6), Answer::Back(6, Fault::Closed)),
+///     (OneshotCall::NextWake, Answer::Woken(Some(1))),
+///     (OneshotCall::Poll(Slot(0), 2), Answer::Item(5)),
+///     // ..
+/// ];
+/// assert!(rt; answers::<OneshotState<u32, u64>>(rt.alloc(), (), lines.as_slice())?);
+/// ```
 #[derive(Clone, Copy, Debug, PartialEq, Eq, Drop)]
 pub enum OneshotCall<T, W> {
     /// Makes a receive. Answers `Made`.

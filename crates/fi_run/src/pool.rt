@@ -13,6 +13,21 @@ use std::alloc::Global;
 ///
 /// Making a wait may answer `Refused(NoMemory)`. A poll or a cancel where none lives, or a poll of one that has ended, answers
 /// `Refused(NoSlot)`.
+///
+/// # Examples
+///
+/// ```
+/// let rows = [
+///     // ..
+///     (PoolCall::Submit(5), Answer::Done),
+///     (PoolCall::Submit(6), Answer::Back(6, Fault::Full)),
+///     (PoolCall::Start, Answer::Item(5)),
+///     (PoolCall::Submit(6), Answer::Done),
+///     (PoolCall::Start, Answer::Nothing),
+///     // ..
+/// ];
+/// assert!(rt; answers::<PoolState<u64>>(rt.alloc(), (1, 1), rows.as_slice())?);
+/// ```
 #[derive(Clone, Copy, Debug, PartialEq, Eq, Drop)]
 pub enum PoolCall<W> {
     /// Hands in a job. Answers `Done`; `Back` with the job and `Closed`, `Full` or `NoMemory` if it was not accepted.

@@ -36,6 +36,19 @@ struct Fields<W> {
 /// It names the wakers to be woken and wakes nobody itself: whoever calls it takes them out by `next_wake`. Each call but the makings
 /// of waits takes constant time, except that `submit` may have to take memory, and that the call which drains the pool takes time for
 /// each wait that it tells.
+///
+/// # Examples
+///
+/// ```
+/// match receipt.answer() {                        // of a `PoolCall::Start`
+///     Answer::Item(_) => {
+///         if desk.call(seat, PoolCall::Finish).is_err() {
+///             return false;
+///         }
+///     }
+///     answer => return answer == Answer::Refused(Fault::Closed),
+/// }
+/// ```
 #[derive(Drop)]
 pub struct PoolState<W> {
     fields: Fields<W>,

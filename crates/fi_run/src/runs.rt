@@ -13,6 +13,20 @@ use std::alloc::Global;
 /// answers since, and the state now (`history_invariant`); which wakers a state has to hand out (`outgoing`), and which call takes
 /// out the oldest (`take_waker`). Its laws: initial states satisfy the invariants, steps preserve them, and that call takes out the
 /// oldest waker and changes nothing else.
+///
+/// # Examples
+///
+/// ```
+/// let mut primitive = P::open(alloc, opening)?;
+/// let mut calls = Vec::new(alloc);
+/// let mut wanted = Vec::new(alloc);
+/// for (call, answer) in lines {
+///     calls.push(*call)?;
+///     wanted.push(*answer)?;
+/// }
+/// let mut out = Vec::new(alloc);
+/// run(&mut primitive, calls, &mut out)?;
+/// ```
 pub trait Primitive {
     /// What a machine is opened with, such as an event's flag.
     type Opening: Drop;
@@ -93,6 +107,14 @@ pub trait Primitive {
 ///
 /// Refused with `NoMemory` where there was no room for the next answer: then `out` has the answers so far, that call was
 /// not made, nor those after it, and they are dropped.
+///
+/// # Examples
+///
+/// ```
+/// let mut permits = Permits::open(alloc, record.opening)?;
+/// let mut answers = Vec::new(alloc);
+/// run(&mut permits, calls, &mut answers)?;
+/// ```
 pub fn run<P: Primitive>(
     primitive: &mut P,
     calls: Vec<P::Call>,

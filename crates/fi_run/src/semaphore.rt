@@ -18,6 +18,20 @@ use std::alloc::Global;
 ///
 /// Making a future may answer `Refused(NoMemory)`. A poll or a cancel where none lives, or a poll of one that has ended, answers
 /// `Refused(NoSlot)`.
+///
+/// # Examples
+///
+/// ```
+/// let rows = [
+///     // ..
+///     (SemaphoreCall::Acquire(1), Answer::Made(A)),
+///     (SemaphoreCall::Poll(A, 1), Answer::Ready),
+///     (SemaphoreCall::Poll(A, 1), Answer::Refused(Fault::NoSlot)),
+///     (SemaphoreCall::Cancel(A), Answer::Done),
+///     // ..
+/// ];
+/// assert!(rt; answers::<SemaphoreState<u64>>(rt.alloc(), (1, true), rows.as_slice())?);
+/// ```
 #[derive(Clone, Copy, Debug, PartialEq, Eq, Drop)]
 pub enum SemaphoreCall<W> {
     /// Makes a future that acquires this many permits. Answers `Made`.

@@ -18,6 +18,19 @@ use std::alloc::Global;
 ///
 /// Making a receive may answer `Refused(NoMemory)`. A poll or a cancel where none lives, or a poll of one that has ended, answers
 /// `Refused(NoSlot)`.
+///
+/// # Examples
+///
+/// ```
+/// let newest = Answer::State(StateId::from_value(2), 6);
+/// let lines = [
+///     (StateCall::Send(5), Answer::Done),
+///     (StateCall::Send(6), Answer::Done),
+///     (StateCall::TryReceive(StateId::new()), newest),
+///     // ..
+/// ];
+/// assert!(rt; answers::<StateBroadcastState<u32, u64>>(rt.alloc(), (), lines.as_slice())?);
+/// ```
 #[derive(Clone, Copy, Debug, PartialEq, Eq, Drop)]
 pub enum StateCall<T, W> {
     /// Makes a receive that has seen this state. Answers `Made`.

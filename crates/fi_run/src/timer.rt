@@ -18,6 +18,20 @@ use std::time::Duration;
 ///
 /// Making a future may answer `Refused(NoMemory)`. A poll or a cancel where none lives, or a poll of one that has ended, answers
 /// `Refused(NoSlot)`.
+///
+/// # Examples
+///
+/// ```
+/// let rows = [
+///     (
+///         TimerCall::Delay(5, Duration::from_micros(1_999)),
+///         Answer::Made(A),
+///     ),
+///     (TimerCall::Poll(A, 5, 1), Answer::Pending),
+///     (TimerCall::Next, Answer::Moment(Some(6))),
+/// ];
+/// assert!(rt; answers::<TimerState<u64>>(rt.alloc(), (), rows.as_slice())?);
+/// ```
 #[derive(Clone, Copy, Debug, PartialEq, Eq, Drop)]
 pub enum TimerCall<W> {
     /// Makes a future with this expiry. Answers `Made`.

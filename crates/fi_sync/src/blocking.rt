@@ -10,6 +10,15 @@ use std::random::RandomSource;
 use std::sync::Wait;
 
 /// A runtime by which a thread can block until a future is ready: it waits, gives the executor its random number, and takes memory.
+///
+/// # Examples
+///
+/// ```
+/// fn send_and_close<R: Blocking>(channel: &UnbufferedChannel<u64, R>) {
+///     let _ = channel.send_blocking(1);
+///     channel.close();
+/// }
+/// ```
 pub trait Blocking: Wait + RandomSource + AllocGlobal {}
 
 impl<R: Wait + RandomSource + AllocGlobal> Blocking for R {}

@@ -22,16 +22,45 @@ use std::sync::Wait;
 /// reference.
 ///
 /// Each call but the makings of the channel takes the lock. Keeps `GenericChannel` of futures-intrusive's `channel`.
+///
+/// # Examples
+///
+/// ```
+/// let growing: GenericChannel<u64, GrowingHeapBuf<u64>, HostRuntime> =
+///     GenericChannel::with_capacity(rt.alloc(), rt, 300).expect(&rt, "memory");
+/// assert!(rt; holds(&growing, 300));              // it takes 300 values, and no more
+/// ```
 #[derive(Drop)]
 pub struct GenericChannel<T: Drop, B: RingBuf<Item = T>, R> {
     monitor: Monitor<ChannelState<T, B, PollWaker>, R>,
 }
 
 /// A channel over an array of `N` values. Keeps `Channel` of futures-intrusive's `channel`.
+///
+/// # Examples
+///
+/// ```
+/// let channel = Channel::<u64, 1, HostRuntime>::new(rt.alloc(), rt);
+/// assert!(rt; channel.try_send(1).is_ok());
+/// let mut first = channel.send(2).ok().expect(&rt, "memory");
+/// let mut second = channel.send(3).ok().expect(&rt, "memory");
+/// assert!(rt; task.poll(&mut first).is_pending() && task.poll(&mut second).is_pending());
+/// assert!(rt; first.cancel() == Some(2) && first.is_terminated());
+/// assert!(rt; channel.try_receive() == Ok(1));
+/// assert!(rt; second.cancel().is_none() && channel.try_receive() == Ok(3));
+/// ```
 pub type Channel<T, const N: usize, R> = GenericChannel<T, ArrayBuf<T, N>, R>;
 
 /// A channel without a buffer: each value is handed from a send that waits to a receive. Keeps `UnbufferedChannel` of
 /// futures-intrusive's `channel`.
+///
+/// # Examples
+///
+/// ```
+/// let channel = UnbufferedChannel::new(rt.alloc(), rt);
+/// assert!(rt; receives_all(&rt, &channel));       // a one, which another thread sends before it closes the channel
+/// assert!(rt; channel.send_blocking(2) == Err(TrySendError::Closed(2)));
+/// ```
 pub type UnbufferedChannel<T, R> = Channel<T, 0, R>;
 
 impl<T: Drop, B: RingBuf<Item = T>, R> Model for GenericChannel<T, B, R> {

@@ -17,6 +17,20 @@ use std::sync::Wait;
 /// An event that stays set until it is reset. Waits for it end once it is set. Threads share it by reference.
 ///
 /// Each call but `new` takes the lock. Keeps `ManualResetEvent` of futures-intrusive's `sync`.
+///
+/// # Examples
+///
+/// ```
+/// let event = ManualResetEvent::new(rt.alloc(), rt, true);
+/// let mut waiting = event.wait().expect(&rt, "memory");
+/// let mut ended = event.wait().expect(&rt, "memory");
+/// assert!(rt; other.poll(&mut ended) == Poll::Ready(Ok(())));
+/// event.reset();
+/// assert!(rt; own.poll(&mut waiting).is_pending());
+/// assert!(rt; other.poll(&mut ended).is_pending() && !own.is_woken());
+/// event.set();
+/// assert!(rt; own.is_woken() && own.poll(&mut waiting) == Poll::Ready(Ok(())));
+/// ```
 #[derive(Drop)]
 pub struct ManualResetEvent<R> {
     pub(crate) monitor: Monitor<EventState<PollWaker>, R>,

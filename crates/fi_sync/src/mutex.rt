@@ -27,6 +27,20 @@ use std::sync::ledger::{Blank, Ledger};
 ///
 /// A fair mutex is granted in the order of the futures' first polls. An unfair one is granted to whoever comes while it is free.
 /// Each call but `new`, `into_inner` and `get_mut` takes the lock. Keeps `GenericMutex` of futures-intrusive's `sync`.
+///
+/// # Examples
+///
+/// ```
+/// for _ in 0..ROUNDS {
+///     if let Ok(mut guard) = mutex.lock_blocking() {
+///         *guard = guard.saturating_add(1);
+///     }
+/// }
+/// // ..
+/// let mutex = Mutex::<u64, R, L>::new(rt.alloc(), rt, blank, 0, is_fair);
+/// add_all(&rt, &mutex);                           // the loop, in four threads
+/// assert!(rt; *mutex.try_lock().expect(&rt, "free") == 4 * ROUNDS);
+/// ```
 #[derive(Drop)]
 pub struct Mutex<T, R, L: Ledger> {
     monitor: Monitor<CountedMutex<T, L>, R>,

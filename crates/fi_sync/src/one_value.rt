@@ -24,10 +24,38 @@ pub struct OneValueChannel<T: Drop, G: GivesValue<T>, R> {
 
 /// A channel that takes one value and hands it to the first receive that comes for it. Keeps `OneshotChannel` of
 /// futures-intrusive's `channel`.
+///
+/// # Examples
+///
+/// ```
+/// let channel = sends(OneshotChannel::<u64, R>::new(rt.alloc(), rt));
+/// let channel = shares(&channel);
+/// assert!(rt; !channel.is_closed());
+/// let receive = sends(channel.receive().expect(&rt, "memory"));
+/// let rt = &rt;
+/// let (received, is_sent) = thread::join(
+///     rt,
+///     move || block_on(rt, receive).ok(),
+///     move || channel.send(7).is_ok(),
+/// );
+/// assert!(*rt; is_sent && received == Some(Ok(Some(7))) && channel.is_closed());
+/// ```
 pub type OneshotChannel<T, R> = OneValueChannel<T, TakesValue, R>;
 
 /// A channel that takes one value, and gives a clone of it to every receive. Keeps `OneshotBroadcastChannel` of
 /// futures-intrusive's `channel`. The clone is made under the lock.
+///
+/// # Examples
+///
+/// ```
+/// let channel = OneshotBroadcastChannel::<u64, HostRuntime>::new(rt.alloc(), rt);
+/// let mut unpolled = channel.receive().expect(&rt, "memory");
+/// let mut ended = channel.receive().expect(&rt, "memory");
+/// assert!(rt; channel.send(5) == Ok(()));
+/// assert!(rt; task.poll(&mut ended) == Poll::Ready(Ok(Some(5))));
+/// assert!(rt; task.poll(&mut ended).is_pending());
+/// assert!(rt; task.poll(&mut unpolled) == Poll::Ready(Ok(Some(5))));
+/// ```
 pub type OneshotBroadcastChannel<T, R> = OneValueChannel<T, ClonesValue, R>;
 
 impl<T: Drop, G: GivesValue<T>, R> Model for OneValueChannel<T, G, R> {

@@ -20,6 +20,21 @@ use std::sync::ledger::{Blank, Ledger};
 /// A fair semaphore tells its futures in the order of their first polls; of those told together, the one polled first is granted
 /// first. An unfair one lets a caller that finds permits free pass those that wait. Each call but `new` takes the lock. Keeps
 /// `GenericSemaphore` of futures-intrusive's `sync`.
+///
+/// # Examples
+///
+/// ```
+/// for _ in 0..ROUNDS {
+///     if semaphore.acquire_blocking(2).is_ok() {
+///         granted.fetch_add(1, Ordering::SeqCst);
+///     }
+/// }
+/// // ..
+/// let semaphore = Semaphore::<R, L>::new(rt.alloc(), rt, blank, true, 3);
+/// let granted = AtomicU64::new(0);
+/// take_all(&rt, &semaphore, &granted);            // the loop, in four threads
+/// assert!(rt; granted.load(Ordering::SeqCst) == 4 * ROUNDS && semaphore.permits() == 3);
+/// ```
 #[derive(Drop)]
 pub struct Semaphore<R, L: Ledger> {
     monitor: Monitor<CountedSemaphore<L>, R>,

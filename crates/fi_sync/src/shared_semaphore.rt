@@ -19,6 +19,19 @@ use std::sync::{Arc, Wait};
 /// A semaphore whose futures and releasers own a share of it, so that they borrow nothing.
 ///
 /// Its calls are those of `Semaphore`. Keeps `GenericSharedSemaphore` of futures-intrusive's `sync`.
+///
+/// # Examples
+///
+/// ```
+/// let mut acquire = semaphore.acquire(1).expect(rt, "memory");
+/// drop(semaphore);
+/// let is_pending = task.poll(&mut acquire).is_pending();
+/// drop(both);                                     // a releaser of all permits
+/// let is_woken = task.is_woken();
+/// let Poll::Ready(Ok(releaser)) = task.poll(&mut acquire) else {
+///     panic!(*rt; "ready");
+/// };
+/// ```
 #[derive(Drop)]
 pub struct SharedSemaphore<R: Wait + Drop, L: Ledger> {
     monitor: Arc<Monitor<CountedSemaphore<L>, R>, Global>,

@@ -17,6 +17,19 @@ use std::sync::Wait;
 /// A channel that broadcasts its newest state. Threads share it by reference.
 ///
 /// Each call but `new` takes the lock; a clone is made under it. Keeps `StateBroadcastChannel` of futures-intrusive's `channel`.
+///
+/// # Examples
+///
+/// ```
+/// let (mut seen, mut last) = (StateId::new(), 0);
+/// for _ in 0..ROUNDS + 1 {
+///     match states.receive_blocking(seen) {
+///         Ok(Some((id, value))) if id > seen && value > last => (seen, last) = (id, value),
+///         Ok(None) => return last == ROUNDS,
+///         _ => return false,
+///     }
+/// }
+/// ```
 #[derive(Drop)]
 pub struct StateBroadcastChannel<T: Clone, R> {
     monitor: Monitor<StateBroadcastState<T, PollWaker>, R>,

@@ -25,6 +25,18 @@ const LONGEST_SLEEP: u64 = 10;
 /// Only a check tells futures, so some thread has to `run` the timer, or to call `check_expirations` as time
 /// passes. Each call but `new` takes the lock, and wakes those who were told and not woken yet. Keeps
 /// `GenericTimerService` of futures-intrusive's `timer`.
+///
+/// # Examples
+///
+/// ```
+/// let clock = Arc::new(rt.alloc(), MockClock::new())?;
+/// let timer = TimerService::new(rt.alloc(), rt, Arc::try_clone(&clock)?);
+/// let mut wait = timer.deadline(5)?;
+/// assert!(rt; task.poll(&mut wait).is_pending());
+/// clock.set_time(5);
+/// timer.check_expirations();
+/// assert!(rt; task.is_woken() && task.poll(&mut wait) == Poll::Ready(Ok(())));
+/// ```
 #[derive(Drop)]
 pub struct TimerService<C, R> {
     monitor: Monitor<Timed<C>, R>,

@@ -5,7 +5,7 @@
 //! does the same for any future, and `TimerService::wait_at_most` for at most so long.
 //!
 //! ```
-//! let (sender, receiver) = channel::<u64, HostRuntime>(rt.alloc(), rt, 1)?;
+//! let (sender, receiver) = channel::<u64, HostRuntime>(rt.alloc(), rt, 1).expect(&rt, "memory");
 //! assert!(rt; sender.send_blocking(7) == Ok(()));
 //! assert!(rt; receiver.receive_blocking() == Ok(Some(7)));
 //! drop(sender);

@@ -21,16 +21,55 @@ pub type OneValueSender<T, G, R> = End<OneValueState<T, PollWaker, G>, R, Sender
 pub type OneValueReceiver<T, G, R> = End<OneValueState<T, PollWaker, G>, R, Receivers>;
 
 /// Keeps `OneshotSender` of futures-intrusive's `channel::shared`.
+///
+/// # Examples
+///
+/// ```
+/// let ends = oneshot_channel::<u64, HostRuntime>(rt.alloc(), rt);
+/// let (sender, receiver) = ends.expect(&rt, "memory");
+/// assert!(rt; !sender.is_closed() && !receiver.is_closed());
+/// assert!(rt; sender.send(5).is_ok() && sender.is_closed() && receiver.is_closed());
+/// ```
 pub type OneshotSender<T, R> = OneValueSender<T, TakesValue, R>;
 
 /// Keeps `OneshotReceiver`.
+///
+/// # Examples
+///
+/// ```
+/// let mut receive = receiver.receive().expect(&rt, "memory");
+/// assert!(rt; task.poll(&mut receive).is_pending() && !task.is_woken());
+/// drop(sender);
+/// assert!(rt; task.is_woken());
+/// assert!(rt; task.poll(&mut receive) == Poll::Ready(Ok(None)) && !task.is_woken());
+/// ```
 pub type OneshotReceiver<T, R> = OneValueReceiver<T, TakesValue, R>;
 
 /// Keeps `OneshotBroadcastSender`.
+///
+/// # Examples
+///
+/// ```
+/// let (sender, receiver) = ends.expect(&rt, "memory");
+/// drop(receiver.clone().expect(&rt, "memory"));
+/// drop(receiver);
+/// assert!(rt; sender.send(5) == Err(ChannelSendError(5)));
+/// ```
 pub type OneshotBroadcastSender<T, R> = OneValueSender<T, ClonesValue, R>;
 
 /// Keeps `OneshotBroadcastReceiver`, which can be cloned. The channel closes where the last of them is dropped; in
 /// futures-intrusive where any is.
+///
+/// # Examples
+///
+/// ```
+/// let ends = oneshot_broadcast_channel::<u64, HostRuntime>(rt.alloc(), rt);
+/// let (sender, receiver) = ends.expect(&rt, "memory");
+/// drop(receiver.clone().expect(&rt, "memory"));
+/// assert!(rt; sender.send(5) == Ok(()));
+/// let mut receive = receiver.receive().expect(&rt, "memory");
+/// assert!(rt; task.poll(&mut receive) == Poll::Ready(Ok(Some(5))));
+/// ```
 pub type OneshotBroadcastReceiver<T, R> = OneValueReceiver<T, ClonesValue, R>;
 
 /// The ends of a channel whose value goes to one receive. Refused only with `NoMemory`. Keeps `oneshot_channel`.

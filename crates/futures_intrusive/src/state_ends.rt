@@ -15,9 +15,35 @@ use std::alloc::Global;
 use std::sync::Wait;
 
 /// The sending end of a state broadcast. Keeps `StateSender` of futures-intrusive's `channel::shared`.
+///
+/// # Examples
+///
+/// ```
+/// fn change<R: Runtime>(settings: StateSender<Settings, R>) {
+///     for connections in 1..11 {
+///         let _ = settings.send(Settings {
+///             port: 8080,
+///             connections,
+///         });
+///     }
+/// }
+/// ```
 pub type StateSender<T, R> = End<StateBroadcastState<T, PollWaker>, R, Senders>;
 
 /// The receiving end of a state broadcast. Keeps `StateReceiver`.
+///
+/// # Examples
+///
+/// ```
+/// let (mut seen, mut newest) = (StateId::new(), None);
+/// for _ in rt.forever() {
+///     let Some((id, settings)) = settings.receive_blocking(seen)? else {
+///         break;
+///     };
+///     seen = id;
+///     newest = Some(settings);
+/// }
+/// ```
 pub type StateReceiver<T, R> = End<StateBroadcastState<T, PollWaker>, R, Receivers>;
 
 /// Receives a state; it owns a share of its channel. Keeps `shared::StateReceiveFuture`.

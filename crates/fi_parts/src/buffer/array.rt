@@ -13,6 +13,15 @@ use std::marker::Model;
 /// A buffer of at most `N` items, with its room in a `Vec` of `N` slots. It takes that memory once: in `with_capacity`, or at the first `push` after `new`.
 ///
 /// Keeps `ArrayBuf` of futures-intrusive, whose room is an array. The capacity is always `N`: `with_capacity` ignores its number.
+///
+/// # Examples
+///
+/// ```
+/// let mut buffer = ArrayBuf::<u32, 3>::new(rt.alloc());
+/// assert_eq!(rt; (buffer.capacity(), buffer.reserved()), (3, 0));
+/// put(&rt, &mut buffer, 1);                       // pushes 1
+/// assert_eq!(rt; buffer.reserved(), 3);
+/// ```
 #[derive(Drop)]
 pub struct ArrayBuf<T, const N: usize> {
     ring: Ring<T>,

@@ -13,6 +13,14 @@ use std::marker::Model;
 /// A buffer on the heap, whose memory is taken when it is made: what it reserves is its capacity, and so no `push` is refused.
 ///
 /// Keeps `FixedHeapBuf` of futures-intrusive. The capacity is 0 by `new`, and `capacity` by `with_capacity(alloc, capacity)`.
+///
+/// # Examples
+///
+/// ```
+/// let mut buffer = FixedHeapBuf::<u64>::with_capacity(rt.alloc(), 1)?;
+/// assert!(rt; buffer.push(7).is_ok() && !buffer.can_push());
+/// assert!(rt; buffer.pop() == 7 && buffer.is_empty());
+/// ```
 #[derive(Drop)]
 pub struct FixedHeapBuf<T> {
     block: Block<T>,

@@ -15,6 +15,18 @@ const LEAST: usize = 4;
 /// A buffer on the heap that takes memory as its items need it: at first none, and then twice as much at each growth, up to its capacity.
 ///
 /// Keeps `GrowingHeapBuf` of futures-intrusive. The capacity is 0 by `new`, and `capacity` by `with_capacity(alloc, capacity)`, which takes no memory.
+///
+/// # Examples
+///
+/// ```
+/// let mut buffer = GrowingHeapBuf::with_capacity(rt.alloc(), 10).expect(&rt, "memory");
+/// assert_eq!(rt; (buffer.capacity(), buffer.reserved()), (10, 0));
+/// // ..
+/// for item in [2, 3, 4, 5, 6, 7, 8, 9, 10] {
+///     assert_eq!(rt; take(&mut buffer), Some(item));
+/// }
+/// assert_eq!(rt; (buffer.reserved(), buffer.is_empty()), (10, true));
+/// ```
 #[derive(Drop)]
 pub struct GrowingHeapBuf<T> {
     block: Block<T>,

@@ -6,8 +6,8 @@
 //! channels of `channel` where all users can borrow one value.
 //!
 //! ```
-//! let (sender, receiver) = channel::<u64, HostRuntime>(rt.alloc(), rt, 2)?;
-//! let other = sender.clone()?;
+//! let (sender, receiver) = channel::<u64, HostRuntime>(rt.alloc(), rt, 2).expect(&rt, "memory");
+//! let other = sender.clone().expect(&rt, "memory");
 //! drop(other);                                                     // one sender is left
 //! assert!(rt; sender.try_send(1).is_ok());
 //! drop(sender);                                                    // the last one: the channel closes
