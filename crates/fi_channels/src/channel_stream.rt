@@ -12,8 +12,8 @@ use futures::task::Poll;
 /// What a stream waits for: the next value, and the one after it.
 pub struct ChannelStreaming;
 
-/// Receives the values of a local channel, one after another. It is spent by `cancel`, with its channel; it cannot just be
-/// let go.
+/// Receives the values of a local channel, one after another. It is spent by `cancel`, with its channel; it cannot be
+/// dropped.
 ///
 /// Keeps `ChannelStream` of futures-intrusive's `channel`.
 pub type LocalChannelStream = LocalFutureOf<ChannelStreaming>;

@@ -4,8 +4,8 @@ ghost use Rattle.std.specs.Prelude.{◌≡◌, false};
 use fi_parts::Slot;
 use std::marker::{Model, PhantomData};
 
-/// A future of a local primitive, which is lent to it to be polled. It is spent by `cancel`, with its primitive; it cannot just be
-/// let go. `K` says what it waits for.
+/// A future of a local primitive, which is lent to it to be polled. It is spent by `cancel`, with its primitive; it cannot be
+/// dropped. `K` says what it waits for.
 pub struct LocalFutureOf<K> {
     pub(crate) slot: Slot,
     pub(crate) is_ended: bool,

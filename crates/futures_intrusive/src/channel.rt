@@ -1,6 +1,6 @@
 //! Channels. Keeps futures-intrusive's `channel`.
 //!
-//! Take a `Channel` (its places in the value itself), a `GenericChannel` over a buffer of the heap or an `UnbufferedChannel` where
+//! Take a `Channel` (as many places as its type says), a `GenericChannel` (as many as it is made with) or an `UnbufferedChannel` where
 //! each value goes to one receive, in the order sent; a `OneshotChannel` for one value that goes to one receive, a
 //! `OneshotBroadcastChannel` for one that goes to all, and a `StateBroadcastChannel` where only the newest of many matters. All are
 //! shared by reference; `shared` has the same channels with ends that are owned and counted.
