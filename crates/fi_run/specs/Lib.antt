@@ -1,4 +1,5 @@
 pub mod Run
+pub mod Script
 pub mod WakerEffects
 pub mod FirstPolls
 pub mod Outgoing

@@ -6,6 +6,7 @@
 //! - `PoolState` is a worker pool, made of a channel, a semaphore and an event.
 //! - `Journal` keeps the history of one primitive, as `Entry`s, and gives a `Receipt` for each call. `Desk` shares a journal among
 //!   callers, each of whom has a `Seat`; `Settled` is a history that has exactly the receipts of all seats.
+//! - `Settled::write_script` writes a history as a script of the program `schedule`; `ScriptLines` are the lines of each primitive.
 #![tactic(auto)]
 
 mod answer;
@@ -19,6 +20,7 @@ mod oneshot;
 mod pool;
 mod pool_state;
 mod runs;
+mod script;
 mod semaphore;
 mod state;
 #[cfg(test)]
@@ -38,6 +40,7 @@ pub use oneshot::{OneshotCall, every_run_of_a_oneshot, every_run_of_a_oneshot_br
 pub use pool::{PoolCall, every_run_of_a_pool};
 pub use pool_state::PoolState;
 pub use runs::{Primitive, every_run, run};
+pub use script::{ScriptError, ScriptLines};
 pub use semaphore::{SemaphoreCall, every_run_of_a_semaphore};
 pub use state::{StateCall, every_run_of_a_state_broadcast};
 pub use timer::{TimerCall, every_run_of_a_timer};

@@ -17,6 +17,7 @@ mod journals;
 mod locks;
 mod parts;
 mod pools;
+mod scripts;
 mod texts;
 
 // Whether a primitive of this opening answers the calls of these lines so.

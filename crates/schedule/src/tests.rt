@@ -13,6 +13,7 @@ mod channels;
 mod edges;
 mod event;
 mod faults;
+mod histories;
 mod hoard;
 mod mutex;
 mod pool;

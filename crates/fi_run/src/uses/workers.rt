@@ -7,7 +7,7 @@ use crate::event::EventCall;
 use crate::journal::{Entry, Settled};
 use fi_channels::EventState;
 use fi_parts::Slot;
-use std::alloc::{AllocError, AllocGlobal, Global};
+use std::alloc::AllocGlobal;
 use std::marker::Brand;
 use std::sync::Wait;
 use std::sync::ledger::{Blank, Ledger};
@@ -55,39 +55,6 @@ fn leave<R: Wait, L: Ledger>(
     Ok(())
 }
 
-/// Writes an entry's call as a line of a script; a taken waker has none, since the line before it takes all of them.
-fn write_line(script: &mut String, entry: &EventEntry, is_held: bool) -> Result<(), AllocError> {
-    if matches!(entry.call, EventCall::NextWake) {
-        return Ok(());
-    }
-    if is_held {
-        script.push_str("hold ")?;
-    }
-    match (entry.call, entry.answer) {
-        (EventCall::Wait, Answer::Made(Slot(wait))) => writeln!(script, "wait w{wait}"),
-        (EventCall::Poll(Slot(wait), waker), _) => writeln!(script, "poll w{wait} {waker}"),
-        (EventCall::Cancel(Slot(wait)), _) => writeln!(script, "cancel w{wait}"),
-        (EventCall::Set, _) => writeln!(script, "set"),
-        (EventCall::Reset, _) => writeln!(script, "reset"),
-        (EventCall::IsSet, _) => writeln!(script, "is-set"),
-        (_, _) => Ok(()),
-    }
-}
-
-/// Writes the history of an event that was reset as a script. A call is held where no waker was taken after it.
-fn script_of(alloc: Global, history: &[EventEntry]) -> Result<String, AllocError> {
-    let mut script = String::new(alloc);
-    script.push_str("event reset\n")?;
-    for place in 0..history.len() {
-        let is_taken = match history[place..].get(1) {
-            Some(next) => matches!(next.call, EventCall::NextWake),
-            None => false,
-        };
-        write_line(&mut script, &history[place], !is_taken)?;
-    }
-    Ok(script)
-}
-
 /// Two workers wait, a third seat gives the signal, and they leave.
 fn work<R: Wait + Copy + AllocGlobal, L: Ledger>(
     rt: R,
@@ -128,7 +95,8 @@ fn is_answered(history: &[EventEntry], answers: &[Answer<u64, u64>]) -> bool {
 #[test]
 fn a_history_is_a_script(rt: HostRuntime) -> Result<(), Fail> {
     let settled = work::<HostRuntime, Brand>(rt, Blank::new(3))?;
-    let script = script_of(rt.alloc(), settled.history.as_slice())?;
+    let mut script = String::new(rt.alloc());
+    settled.write_script(&mut script)?;
     let wanted = "event reset\nhold wait w0\nhold poll w0 1\nhold wait w1\nhold poll w1 2\nset\n\
                   hold poll w1 2\nhold cancel w1\nhold poll w0 1\nhold cancel w0\n";
     assert_eq!(rt; script.as_str(), wanted);
