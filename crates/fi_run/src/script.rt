@@ -23,6 +23,15 @@ mod timer;
 const MOST_PLACES: usize = 65536;
 
 /// Why a history could not be written as a script.
+///
+/// # Examples
+///
+/// ```
+/// let refused = journal.settle().write_script(&mut script).err();
+/// if script.as_str() != "before" {
+///     return Err("something was written".into());
+/// }
+/// ```
 #[derive(Clone, Copy, Debug, PartialEq, Eq, Drop)]
 pub enum ScriptError {
     /// There was no memory for the text.
@@ -62,6 +71,15 @@ impl From<AllocError> for ScriptError {
 /// A primitive whose calls have lines in scripts: docs/SCRIPTS.md.
 ///
 /// A future's label is a letter and its slot.
+///
+/// # Examples
+///
+/// ```
+/// let mut script = String::new(alloc);
+/// journal.settle().write_script(&mut script)?;
+/// let wanted = script_of(alloc, row)?;
+/// assert_eq!(rt; script.as_str(), wanted.as_str());
+/// ```
 pub trait ScriptLines: Primitive<Answer = Answer<u64, u64>, Waker = u64> {
     /// Writes the first line but for its end: the primitive's name, and the words of the opening. Refused with `Opening` if no
     /// script names the opening, and with `NoMemory`.
