@@ -63,7 +63,7 @@ impl Seen {
         Seen { answer: None, own }
     }
 
-    fn is_answer(&self, answer: Answer<u64, u64>) -> bool {
+    pub(super) fn is_answer(&self, answer: Answer<u64, u64>) -> bool {
         match self.answer {
             Some(seen) => seen == answer,
             None => true,

@@ -14,14 +14,14 @@ use std::process::Abort;
 use std::random::RandomSource;
 use std::sync::Wait;
 
-mod channel;
-mod event;
-mod mutex;
-mod one_value;
-mod semaphore;
-mod state;
-mod streams;
-mod timer;
+pub(in crate::tests) mod channel;
+pub(in crate::tests) mod event;
+pub(in crate::tests) mod mutex;
+pub(in crate::tests) mod one_value;
+pub(in crate::tests) mod semaphore;
+pub(in crate::tests) mod state;
+pub(in crate::tests) mod streams;
+pub(in crate::tests) mod timer;
 
 /// The first future that a row makes. Of a channel, the first on its side.
 const A: Slot = Slot(0);
@@ -36,7 +36,7 @@ const E: Slot = Slot(4);
 
 /// A call of a row, its answer, and the wakers of those whom it wakes, in their order. A drop has
 /// no answer, whatever stands here.
-type Entry<C> = (C, Answer<u64, u64>, &'static [u64]);
+pub(in crate::tests) type Entry<C> = (C, Answer<u64, u64>, &'static [u64]);
 
 /// Plays a row.
 #[derive(Drop)]

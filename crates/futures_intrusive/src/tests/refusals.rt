@@ -10,6 +10,8 @@ mod journals;
 mod local;
 mod locks;
 mod making;
+mod played;
+mod polls;
 mod scene;
 mod shared;
 mod values;

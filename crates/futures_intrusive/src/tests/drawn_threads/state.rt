@@ -22,7 +22,7 @@ const CHOICES: [StateCall<u64, u64>; 10] = [
 ];
 
 // Receives that have seen these states.
-fn makings() -> [StateCall<u64, u64>; 4] {
+pub(super) fn makings() -> [StateCall<u64, u64>; 4] {
     [
         StateCall::Receive(StateId::from_value(0)),
         StateCall::Receive(StateId::from_value(1)),

@@ -9,10 +9,16 @@ use std::alloc::AllocGlobal;
 use std::process::Abort;
 use std::random::RandomSource;
 use std::sync::{Barrier, Wait};
+use std::thread;
+use std::thread::Threads;
 
+mod channel;
 mod event;
 mod mutex;
+mod one_value;
 mod semaphore;
+mod state;
+mod timer;
 
 /// So many lists are tried that are not left out.
 const LISTS: u64 = 200;
@@ -175,4 +181,54 @@ where
         }
     }
     panic!(*rt; "all lists are left out");
+}
+
+/// What two threads share.
+trait TakesTurns<R> {
+    type Call: Copy;
+
+    /// Makes those calls of the list that are this thread's, on futures of its own, and answers what `plays` does.
+    fn take_turns(&self, rt: &R, barrier: &Barrier, is_first: bool, list: List<Self::Call>) -> bool;
+}
+
+// Plays a list on what two threads share.
+fn play_at<R, T>(rt: &R, shared: &T, list: List<T::Call>) -> bool
+where
+    R: Wait + Threads + Send + Sync,
+    T: TakesTurns<R> + Send + Sync,
+    T::Call: Send + Sync,
+{
+    let barrier = &Barrier::new(2);
+    let (first, second) = thread::join(
+        rt,
+        move || shared.take_turns(rt, barrier, true, list),
+        move || shared.take_turns(rt, barrier, false, list),
+    );
+    first && second
+}
+
+/// What is shared, if nothing but a runtime is needed to open it.
+trait Opens<R>: TakesTurns<R> + Drop {
+    fn open(rt: &R) -> Self;
+}
+
+// Two hundred lists, each on what is opened anew.
+fn try_turns<R, P, T>(rt: &R, opening: P::Opening, choices: Choices<P::Call>)
+where
+    R: Wait + Threads + Abort + AllocGlobal + Send + Sync,
+    P: Primitive<Answer = Answer<u64, u64>> + Drop,
+    P::Opening: Copy,
+    P::Call: Holds + Send + Sync,
+    T: Opens<R, Call = P::Call> + Send + Sync,
+{
+    let mut draws = Draws(1);
+    for number in 0..LISTS {
+        let turns = next_turns::<R, P>(rt, opening, choices, &mut draws);
+        let list = List {
+            makings: choices.makings,
+            turns: turns.as_slice(),
+        };
+        let shared = T::open(rt);
+        assert!(*rt; play_at(rt, &shared, list), "list {number}");
+    }
 }

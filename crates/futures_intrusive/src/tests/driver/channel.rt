@@ -21,11 +21,22 @@ type Receiving<'a, B, R> = ChannelReceiveFuture<'a, ChannelState<u64, B, PollWak
 
 /// A channel with its sends, and with its receives or its streams: no list has both.
 #[derive(Drop)]
-struct OpenedChannel<'a, C, S: Drop, F: Drop, T: Drop> {
+pub(in crate::tests) struct OpenedChannel<'a, C, S: Drop, F: Drop, T: Drop> {
     channel: &'a C,
     sends: Futures<S>,
     receives: Futures<F>,
     streams: Futures<T>,
+}
+
+impl<'a, C, S: Drop, F: Drop, T: Drop> OpenedChannel<'a, C, S, F, T> {
+    pub(in crate::tests) fn new<R: Abort + AllocGlobal>(rt: &R, channel: &'a C) -> Self {
+        OpenedChannel {
+            channel,
+            sends: Futures::new(rt),
+            receives: Futures::new(rt),
+            streams: Futures::new(rt),
+        }
+    }
 }
 
 impl<'a, R: Wait + Abort, B: RingBuf<Item = u64>> Opened<R, ChannelCall<u64, u64>>
@@ -38,18 +49,9 @@ impl<'a, R: Wait + Abort, B: RingBuf<Item = u64>> Opened<R, ChannelCall<u64, u64
     > {
     fn apply(&mut self, rt: &R, tasks: &mut Tasks, call: ChannelCall<u64, u64>) -> Seen {
         match call {
-            ChannelCall::Send(value) => {
-                let send = self.channel.send(value).ok().expect(rt, "memory");
-                self.sends.keep(rt, send)
-            }
-            ChannelCall::Receive => {
-                let receive = self.channel.receive().expect(rt, "memory");
-                self.receives.keep(rt, receive)
-            }
-            ChannelCall::Stream => {
-                let stream = self.channel.stream().expect(rt, "memory");
-                self.streams.keep(rt, stream)
-            }
+            ChannelCall::Send(value) => self.sends.keep_send(rt, self.channel.send(value)),
+            ChannelCall::Receive => self.receives.keep(rt, self.channel.receive()),
+            ChannelCall::Stream => self.streams.keep(rt, self.channel.stream()),
             ChannelCall::PollSend(Slot(number), waker) => {
                 let polled = self.sends.poll(rt, tasks, number, waker);
                 self.sends.seen(rt, number, of_send(polled))
@@ -107,12 +109,6 @@ impl<R: Wait + Abort + Copy + Drop + AllocGlobal, B: RingBuf<Item = u64>> Flavou
     ) -> Played {
         let channel = GenericChannel::<u64, B, R>::with_capacity(rt.alloc(), *rt, self.capacity);
         let channel = &channel.expect(rt, "memory");
-        let mut opened = OpenedChannel {
-            channel,
-            sends: Futures::new(rt.alloc()),
-            receives: Futures::new(rt.alloc()),
-            streams: Futures::new(rt.alloc()),
-        };
-        list.play(rt, tasks, &mut opened)
+        list.play(rt, tasks, &mut OpenedChannel::new(rt, channel))
     }
 }

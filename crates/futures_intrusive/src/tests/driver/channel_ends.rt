@@ -5,7 +5,6 @@ use super::answers::{of_close, of_next, of_receive, of_send, of_try_receive, of_
 use super::owned::Futures;
 use super::tasks::Tasks;
 use super::{Flavour, Opened, Play, Played, Seen};
-use crate::Slot;
 use crate::buffer::GrowingHeapBuf;
 use crate::channel::CloseStatus;
 use crate::channel::shared::{
@@ -13,6 +12,7 @@ use crate::channel::shared::{
     channel,
 };
 use crate::run::{Answer, ChannelCall};
+use crate::{Fault, Slot};
 use std::alloc::AllocGlobal;
 use std::process::Abort;
 use std::sync::Wait;
@@ -45,19 +45,25 @@ trait SendingSide<R> {
     fn close(&self) -> CloseStatus;
 }
 
-/// The receiving end, with receives or streams: no list has both.
+/// The receiving end, with receives or streams: no list has both. It is seen as three traits, since one of all their calls takes the
+/// prover past its limits.
 trait ReceivingSide<R> {
     fn make(&mut self, rt: &R) -> Seen;
 
-    fn make_stream(&mut self, rt: &R) -> Seen;
-
     fn poll(&mut self, rt: &R, tasks: &mut Tasks, number: usize, waker: u64) -> Seen;
 
-    fn poll_next(&mut self, rt: &R, tasks: &mut Tasks, number: usize, waker: u64) -> Seen;
-
-    fn let_go(&mut self, rt: &R, number: usize) -> Seen;
-
     fn try_receive(&self) -> Seen;
+}
+
+trait StreamingSide<R> {
+    fn make_stream(&mut self, rt: &R) -> Seen;
+
+    fn poll_next(&mut self, rt: &R, tasks: &mut Tasks, number: usize, waker: u64) -> Seen;
+}
+
+trait ClosingSide<R> {
+    /// Lets go of a receive or of a stream.
+    fn let_go(&mut self, rt: &R, number: usize) -> Seen;
 
     /// Closes the channel by the stream that was made last, if it is wanted and there is one, or by the receiver.
     fn close(&self, is_by_stream: bool) -> CloseStatus;
@@ -71,8 +77,7 @@ struct Sends<E: Drop, S: Drop> {
 
 impl<R: Wait + Abort + Drop> SendingSide<R> for Sends<Sender<u64, R>, Sending<R>> {
     fn make(&mut self, rt: &R, value: u64) -> Seen {
-        let send = self.sender.send(value).ok().expect(rt, "memory");
-        self.sends.keep(rt, send)
+        self.sends.keep_send(rt, self.sender.send(value))
     }
 
     fn poll(&mut self, rt: &R, tasks: &mut Tasks, number: usize, waker: u64) -> Seen {
@@ -103,14 +108,7 @@ struct Receives<E: Drop, F: Drop, T: Drop> {
 impl<R: Wait + Abort + Drop> ReceivingSide<R>
     for Receives<Receiver<u64, R>, Receiving<R>, Streaming<R>> {
     fn make(&mut self, rt: &R) -> Seen {
-        let receive = self.receiver.receive().expect(rt, "memory");
-        self.receives.keep(rt, receive)
-    }
-
-    fn make_stream(&mut self, rt: &R) -> Seen {
-        let receiver = self.receiver.clone().expect(rt, "memory");
-        let stream = receiver.into_stream().ok().expect(rt, "memory");
-        self.streams.keep(rt, stream)
+        self.receives.keep(rt, self.receiver.receive())
     }
 
     fn poll(&mut self, rt: &R, tasks: &mut Tasks, number: usize, waker: u64) -> Seen {
@@ -118,20 +116,35 @@ impl<R: Wait + Abort + Drop> ReceivingSide<R>
         self.receives.seen(rt, number, of_receive(polled))
     }
 
+    fn try_receive(&self) -> Seen {
+        Seen::answered(of_try_receive(self.receiver.try_receive()))
+    }
+}
+
+impl<R: Wait + Abort + Drop> StreamingSide<R>
+    for Receives<Receiver<u64, R>, Receiving<R>, Streaming<R>> {
+    fn make_stream(&mut self, rt: &R) -> Seen {
+        let receiver = self.receiver.clone().expect(rt, "it takes no memory");
+        let made = match receiver.into_stream() {
+            Ok(stream) => Ok(stream),
+            Err(_receiver) => Err(Fault::NoMemory),
+        };
+        self.streams.keep(rt, made)
+    }
+
     fn poll_next(&mut self, rt: &R, tasks: &mut Tasks, number: usize, waker: u64) -> Seen {
         let polled = self.streams.poll_next(rt, tasks, number, waker);
         self.streams.seen(rt, number, of_next(polled))
     }
+}
 
+impl<R: Wait + Abort + Drop> ClosingSide<R>
+    for Receives<Receiver<u64, R>, Receiving<R>, Streaming<R>> {
     fn let_go(&mut self, rt: &R, number: usize) -> Seen {
         if self.streams.is_empty() {
             return self.receives.let_go(rt, number);
         }
         self.streams.let_go(rt, number)
-    }
-
-    fn try_receive(&self) -> Seen {
-        Seen::answered(of_try_receive(self.receiver.try_receive()))
     }
 
     fn close(&self, is_by_stream: bool) -> CloseStatus {
@@ -150,8 +163,11 @@ struct OpenedEnds<S, E> {
     receives: E,
 }
 
-impl<R, S: SendingSide<R>, E: ReceivingSide<R>> Opened<R, ChannelCall<u64, u64>>
-    for OpenedEnds<S, E> {
+impl<R, S, E> Opened<R, ChannelCall<u64, u64>> for OpenedEnds<S, E>
+where
+    S: SendingSide<R>,
+    E: ReceivingSide<R> + StreamingSide<R> + ClosingSide<R>,
+{
     fn apply(&mut self, rt: &R, tasks: &mut Tasks, call: ChannelCall<u64, u64>) -> Seen {
         match call {
             ChannelCall::Send(value) => self.sends.make(rt, value),
@@ -187,7 +203,7 @@ fn play_on<R, S, E, P>(
 ) -> Played
 where
     S: SendingSide<R> + Drop,
-    E: ReceivingSide<R> + Drop,
+    E: ReceivingSide<R> + StreamingSide<R> + ClosingSide<R> + Drop,
     P: Play<R, ChannelCall<u64, u64>>,
 {
     list.play(rt, tasks, &mut opened)
@@ -213,12 +229,12 @@ impl<R: Wait + Abort + Copy + Drop + AllocGlobal> Flavour<R> for ChannelEnds {
         let (sender, receiver) = ends.expect(rt, "memory");
         let sends = Sends {
             sender,
-            sends: Futures::new(rt.alloc()),
+            sends: Futures::new(rt),
         };
         let receives = Receives {
             receiver,
-            receives: Futures::new(rt.alloc()),
-            streams: Futures::new(rt.alloc()),
+            receives: Futures::new(rt),
+            streams: Futures::new(rt),
         };
         let opened = OpenedEnds {
             closer: self.closer,

@@ -31,10 +31,7 @@ impl<R: Wait + Abort + Drop, G: GivesValue<u64>> Opened<R, OneshotCall<u64, u64>
     for OpenedEnds<OneValueSender<u64, G, R>, OneValueReceiver<u64, G, R>, Receiving<G, R>> {
     fn apply(&mut self, rt: &R, tasks: &mut Tasks, call: OneshotCall<u64, u64>) -> Seen {
         match call {
-            OneshotCall::Receive => {
-                let receive = self.receiver.receive().expect(rt, "memory");
-                self.receives.keep(rt, receive)
-            }
+            OneshotCall::Receive => self.receives.keep(rt, self.receiver.receive()),
             OneshotCall::Poll(Slot(number), waker) => {
                 let polled = self.receives.poll(rt, tasks, number, waker);
                 self.receives.seen(rt, number, of_receive(polled))
@@ -53,7 +50,6 @@ impl<R: Wait + Abort + Drop> Opened<R, StateCall<u64, u64>>
         match call {
             StateCall::Receive(_) => {
                 let receive = self.receiver.receive(StateId::from_value(asked(call)));
-                let receive = receive.expect(rt, "memory");
                 self.receives.keep(rt, receive)
             }
             StateCall::Poll(Slot(number), waker) => {
@@ -88,7 +84,7 @@ where
     let mut opened = OpenedEnds {
         sender,
         receiver,
-        receives: Futures::new(rt.alloc()),
+        receives: Futures::new(rt),
     };
     list.play(rt, tasks, &mut opened)
 }
@@ -141,7 +137,7 @@ impl<R: Wait + Abort + Copy + Drop + AllocGlobal> Flavour<R> for StateEnds {
         let mut opened = OpenedEnds {
             sender,
             receiver,
-            receives: Futures::new(rt.alloc()),
+            receives: Futures::new(rt),
         };
         list.play(rt, tasks, &mut opened)
     }

@@ -7,7 +7,7 @@ use super::{Flavour, Opened, Play, Played, Seen};
 use crate::Slot;
 use crate::run::{Answer, EventCall};
 use crate::sync::{ManualResetEvent, WaitForEventFuture};
-use std::alloc::{AllocGlobal, Global};
+use std::alloc::AllocGlobal;
 use std::process::Abort;
 use std::sync::Wait;
 
@@ -18,10 +18,10 @@ pub(in crate::tests) struct OpenedEvent<'a, E, F: Drop> {
 }
 
 impl<'a, E, F: Drop> OpenedEvent<'a, E, F> {
-    pub(in crate::tests) fn new(alloc: Global, event: &'a E) -> Self {
+    pub(in crate::tests) fn new<R: Abort + AllocGlobal>(rt: &R, event: &'a E) -> Self {
         OpenedEvent {
             event,
-            waits: Futures::new(alloc),
+            waits: Futures::new(rt),
         }
     }
 }
@@ -30,7 +30,7 @@ impl<'a, R: Wait + Abort> Opened<R, EventCall<u64>>
     for OpenedEvent<'a, ManualResetEvent<R>, WaitForEventFuture<'a, R>> {
     fn apply(&mut self, rt: &R, tasks: &mut Tasks, call: EventCall<u64>) -> Seen {
         match call {
-            EventCall::Wait => self.waits.keep(rt, self.event.wait().expect(rt, "memory")),
+            EventCall::Wait => self.waits.keep(rt, self.event.wait()),
             EventCall::Poll(Slot(number), waker) => {
                 let polled = self.waits.poll(rt, tasks, number, waker);
                 self.waits.seen(rt, number, of_wait(polled))
@@ -60,6 +60,6 @@ impl<R: Wait + Abort + Copy + AllocGlobal> Flavour<R> for Event {
 
     fn play<P: Play<R, EventCall<u64>>>(&self, rt: &R, tasks: &mut Tasks, list: &mut P) -> Played {
         let event = &ManualResetEvent::new(rt.alloc(), *rt, self.is_set);
-        list.play(rt, tasks, &mut OpenedEvent::new(rt.alloc(), event))
+        list.play(rt, tasks, &mut OpenedEvent::new(rt, event))
     }
 }

@@ -8,7 +8,7 @@ use crate::run::{Answer, MutexCall};
 use crate::sync::{Mutex, MutexGuard, MutexLockFuture};
 use crate::{Fault, Slot};
 use futures::task::Poll;
-use std::alloc::{AllocGlobal, Global};
+use std::alloc::AllocGlobal;
 use std::marker::Brand;
 use std::process::Abort;
 use std::sync::Wait;
@@ -22,10 +22,10 @@ pub(in crate::tests) struct OpenedMutex<'a, M, F: Drop, G> {
 }
 
 impl<'a, M, F: Drop, G> OpenedMutex<'a, M, F, G> {
-    pub(in crate::tests) fn new(alloc: Global, mutex: &'a M) -> Self {
+    pub(in crate::tests) fn new<R: Abort + AllocGlobal>(rt: &R, mutex: &'a M) -> Self {
         OpenedMutex {
             mutex,
-            locks: Futures::new(alloc),
+            locks: Futures::new(rt),
             guard: None,
         }
     }
@@ -70,7 +70,7 @@ impl<'a, R: Wait + Abort, L: Ledger> Opened<R, MutexCall<u64, u64>>
     > {
     fn apply(&mut self, rt: &R, tasks: &mut Tasks, call: MutexCall<u64, u64>) -> Seen {
         match call {
-            MutexCall::Lock => self.locks.keep(rt, self.mutex.lock().expect(rt, "memory")),
+            MutexCall::Lock => self.locks.keep(rt, self.mutex.lock()),
             MutexCall::Poll(Slot(number), waker) => {
                 let polled = self.locks.poll(rt, tasks, number, waker);
                 let answer = self.locked(polled);
@@ -104,7 +104,7 @@ where
     requires one { blank.parts ≡ 1 }
 {
     let mutex = &Mutex::<u64, R, L>::new(rt.alloc(), *rt, blank, 7, is_fair);
-    list.play(rt, tasks, &mut OpenedMutex::new(rt.alloc(), mutex))
+    list.play(rt, tasks, &mut OpenedMutex::new(rt, mutex))
 }
 
 /// A mutex of a seven.

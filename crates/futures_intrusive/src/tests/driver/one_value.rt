@@ -18,19 +18,25 @@ use std::sync::Wait;
 type Receiving<'a, G, R> = ChannelReceiveFuture<'a, OneValueState<u64, PollWaker, G>, R>;
 
 #[derive(Drop)]
-struct OpenedChannel<'a, C, F: Drop> {
+pub(in crate::tests) struct OpenedChannel<'a, C, F: Drop> {
     channel: &'a C,
     receives: Futures<F>,
+}
+
+impl<'a, C, F: Drop> OpenedChannel<'a, C, F> {
+    pub(in crate::tests) fn new<R: Abort + AllocGlobal>(rt: &R, channel: &'a C) -> Self {
+        OpenedChannel {
+            channel,
+            receives: Futures::new(rt),
+        }
+    }
 }
 
 impl<'a, R: Wait + Abort, G: GivesValue<u64>> Opened<R, OneshotCall<u64, u64>>
     for OpenedChannel<'a, OneValueChannel<u64, G, R>, Receiving<'a, G, R>> {
     fn apply(&mut self, rt: &R, tasks: &mut Tasks, call: OneshotCall<u64, u64>) -> Seen {
         match call {
-            OneshotCall::Receive => {
-                let receive = self.channel.receive().expect(rt, "memory");
-                self.receives.keep(rt, receive)
-            }
+            OneshotCall::Receive => self.receives.keep(rt, self.channel.receive()),
             OneshotCall::Poll(Slot(number), waker) => {
                 let polled = self.receives.poll(rt, tasks, number, waker);
                 self.receives.seen(rt, number, of_receive(polled))
@@ -66,7 +72,6 @@ impl<R: Wait + Abort + Copy + AllocGlobal, G: GivesValue<u64>> Flavour<R> for On
         list: &mut P,
     ) -> Played {
         let channel = &OneValueChannel::<u64, G, R>::new(rt.alloc(), *rt);
-        let receives = Futures::new(rt.alloc());
-        list.play(rt, tasks, &mut OpenedChannel { channel, receives })
+        list.play(rt, tasks, &mut OpenedChannel::new(rt, channel))
     }
 }

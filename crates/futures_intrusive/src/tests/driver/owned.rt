@@ -2,13 +2,16 @@
 
 use super::Seen;
 use super::tasks::{TaskSet, Tasks};
-use crate::Slot;
 use crate::run::Answer;
+use crate::{Fault, NoRoom, Slot};
 use futures::task::Poll;
 use futures::{Future, Stream, StreamExt};
-use std::alloc::Global;
+use std::alloc::AllocGlobal;
 use std::process::Abort;
 use std::sync::Wait;
+
+/// So many futures are kept without a request for memory.
+pub(super) const ROOM: usize = 8;
 
 /// A future, until it is dropped, and the tasks that have polled it.
 #[derive(Drop)]
@@ -24,9 +27,9 @@ pub(in crate::tests) struct Futures<F: Drop> {
 }
 
 impl<F: Drop> Futures<F> {
-    pub(super) fn new(alloc: Global) -> Self {
+    pub(super) fn new<R: Abort + AllocGlobal>(rt: &R) -> Self {
         Futures {
-            owned: Vec::new(alloc),
+            owned: Vec::with_capacity(rt.alloc(), ROOM).expect(rt, "memory"),
         }
     }
 
@@ -39,8 +42,23 @@ impl<F: Drop> Futures<F> {
         self.owned.last()?.future.as_ref()
     }
 
-    /// Keeps a future that was made.
-    pub(super) fn keep<R: Abort>(&mut self, rt: &R, future: F) -> Seen {
+    /// Keeps a future, if it was made.
+    pub(super) fn keep<R: Abort>(&mut self, rt: &R, made: Result<F, Fault>) -> Seen {
+        match made {
+            Ok(future) => self.keep_made(rt, future),
+            Err(fault) => Seen::answered(Answer::Refused(fault)),
+        }
+    }
+
+    /// Keeps a send, if it was made.
+    pub(super) fn keep_send<R: Abort>(&mut self, rt: &R, made: Result<F, NoRoom<u64>>) -> Seen {
+        match made {
+            Ok(send) => self.keep_made(rt, send),
+            Err(NoRoom(value)) => Seen::answered(Answer::Back(value, Fault::NoMemory)),
+        }
+    }
+
+    fn keep_made<R: Abort>(&mut self, rt: &R, future: F) -> Seen {
         let slot = Slot(self.owned.len());
         let owned = Owned {
             future: Some(future),

@@ -2,7 +2,7 @@
 //! of the oldest releaser.
 ghost use Rattle.std.specs.Prelude.{◌≡◌};
 
-use super::owned::Futures;
+use super::owned::{Futures, ROOM};
 use super::tasks::Tasks;
 use super::{Flavour, Opened, Play, Played, Seen};
 use crate::run::{Answer, SemaphoreCall};
@@ -12,7 +12,7 @@ use crate::sync::{
 };
 use crate::{Fault, Slot};
 use futures::task::Poll;
-use std::alloc::{AllocGlobal, Global};
+use std::alloc::AllocGlobal;
 use std::marker::Brand;
 use std::process::Abort;
 use std::sync::Wait;
@@ -36,19 +36,21 @@ pub(in crate::tests) struct OpenedSemaphore<S, F: Drop, H: Drop> {
 }
 
 impl<S, F: Drop, H: Drop> OpenedSemaphore<S, F, H> {
-    pub(in crate::tests) fn new(alloc: Global, semaphore: S) -> Self {
+    pub(in crate::tests) fn new<R: Abort + AllocGlobal>(rt: &R, semaphore: S) -> Self {
         OpenedSemaphore {
             semaphore,
-            acquires: Futures::new(alloc),
-            needs: Vec::new(alloc),
-            held: Vec::new(alloc),
+            acquires: Futures::new(rt),
+            needs: Vec::with_capacity(rt.alloc(), ROOM).expect(rt, "memory"),
+            held: Vec::with_capacity(rt.alloc(), ROOM).expect(rt, "memory"),
         }
     }
 
-    // Keeps a future for so many permits.
-    fn keep<R: Abort>(&mut self, rt: &R, acquire: F, permits: usize) -> Seen {
-        self.needs.push(permits).ok().expect(rt, "memory");
-        self.acquires.keep(rt, acquire)
+    // Keeps a future for so many permits, if it was made.
+    fn keep<R: Abort>(&mut self, rt: &R, made: Result<F, Fault>, permits: usize) -> Seen {
+        if made.is_ok() {
+            self.needs.push(permits).ok().expect(rt, "memory");
+        }
+        self.acquires.keep(rt, made)
     }
 
     // Keeps a releaser that was granted.
@@ -147,8 +149,8 @@ impl<'a, R: Wait + Abort, L: Ledger> Opened<R, SemaphoreCall<u64>>
     fn apply(&mut self, rt: &R, tasks: &mut Tasks, call: SemaphoreCall<u64>) -> Seen {
         match call {
             SemaphoreCall::Acquire(permits) => {
-                let acquire = self.semaphore.acquire(permits).expect(rt, "memory");
-                self.keep(rt, acquire, permits)
+                let made = self.semaphore.acquire(permits);
+                self.keep(rt, made, permits)
             }
             SemaphoreCall::Poll(Slot(number), waker) => {
                 let polled = self.acquires.poll(rt, tasks, number, waker);
@@ -188,8 +190,8 @@ impl<R: Wait + Abort + Drop, L: Ledger> Opened<R, SemaphoreCall<u64>>
     fn apply(&mut self, rt: &R, tasks: &mut Tasks, call: SemaphoreCall<u64>) -> Seen {
         match call {
             SemaphoreCall::Acquire(permits) => {
-                let acquire = self.semaphore.acquire(permits).expect(rt, "memory");
-                self.keep(rt, acquire, permits)
+                let made = self.semaphore.acquire(permits);
+                self.keep(rt, made, permits)
             }
             SemaphoreCall::Poll(Slot(number), waker) => {
                 let polled = self.acquires.poll(rt, tasks, number, waker);
@@ -233,7 +235,7 @@ where
 {
     let Opening { is_fair, permits } = opening;
     let semaphore = &Semaphore::<R, L>::new(rt.alloc(), *rt, blank, is_fair, permits);
-    list.play(rt, tasks, &mut OpenedSemaphore::new(rt.alloc(), semaphore))
+    list.play(rt, tasks, &mut OpenedSemaphore::new(rt, semaphore))
 }
 
 fn play_shared<R, P, L>(
@@ -254,7 +256,7 @@ where
     let Opening { is_fair, permits } = opening;
     let semaphore = SharedSemaphore::<R, L>::new(rt.alloc(), *rt, blank, is_fair, permits);
     let semaphore = semaphore.expect(rt, "memory");
-    list.play(rt, tasks, &mut OpenedSemaphore::new(rt.alloc(), semaphore))
+    list.play(rt, tasks, &mut OpenedSemaphore::new(rt, semaphore))
 }
 
 /// What a semaphore is opened with.

@@ -21,9 +21,18 @@ pub(super) fn asked(call: StateCall<u64, u64>) -> u64 {
 }
 
 #[derive(Drop)]
-struct OpenedState<'a, C, F: Drop> {
+pub(in crate::tests) struct OpenedState<'a, C, F: Drop> {
     channel: &'a C,
     receives: Futures<F>,
+}
+
+impl<'a, C, F: Drop> OpenedState<'a, C, F> {
+    pub(in crate::tests) fn new<R: Abort + AllocGlobal>(rt: &R, channel: &'a C) -> Self {
+        OpenedState {
+            channel,
+            receives: Futures::new(rt),
+        }
+    }
 }
 
 impl<'a, R: Wait + Abort> Opened<R, StateCall<u64, u64>>
@@ -32,7 +41,6 @@ impl<'a, R: Wait + Abort> Opened<R, StateCall<u64, u64>>
         match call {
             StateCall::Receive(_) => {
                 let receive = self.channel.receive(StateId::from_value(asked(call)));
-                let receive = receive.expect(rt, "memory");
                 self.receives.keep(rt, receive)
             }
             StateCall::Poll(Slot(number), waker) => {
@@ -63,7 +71,6 @@ impl<R: Wait + Abort + Copy + AllocGlobal> Flavour<R> for StateBroadcast {
         list: &mut P,
     ) -> Played {
         let channel = &StateBroadcastChannel::new(rt.alloc(), *rt);
-        let receives = Futures::new(rt.alloc());
-        list.play(rt, tasks, &mut OpenedState { channel, receives })
+        list.play(rt, tasks, &mut OpenedState::new(rt, channel))
     }
 }

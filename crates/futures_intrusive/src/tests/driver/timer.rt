@@ -12,24 +12,34 @@ use std::process::Abort;
 use std::sync::{Arc, Wait};
 
 #[derive(Drop)]
-struct OpenedTimer<'a, T, F: Drop> {
+pub(in crate::tests) struct OpenedTimer<'a, T, F: Drop> {
     clock: &'a MockClock,
     timer: &'a T,
     waits: Futures<F>,
+}
+
+impl<'a, T, F: Drop> OpenedTimer<'a, T, F> {
+    pub(in crate::tests) fn new<R: Abort + AllocGlobal>(
+        rt: &R,
+        clock: &'a MockClock,
+        timer: &'a T,
+    ) -> Self {
+        OpenedTimer {
+            clock,
+            timer,
+            waits: Futures::new(rt),
+        }
+    }
 }
 
 impl<'a, R: Wait + Abort> Opened<R, TimerCall<u64>>
     for OpenedTimer<'a, TimerService<Arc<MockClock>, R>, TimerFuture<'a, Arc<MockClock>, R>> {
     fn apply(&mut self, rt: &R, tasks: &mut Tasks, call: TimerCall<u64>) -> Seen {
         match call {
-            TimerCall::Deadline(expiry) => {
-                let wait = self.timer.deadline(expiry).expect(rt, "memory");
-                self.waits.keep(rt, wait)
-            }
+            TimerCall::Deadline(expiry) => self.waits.keep(rt, self.timer.deadline(expiry)),
             TimerCall::Delay(now, delay) => {
                 self.clock.set_time(now);
-                let wait = self.timer.delay(delay).expect(rt, "memory");
-                self.waits.keep(rt, wait)
+                self.waits.keep(rt, self.timer.delay(delay))
             }
             TimerCall::Poll(Slot(number), now, waker) => {
                 self.clock.set_time(now);
@@ -57,11 +67,6 @@ impl<R: Wait + Abort + Copy + AllocGlobal> Flavour<R> for Timer {
         let clock = Arc::new(rt.alloc(), MockClock::new()).expect(rt, "memory");
         let own_clock = Arc::try_clone(&clock).expect(rt, "memory");
         let timer = &TimerService::new(rt.alloc(), *rt, own_clock);
-        let mut opened = OpenedTimer {
-            clock: &*clock,
-            timer,
-            waits: Futures::new(rt.alloc()),
-        };
-        list.play(rt, tasks, &mut opened)
+        list.play(rt, tasks, &mut OpenedTimer::new(rt, &*clock, timer))
     }
 }

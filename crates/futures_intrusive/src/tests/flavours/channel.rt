@@ -16,7 +16,7 @@ use std::process::Abort;
 use std::random::RandomSource;
 use std::sync::Wait;
 
-type Line = Entry<ChannelCall<u64, u64>>;
+pub(in crate::tests) type Line = Entry<ChannelCall<u64, u64>>;
 
 // Plays a row on ends of this capacity, closed by the sender and by the receiver.
 fn assert_ends_play<R>(rt: &R, capacity: usize, row: &[Line])
@@ -28,7 +28,7 @@ where
     }
 }
 
-const TWO_PLACES: [Line; 11] = [
+pub(in crate::tests) const TWO_PLACES: [Line; 11] = [
     (Send(1), Made(A), &[]),
     (Send(2), Made(B), &[]),
     (Send(3), Made(C), &[]),
@@ -66,7 +66,7 @@ fn channel_rendezvous(rt: HostRuntime) {
     assert_ends_play(&rt, 0, &RENDEZVOUS);
 }
 
-const CLOSE: [Line; 11] = [
+pub(in crate::tests) const CLOSE: [Line; 11] = [
     (Send(1), Made(A), &[]),
     (PollSend(A, 1), Done, &[]),
     (Send(2), Made(B), &[]),
@@ -190,7 +190,7 @@ fn channel_full_or_closed(rt: HostRuntime) {
 }
 
 // Each told receive that is dropped passes the value on.
-const CANCELS_HELD: [Line; 14] = [
+pub(in crate::tests) const CANCELS_HELD: [Line; 14] = [
     (Receive, Made(A), &[]),
     (Receive, Made(B), &[]),
     (Receive, Made(C), &[]),

@@ -6,7 +6,7 @@ use crate::run::EventCall;
 use crate::run::EventCall::{Cancel, IsSet, Poll, Reset, Set, Wait};
 use crate::tests::driver::event::Event;
 
-const SET_AND_RESET: [Entry<EventCall<u64>>; 11] = [
+pub(in crate::tests) const SET_AND_RESET: [Entry<EventCall<u64>>; 11] = [
     (IsSet, Flag(false), &[]),
     (Wait, Made(A), &[]),
     (Poll(A, 1), Pending, &[]),
@@ -25,7 +25,7 @@ fn event_set_and_reset(rt: HostRuntime) {
     assert_plays(&rt, &Event { is_set: false }, &SET_AND_RESET);
 }
 
-const CANCELS: [Entry<EventCall<u64>>; 14] = [
+pub(in crate::tests) const CANCELS: [Entry<EventCall<u64>>; 14] = [
     (Wait, Made(A), &[]),
     (Wait, Made(B), &[]),
     (Wait, Made(C), &[]),

@@ -6,7 +6,7 @@ use crate::run::MutexCall;
 use crate::run::MutexCall::{Cancel, IsLocked, Lock, Poll, TryLock, Unlock};
 use crate::tests::driver::mutex::MutexOfSeven;
 
-const UNFAIR: [Entry<MutexCall<u64, u64>>; 11] = [
+pub(in crate::tests) const UNFAIR: [Entry<MutexCall<u64, u64>>; 11] = [
     (TryLock, Item(7), &[]),
     (Lock, Made(A), &[]),
     (Lock, Made(B), &[]),
@@ -27,7 +27,7 @@ fn mutex_unfair(rt: HostRuntime) {
 
 // Below the row: a told future that is dropped leaves the mutex free, and one that was not polled
 // wakes nobody.
-const FAIR: [Entry<MutexCall<u64, u64>>; 15] = [
+pub(in crate::tests) const FAIR: [Entry<MutexCall<u64, u64>>; 15] = [
     (TryLock, Item(7), &[]),
     (Lock, Made(A), &[]),
     (Lock, Made(B), &[]),

@@ -9,7 +9,7 @@ use crate::run::OneshotCall::{Cancel, Close, Poll, Receive, Send};
 use crate::tests::driver::ends::{BroadcastEnds, OneshotEnds};
 use crate::tests::driver::one_value::{BROADCAST, ONESHOT};
 
-const ONE_VALUE: [Entry<OneshotCall<u64, u64>>; 9] = [
+pub(in crate::tests) const ONE_VALUE: [Entry<OneshotCall<u64, u64>>; 9] = [
     (Receive, Made(A), &[]),
     (Receive, Made(B), &[]),
     (Poll(A, 1), Pending, &[]),
@@ -27,7 +27,7 @@ fn oneshot_one_value(rt: HostRuntime) {
     assert_plays(&rt, &OneshotEnds, &ONE_VALUE[..8]);
 }
 
-const CLONES: [Entry<OneshotCall<u64, u64>>; 11] = [
+pub(in crate::tests) const CLONES: [Entry<OneshotCall<u64, u64>>; 11] = [
     (Receive, Made(A), &[]),
     (Receive, Made(B), &[]),
     (Poll(A, 1), Pending, &[]),

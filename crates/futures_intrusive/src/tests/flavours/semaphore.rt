@@ -14,7 +14,7 @@ use std::process::Abort;
 use std::random::RandomSource;
 use std::sync::Wait;
 
-type Line = Entry<SemaphoreCall<u64>>;
+pub(in crate::tests) type Line = Entry<SemaphoreCall<u64>>;
 
 // Plays a row on both kinds of semaphores.
 fn assert_both_play<R>(rt: &R, is_fair: bool, permits: usize, row: &[Line])
@@ -143,7 +143,7 @@ fn semaphore_fair_round_after_cancel(rt: HostRuntime) {
     assert_both_play(&rt, true, 2, &FAIR_ROUND_AFTER_CANCEL);
 }
 
-const TELLS_SEVERAL: [Line; 19] = [
+pub(in crate::tests) const TELLS_SEVERAL: [Line; 19] = [
     (Acquire(1), Made(A), &[]),
     (Acquire(2), Made(B), &[]),
     (Acquire(2), Made(C), &[]),

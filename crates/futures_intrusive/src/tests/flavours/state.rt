@@ -9,7 +9,7 @@ use crate::run::StateCall::{Close, Poll, Receive, Send, TryReceive};
 use crate::tests::driver::ends::StateEnds;
 use crate::tests::driver::state::StateBroadcast;
 
-fn numbers() -> [Entry<StateCall<u64, u64>>; 14] {
+pub(in crate::tests) fn numbers() -> [Entry<StateCall<u64, u64>>; 14] {
     let none = StateId::new();
     let first = StateId::from_value(1);
     let second = StateId::from_value(2);

@@ -16,7 +16,7 @@ use std::process::Abort;
 use std::random::RandomSource;
 use std::sync::Wait;
 
-type Line = Entry<ChannelCall<u64, u64>>;
+pub(in crate::tests) type Line = Entry<ChannelCall<u64, u64>>;
 
 // Plays a row on ends of this capacity, closed by the sender, by the receiver and by the stream.
 fn assert_ends_play<R>(rt: &R, capacity: usize, row: &[Line])
@@ -28,7 +28,7 @@ where
     }
 }
 
-const ENDS: [Line; 8] = [
+pub(in crate::tests) const ENDS: [Line; 8] = [
     (TrySend(4), Done, &[]),
     (Close, Newly, &[]),
     (Stream, Made(A), &[]),
@@ -45,7 +45,7 @@ fn stream_ends(rt: HostRuntime) {
     assert_ends_play(&rt, 1, &ENDS);
 }
 
-const RENDEZVOUS: [Line; 8] = [
+pub(in crate::tests) const RENDEZVOUS: [Line; 8] = [
     (Send(1), Made(A), &[]),
     (PollSend(A, 1), Pending, &[]),
     (Stream, Made(A), &[]),

@@ -7,9 +7,9 @@ use crate::run::TimerCall::{Cancel, Check, Deadline, Delay, Next, Poll};
 use crate::tests::driver::timer::Timer;
 use std::time::Duration;
 
-type Line = Entry<TimerCall<u64>>;
+pub(in crate::tests) type Line = Entry<TimerCall<u64>>;
 
-fn expirations() -> [Entry<TimerCall<u64>>; 14] {
+pub(in crate::tests) fn expirations() -> [Entry<TimerCall<u64>>; 14] {
     [
         (Deadline(999), Made(A), &[]),
         (Poll(A, 200, 1), Pending, &[]),
@@ -51,7 +51,7 @@ fn timer_saturates(rt: HostRuntime) {
     assert_plays(&rt, &Timer, &saturates());
 }
 
-const CANCEL: [Line; 14] = [
+pub(in crate::tests) const CANCEL: [Line; 14] = [
     (Deadline(300), Made(A), &[]),
     (Deadline(100), Made(B), &[]),
     (Deadline(200), Made(C), &[]),

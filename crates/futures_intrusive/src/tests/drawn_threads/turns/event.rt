@@ -1,17 +1,14 @@
 //! The event.
 
-use super::{Choices, Holds, LISTS, List, next_turns, plays};
+use super::{Choices, Holds, List, Opens, TakesTurns, plays, try_turns};
 use crate::Slot;
 use crate::run::EventCall;
 use crate::sync::{EventState, ManualResetEvent};
-use crate::tests::drawn_threads::Draws;
 use crate::tests::driver::event::OpenedEvent;
 use std::alloc::AllocGlobal;
 use std::process::Abort;
 use std::random::RandomSource;
 use std::sync::{Barrier, Wait};
-use std::thread;
-use std::thread::Threads;
 
 const FIRST: [EventCall<u64>; 6] = [
     EventCall::Poll(Slot(0), 1),
@@ -33,55 +30,32 @@ const SECOND: [EventCall<u64>; 6] = [
 
 impl Holds for EventCall<u64> {}
 
-// Plays a list on this event.
-fn play_at<'a, R>(rt: &'a R, event: &'a ManualResetEvent<R>, list: List<'a, EventCall<u64>>) -> bool
-where
-    R: Wait + Threads + Abort + RandomSource + AllocGlobal + Send + Sync,
-{
-    let barrier = &Barrier::new(2);
-    let (first, second) = thread::join(
-        rt,
-        move || plays(
-            rt,
-            barrier,
-            &mut OpenedEvent::new(rt.alloc(), event),
-            true,
-            list,
-        ),
-        move || plays(
-            rt,
-            barrier,
-            &mut OpenedEvent::new(rt.alloc(), event),
-            false,
-            list,
-        ),
-    );
-    first && second
+impl<R: Wait + Abort + RandomSource + AllocGlobal> TakesTurns<R> for ManualResetEvent<R> {
+    type Call = EventCall<u64>;
+
+    fn take_turns(
+        &self,
+        rt: &R,
+        barrier: &Barrier,
+        is_first: bool,
+        list: List<EventCall<u64>>,
+    ) -> bool {
+        plays(rt, barrier, &mut OpenedEvent::new(rt, self), is_first, list)
+    }
 }
 
-// Two hundred lists.
-fn try_turns<R>(rt: &R)
-where
-    R: Wait + Threads + Abort + Copy + RandomSource + AllocGlobal + Send + Sync,
-{
-    let choices = Choices {
-        makings: &[EventCall::Wait; 4],
-        first: &FIRST,
-        second: &SECOND,
-    };
-    let mut draws = Draws(1);
-    for number in 0..LISTS {
-        let turns = next_turns::<R, EventState<u64>>(rt, false, choices, &mut draws);
-        let event = ManualResetEvent::new(rt.alloc(), *rt, false);
-        let list = List {
-            makings: choices.makings,
-            turns: turns.as_slice(),
-        };
-        assert!(*rt; play_at(rt, &event, list), "list {number}");
+impl<R: Wait + Abort + Copy + RandomSource + AllocGlobal> Opens<R> for ManualResetEvent<R> {
+    fn open(rt: &R) -> Self {
+        ManualResetEvent::new(rt.alloc(), *rt, false)
     }
 }
 
 #[test]
 fn two_threads_take_turns_at_an_event(rt: HostRuntime) {
-    try_turns(&rt);
+    let choices = Choices {
+        makings: &[EventCall::Wait; 4],
+        first: &FIRST,
+        second: &SECOND,
+    };
+    try_turns::<HostRuntime, EventState<u64>, ManualResetEvent<HostRuntime>>(&rt, false, choices);
 }

@@ -1,7 +1,7 @@
 //! The mutex, fair and unfair: each thread unlocks what it locked.
 ghost use Rattle.std.specs.Prelude.{◌≡◌};
 
-use super::{Choices, Holds, LISTS, List, next_turns, plays};
+use super::{Choices, Holds, LISTS, List, TakesTurns, next_turns, play_at, plays};
 use crate::Slot;
 use crate::run::{Answer, MutexCall};
 use crate::sync::{Mutex, MutexState};
@@ -13,7 +13,6 @@ use std::process::Abort;
 use std::random::RandomSource;
 use std::sync::ledger::{Blank, Ledger};
 use std::sync::{Barrier, Wait};
-use std::thread;
 use std::thread::Threads;
 
 const FIRST: [MutexCall<u64, u64>; 6] = [
@@ -44,35 +43,18 @@ impl Holds for MutexCall<u64, u64> {
     }
 }
 
-// Plays a list on this mutex.
-fn play_at<'a, R, L>(
-    rt: &'a R,
-    mutex: &'a Mutex<u64, R, L>,
-    list: List<'a, MutexCall<u64, u64>>,
-) -> bool
-where
-    R: Wait + Threads + Abort + RandomSource + AllocGlobal + Send + Sync,
-    L: Ledger + Send + Sync,
-{
-    let barrier = &Barrier::new(2);
-    let (first, second) = thread::join(
-        rt,
-        move || plays(
-            rt,
-            barrier,
-            &mut OpenedMutex::new(rt.alloc(), mutex),
-            true,
-            list,
-        ),
-        move || plays(
-            rt,
-            barrier,
-            &mut OpenedMutex::new(rt.alloc(), mutex),
-            false,
-            list,
-        ),
-    );
-    first && second
+impl<R: Wait + Abort + RandomSource + AllocGlobal, L: Ledger> TakesTurns<R> for Mutex<u64, R, L> {
+    type Call = MutexCall<u64, u64>;
+
+    fn take_turns(
+        &self,
+        rt: &R,
+        barrier: &Barrier,
+        is_first: bool,
+        list: List<MutexCall<u64, u64>>,
+    ) -> bool {
+        plays(rt, barrier, &mut OpenedMutex::new(rt, self), is_first, list)
+    }
 }
 
 // Plays a list on a mutex of a seven.

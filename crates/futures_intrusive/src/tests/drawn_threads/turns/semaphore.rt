@@ -1,7 +1,7 @@
 //! The semaphore of one permit, fair and unfair: each thread gives back what it acquired.
 ghost use Rattle.std.specs.Prelude.{◌≡◌};
 
-use super::{Choices, Holds, LISTS, List, next_turns, plays};
+use super::{Choices, Holds, LISTS, List, TakesTurns, next_turns, play_at, plays};
 use crate::Slot;
 use crate::run::{Answer, SemaphoreCall};
 use crate::sync::{Semaphore, SemaphoreState};
@@ -13,7 +13,6 @@ use std::process::Abort;
 use std::random::RandomSource;
 use std::sync::ledger::{Blank, Ledger};
 use std::sync::{Barrier, Wait};
-use std::thread;
 use std::thread::Threads;
 
 const FIRST: [SemaphoreCall<u64>; 7] = [
@@ -47,35 +46,24 @@ impl Holds for SemaphoreCall<u64> {
     }
 }
 
-// Plays a list on this semaphore.
-fn play_at<'a, R, L>(
-    rt: &'a R,
-    semaphore: &'a Semaphore<R, L>,
-    list: List<'a, SemaphoreCall<u64>>,
-) -> bool
-where
-    R: Wait + Threads + Abort + RandomSource + AllocGlobal + Send + Sync,
-    L: Ledger + Send + Sync,
-{
-    let barrier = &Barrier::new(2);
-    let (first, second) = thread::join(
-        rt,
-        move || plays(
+impl<R: Wait + Abort + RandomSource + AllocGlobal, L: Ledger> TakesTurns<R> for Semaphore<R, L> {
+    type Call = SemaphoreCall<u64>;
+
+    fn take_turns(
+        &self,
+        rt: &R,
+        barrier: &Barrier,
+        is_first: bool,
+        list: List<SemaphoreCall<u64>>,
+    ) -> bool {
+        plays(
             rt,
             barrier,
-            &mut OpenedSemaphore::new(rt.alloc(), semaphore),
-            true,
+            &mut OpenedSemaphore::new(rt, self),
+            is_first,
             list,
-        ),
-        move || plays(
-            rt,
-            barrier,
-            &mut OpenedSemaphore::new(rt.alloc(), semaphore),
-            false,
-            list,
-        ),
-    );
-    first && second
+        )
+    }
 }
 
 // Plays a list on a semaphore of one permit.

@@ -1,0 +1,67 @@
+//! The state broadcast.
+
+use super::{Choices, Holds, List, Opens, TakesTurns, plays, try_turns};
+use crate::Slot;
+use crate::channel::{StateBroadcastChannel, StateBroadcastState};
+use crate::run::StateCall;
+use crate::tests::drawn_threads::state::makings;
+use crate::tests::driver::state::OpenedState;
+use std::alloc::AllocGlobal;
+use std::process::Abort;
+use std::random::RandomSource;
+use std::sync::{Barrier, Wait};
+
+const FIRST: [StateCall<u64, u64>; 6] = [
+    StateCall::Poll(Slot(0), 1),
+    StateCall::Poll(Slot(1), 2),
+    StateCall::Cancel(Slot(0)),
+    StateCall::Cancel(Slot(1)),
+    StateCall::Send(5),
+    StateCall::Close,
+];
+
+const SECOND: [StateCall<u64, u64>; 6] = [
+    StateCall::Poll(Slot(2), 3),
+    StateCall::Poll(Slot(3), 4),
+    StateCall::Cancel(Slot(2)),
+    StateCall::Cancel(Slot(3)),
+    StateCall::Send(6),
+    StateCall::Close,
+];
+
+impl Holds for StateCall<u64, u64> {}
+
+impl<R: Wait + Abort + RandomSource + AllocGlobal> TakesTurns<R> for StateBroadcastChannel<u64, R> {
+    type Call = StateCall<u64, u64>;
+
+    fn take_turns(
+        &self,
+        rt: &R,
+        barrier: &Barrier,
+        is_first: bool,
+        list: List<StateCall<u64, u64>>,
+    ) -> bool {
+        plays(rt, barrier, &mut OpenedState::new(rt, self), is_first, list)
+    }
+}
+
+impl<R: Wait + Abort + Copy + RandomSource + AllocGlobal> Opens<R>
+    for StateBroadcastChannel<u64, R> {
+    fn open(rt: &R) -> Self {
+        StateBroadcastChannel::new(rt.alloc(), *rt)
+    }
+}
+
+#[test]
+fn two_threads_take_turns_at_a_state_broadcast(rt: HostRuntime) {
+    let choices = Choices {
+        makings: &makings(),
+        first: &FIRST,
+        second: &SECOND,
+    };
+    try_turns::<
+        HostRuntime,
+        StateBroadcastState<u64, u64>,
+        StateBroadcastChannel<u64, HostRuntime>,
+    >(&rt, (), choices);
+}
