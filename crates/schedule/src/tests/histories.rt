@@ -47,6 +47,22 @@ where
     check_row(rt, alloc, row)
 }
 
+const EVENT: &str = "event reset
+hold wait w0
+hold poll w0 1 -> pending
+hold wait w1
+hold poll w1 2 -> pending
+set -> ok wakes 1 2
+hold poll w0 1 -> ready
+hold cancel w0 -> ok
+hold reset -> ok
+hold wait w0
+poll w0 3 -> pending
+hold is-set -> false
+hold set -> ok
+hold poll w1 4 -> ready
+wakes -> ok wakes 3";
+
 #[test]
 fn event_history(rt: HostRuntime) -> Result<(), Fail> {
     let entries = [
@@ -74,22 +90,7 @@ fn event_history(rt: HostRuntime) -> Result<(), Fail> {
         (EventCall::NextWake, Answer::Woken(Some(3))),
         (EventCall::NextWake, Answer::Woken(None)),
     ];
-    let row = "event reset
-hold wait w0
-hold poll w0 1 -> pending
-hold wait w1
-hold poll w1 2 -> pending
-set -> ok wakes 1 2
-hold poll w0 1 -> ready
-hold cancel w0 -> ok
-hold reset -> ok
-hold wait w0
-poll w0 3 -> pending
-hold is-set -> false
-hold set -> ok
-hold poll w1 4 -> ready
-wakes -> ok wakes 3";
-    check_history::<EventState<u64>>(&rt, rt.alloc(), false, entries.as_slice(), row)
+    check_history::<EventState<u64>>(&rt, rt.alloc(), false, entries.as_slice(), EVENT)
 }
 
 #[test]
@@ -164,6 +165,24 @@ hold send 6 -> closed 6";
     check_history::<OneshotBroadcastState<u64, u64>>(&rt, rt.alloc(), (), entries.as_slice(), row)
 }
 
+const STATE_BROADCAST: &str = "state-broadcast
+hold try-receive 0 -> none
+hold send 9 -> ok
+hold try-receive 0 -> some 1 9
+hold receive r0 0
+hold poll r0 1 -> some 1 9
+hold cancel r0 -> ok
+hold receive r0 1
+hold poll r0 2 -> pending
+hold receive r1 1
+hold poll r1 3 -> pending
+send 10 -> ok wakes 2 3
+hold close -> newly-closed
+hold poll r0 2 -> some 2 10
+hold receive r2 2
+hold poll r2 4 -> none
+hold send 11 -> closed 11";
+
 #[test]
 fn state_broadcast_history(rt: HostRuntime) -> Result<(), Fail> {
     let zero = StateId::new();
@@ -191,64 +210,51 @@ fn state_broadcast_history(rt: HostRuntime) -> Result<(), Fail> {
         (StateCall::Poll(C, 4), Answer::Nothing),
         (StateCall::Send(11), Answer::Back(11, Fault::Closed)),
     ];
-    let row = "state-broadcast
-hold try-receive 0 -> none
-hold send 9 -> ok
-hold try-receive 0 -> some 1 9
-hold receive r0 0
-hold poll r0 1 -> some 1 9
-hold cancel r0 -> ok
-hold receive r0 1
-hold poll r0 2 -> pending
-hold receive r1 1
-hold poll r1 3 -> pending
-send 10 -> ok wakes 2 3
-hold close -> newly-closed
-hold poll r0 2 -> some 2 10
-hold receive r2 2
-hold poll r2 4 -> none
-hold send 11 -> closed 11";
-    check_history::<StateBroadcastState<u64, u64>>(&rt, rt.alloc(), (), entries.as_slice(), row)
+    check_history::<StateBroadcastState<u64, u64>>(
+        &rt,
+        rt.alloc(),
+        (),
+        entries.as_slice(),
+        STATE_BROADCAST,
+    )
 }
 
-/// Sends have slots of their own; receives and streams share theirs.
-#[test]
-fn channel_history(rt: HostRuntime) -> Result<(), Fail> {
-    let entries = [
-        (ChannelCall::Send(1), Answer::Made(A)),
-        (ChannelCall::PollSend(A, 1), Answer::Done),
-        (ChannelCall::Send(2), Answer::Made(B)),
-        (ChannelCall::PollSend(B, 2), Answer::Pending),
-        (ChannelCall::TrySend(3), Answer::Back(3, Fault::Full)),
-        (ChannelCall::Receive, Answer::Made(A)),
-        (ChannelCall::PollReceive(A, 3), Answer::Item(1)),
-        (ChannelCall::NextWake, Answer::Woken(Some(2))),
-        (ChannelCall::NextWake, Answer::Woken(None)),
-        (ChannelCall::PollSend(B, 2), Answer::Done),
-        (ChannelCall::CancelSend(B), Answer::Nothing),
-        (ChannelCall::Send(4), Answer::Made(B)),
-        (ChannelCall::CancelSend(B), Answer::Item(4)),
-        (ChannelCall::Stream, Answer::Made(B)),
-        (ChannelCall::PollNext(B, 4), Answer::Item(2)),
-        (ChannelCall::PollNext(B, 4), Answer::Pending),
-        (
-            ChannelCall::PollReceive(B, 9),
-            Answer::Refused(Fault::NoSlot),
-        ),
-        (ChannelCall::CancelReceive(A), Answer::Done),
-        (ChannelCall::Receive, Answer::Made(A)),
-        (ChannelCall::PollReceive(A, 5), Answer::Pending),
-        (ChannelCall::TryReceive, Answer::Refused(Fault::Empty)),
-        (ChannelCall::Close, Answer::Newly),
-        (ChannelCall::NextWake, Answer::Woken(Some(4))),
-        (ChannelCall::NextWake, Answer::Woken(Some(5))),
-        (ChannelCall::NextWake, Answer::Woken(None)),
-        (ChannelCall::PollNext(B, 4), Answer::End),
-        (ChannelCall::PollReceive(A, 5), Answer::Nothing),
-        (ChannelCall::TrySend(6), Answer::Back(6, Fault::Closed)),
-        (ChannelCall::CancelReceive(B), Answer::Done),
-    ];
-    let row = "channel array 1
+const CHANNEL_ENTRIES: [(ChannelCall<u64, u64>, Answer<u64, u64>); 29] = [
+    (ChannelCall::Send(1), Answer::Made(A)),
+    (ChannelCall::PollSend(A, 1), Answer::Done),
+    (ChannelCall::Send(2), Answer::Made(B)),
+    (ChannelCall::PollSend(B, 2), Answer::Pending),
+    (ChannelCall::TrySend(3), Answer::Back(3, Fault::Full)),
+    (ChannelCall::Receive, Answer::Made(A)),
+    (ChannelCall::PollReceive(A, 3), Answer::Item(1)),
+    (ChannelCall::NextWake, Answer::Woken(Some(2))),
+    (ChannelCall::NextWake, Answer::Woken(None)),
+    (ChannelCall::PollSend(B, 2), Answer::Done),
+    (ChannelCall::CancelSend(B), Answer::Nothing),
+    (ChannelCall::Send(4), Answer::Made(B)),
+    (ChannelCall::CancelSend(B), Answer::Item(4)),
+    (ChannelCall::Stream, Answer::Made(B)),
+    (ChannelCall::PollNext(B, 4), Answer::Item(2)),
+    (ChannelCall::PollNext(B, 4), Answer::Pending),
+    (
+        ChannelCall::PollReceive(B, 9),
+        Answer::Refused(Fault::NoSlot),
+    ),
+    (ChannelCall::CancelReceive(A), Answer::Done),
+    (ChannelCall::Receive, Answer::Made(A)),
+    (ChannelCall::PollReceive(A, 5), Answer::Pending),
+    (ChannelCall::TryReceive, Answer::Refused(Fault::Empty)),
+    (ChannelCall::Close, Answer::Newly),
+    (ChannelCall::NextWake, Answer::Woken(Some(4))),
+    (ChannelCall::NextWake, Answer::Woken(Some(5))),
+    (ChannelCall::NextWake, Answer::Woken(None)),
+    (ChannelCall::PollNext(B, 4), Answer::End),
+    (ChannelCall::PollReceive(A, 5), Answer::Nothing),
+    (ChannelCall::TrySend(6), Answer::Back(6, Fault::Closed)),
+    (ChannelCall::CancelReceive(B), Answer::Done),
+];
+
+const CHANNEL: &str = "channel array 1
 hold send s0 1
 hold poll s0 1 -> ok
 hold send s1 2
@@ -272,12 +278,16 @@ hold poll r1 4 -> end
 hold poll r0 5 -> none
 hold try-send 6 -> closed 6
 hold cancel r1 -> ok";
+
+/// Sends have slots of their own; receives and streams share theirs.
+#[test]
+fn channel_history(rt: HostRuntime) -> Result<(), Fail> {
     check_history::<ChannelState<u64, ArrayBuf<u64, 1>, u64>>(
         &rt,
         rt.alloc(),
         1,
-        entries.as_slice(),
-        row,
+        &CHANNEL_ENTRIES,
+        CHANNEL,
     )
 }
 
@@ -311,6 +321,23 @@ hold try-receive -> some 3";
     )
 }
 
+const MUTEX: &str = "mutex fair 7
+hold try-lock -> some 7
+hold lock l0
+hold lock l1
+hold poll l0 1 -> pending
+hold poll l1 2 -> pending
+unlock 8 -> ok wakes 1
+hold try-lock -> none
+cancel l0 -> ok wakes 2
+hold lock l0
+hold poll l1 2 -> some 8
+hold poll l0 3 -> pending
+hold unlock 9 -> ok
+unlock 10 -> not-held 10 wakes 3
+hold is-locked -> false
+hold poll l0 3 -> some 9";
+
 #[test]
 fn mutex_history(rt: HostRuntime) -> Result<(), Fail> {
     let entries = [
@@ -337,24 +364,29 @@ fn mutex_history(rt: HostRuntime) -> Result<(), Fail> {
         (MutexCall::IsLocked, Answer::Flag(false)),
         (MutexCall::Poll(A, 3), Answer::Item(9)),
     ];
-    let row = "mutex fair 7
-hold try-lock -> some 7
-hold lock l0
-hold lock l1
-hold poll l0 1 -> pending
-hold poll l1 2 -> pending
-unlock 8 -> ok wakes 1
-hold try-lock -> none
-cancel l0 -> ok wakes 2
-hold lock l0
-hold poll l1 2 -> some 8
-hold poll l0 3 -> pending
-hold unlock 9 -> ok
-unlock 10 -> not-held 10 wakes 3
-hold is-locked -> false
-hold poll l0 3 -> some 9";
-    check_history::<MutexState<u64, u64>>(&rt, rt.alloc(), (7, true), entries.as_slice(), row)
+    check_history::<MutexState<u64, u64>>(&rt, rt.alloc(), (7, true), entries.as_slice(), MUTEX)
 }
+
+const SEMAPHORE: &str = "semaphore fair 0
+hold acquire a0 1
+hold acquire a1 2
+hold acquire a2 2
+hold poll a0 1 -> pending
+hold poll a1 2 -> pending
+hold poll a2 3 -> pending
+release 4 -> ok wakes 1 2
+hold poll a1 2 -> ready
+hold permits -> 2
+cancel a0 -> ok wakes 3
+hold acquire a0 9
+hold poll a2 3 -> ready
+hold held -> 4
+hold give-back 5 -> not-held
+hold disarm 1 -> ok
+hold give-back 2 -> ok
+hold try-acquire 1 -> ok
+hold try-acquire 5 -> none
+hold release 18446744073709551615 -> overflow";
 
 #[test]
 fn semaphore_history(rt: HostRuntime) -> Result<(), Fail> {
@@ -388,27 +420,7 @@ fn semaphore_history(rt: HostRuntime) -> Result<(), Fail> {
             Answer::Refused(Fault::Overflow),
         ),
     ];
-    let row = "semaphore fair 0
-hold acquire a0 1
-hold acquire a1 2
-hold acquire a2 2
-hold poll a0 1 -> pending
-hold poll a1 2 -> pending
-hold poll a2 3 -> pending
-release 4 -> ok wakes 1 2
-hold poll a1 2 -> ready
-hold permits -> 2
-cancel a0 -> ok wakes 3
-hold acquire a0 9
-hold poll a2 3 -> ready
-hold held -> 4
-hold give-back 5 -> not-held
-hold disarm 1 -> ok
-hold give-back 2 -> ok
-hold try-acquire 1 -> ok
-hold try-acquire 5 -> none
-hold release 18446744073709551615 -> overflow";
-    check_history::<SemaphoreState<u64>>(&rt, rt.alloc(), (0, true), entries.as_slice(), row)
+    check_history::<SemaphoreState<u64>>(&rt, rt.alloc(), (0, true), entries.as_slice(), SEMAPHORE)
 }
 
 /// The first lines of an unfair mutex and an unfair semaphore.
@@ -462,6 +474,28 @@ hold next -> none";
     check_history::<TimerState<u64>>(&rt, rt.alloc(), (), entries.as_slice(), row)
 }
 
+const POOL: &str = "pool 1 2
+hold submit 5 -> ok
+hold submit 6 -> ok
+hold submit 7 -> full 7
+hold start -> some 5
+hold start -> none
+hold wait w0
+hold poll w0 1 -> pending
+hold wait w1
+hold cancel w1 -> ok
+hold wait w1
+hold poll w1 3 -> pending
+hold shutdown -> newly-closed
+hold submit 8 -> closed 8
+hold finish -> ok
+hold start -> some 6
+finish -> ok wakes 1 3
+hold poll w0 1 -> ready
+hold start -> closed
+hold finish -> not-held
+hold shutdown -> already-closed";
+
 #[test]
 fn pool_history(rt: HostRuntime) -> Result<(), Fail> {
     let entries = [
@@ -490,26 +524,5 @@ fn pool_history(rt: HostRuntime) -> Result<(), Fail> {
         (PoolCall::Finish, Answer::Refused(Fault::NotHeld)),
         (PoolCall::Shutdown, Answer::Already),
     ];
-    let row = "pool 1 2
-hold submit 5 -> ok
-hold submit 6 -> ok
-hold submit 7 -> full 7
-hold start -> some 5
-hold start -> none
-hold wait w0
-hold poll w0 1 -> pending
-hold wait w1
-hold cancel w1 -> ok
-hold wait w1
-hold poll w1 3 -> pending
-hold shutdown -> newly-closed
-hold submit 8 -> closed 8
-hold finish -> ok
-hold start -> some 6
-finish -> ok wakes 1 3
-hold poll w0 1 -> ready
-hold start -> closed
-hold finish -> not-held
-hold shutdown -> already-closed";
-    check_history::<PoolState<u64>>(&rt, rt.alloc(), (1, 2), entries.as_slice(), row)
+    check_history::<PoolState<u64>>(&rt, rt.alloc(), (1, 2), entries.as_slice(), POOL)
 }
