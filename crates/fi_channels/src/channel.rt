@@ -264,6 +264,7 @@ impl<T: Drop, B: RingBuf<Item = T>, W: Drop> ChannelState<T, B, W> {
     /// and nothing has changed.
     pub fn claim_send(&mut self, value: T) -> Result<Slot, NoRoom<T>>
         ensures made { IfOk result (λ slot. MakesSend self.old value slot.0 self.new) }
+        ensures pollable { IfOk result (λ slot. channel.can_send (send_phase self.new slot.0) ≡ true) }
         ensures refused { OnErr result (self.new ≡ self.old) }
         ensures handed_back { IfErr result (λ failed. failed.0 ≡ value) }
         ensures apart { IfOk result (λ slot. IsApartFromSends slot.0 self.old) }
@@ -275,6 +276,8 @@ impl<T: Drop, B: RingBuf<Item = T>, W: Drop> ChannelState<T, B, W> {
     /// Makes a receive of one value under a slot that was not live. Refused only with `NoMemory`; then nothing has changed.
     pub fn claim_receive(&mut self) -> Result<Slot, Fault>
         ensures made { IfOk result (λ slot. MakesReceive self.old Single slot.0 self.new) }
+        ensures pollable { IfOk result
+            (λ slot. channel.can_receive (kind_of self.new slot.0) (receive_phase self.new slot.0) ≡ true) }
         ensures refused { OnErr result (self.new ≡ self.old) }
         ensures fault { IfErr result (λ fault. fault ≡ Fault.NoMemory) }
         ensures apart { IfOk result (λ slot. IsApartFromReceives slot.0 self.old) }
@@ -286,6 +289,8 @@ impl<T: Drop, B: RingBuf<Item = T>, W: Drop> ChannelState<T, B, W> {
     /// Makes a stream under a slot that was not live. Refused only with `NoMemory`; then nothing has changed.
     pub fn claim_stream(&mut self) -> Result<Slot, Fault>
         ensures made { IfOk result (λ slot. MakesReceive self.old Stream slot.0 self.new) }
+        ensures pollable { IfOk result
+            (λ slot. channel.can_stream (kind_of self.new slot.0) (receive_phase self.new slot.0) ≡ true) }
         ensures refused { OnErr result (self.new ≡ self.old) }
         ensures fault { IfErr result (λ fault. fault ≡ Fault.NoMemory) }
         ensures apart { IfOk result (λ slot. IsApartFromReceives slot.0 self.old) }
@@ -332,6 +337,8 @@ impl<T: Drop, B: RingBuf<Item = T>, W: Drop> ChannelState<T, B, W> {
         ensures polled { IfOk result (λ polled. PollsNext self.old slot.0 waker polled.0 self.new) }
         ensures displaced { IfOk result (λ polled. polled.1.displaced ≡ displaced_receive self.old slot.0) }
         ensures unused { IfOk result (λ polled. polled.1.unused ≡ unused_after polled.0 waker) }
+        ensures live { IfOk result
+            (λ _. channel.can_stream (kind_of self.new slot.0) (receive_phase self.new slot.0) ≡ true) }
         ensures others { IfOk result (λ polled. OtherReceivesStay slot.0 self.old self.new) }
         ensures refused { OnErr result
             ((channel.can_stream (kind_of self.old slot.0) (receive_phase self.old slot.0) ≡ false) × (self.new ≡ self.old)) }

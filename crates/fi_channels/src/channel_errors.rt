@@ -4,6 +4,7 @@ ghost use Rattle.std.specs.Prelude.{◌≡◌, Bool};
 use fi_parts::Fault;
 use std::error::Error;
 use std::fmt;
+use std::io::{self, ErrorKind};
 
 /// Why a send ended without its value, or got no further.
 ///
@@ -35,6 +36,17 @@ impl<T> fmt::Display for SendFault<T> {
 }
 
 impl<T: fmt::Debug + Drop> Error for SendFault<T> {}
+
+/// So that `?` serves where an `io::Error` is answered: `BrokenPipe` where the channel is closed (the value is dropped), else as the
+/// fault converts.
+impl<T: Drop> From<SendFault<T>> for io::Error {
+    fn from(fault: SendFault<T>) -> io::Error {
+        match fault {
+            SendFault::Closed(_) => io::Error::from(ErrorKind::BrokenPipe),
+            SendFault::Fault(fault) => io::Error::from(fault),
+        }
+    }
+}
 
 /// Why a value was not sent at once; it is handed back.
 ///
@@ -70,6 +82,18 @@ impl<T> fmt::Display for TrySendError<T> {
 }
 
 impl<T: fmt::Debug + Drop> Error for TrySendError<T> {}
+
+/// So that `?` serves where an `io::Error` is answered: `WouldBlock` where the channel is full, `BrokenPipe` where it is closed,
+/// `OutOfMemory` where its buffer could not grow. The value is dropped.
+impl<T: Drop> From<TrySendError<T>> for io::Error {
+    fn from(refused: TrySendError<T>) -> io::Error {
+        io::Error::from(match refused {
+            TrySendError::Full(_) => ErrorKind::WouldBlock,
+            TrySendError::Closed(_) => ErrorKind::BrokenPipe,
+            TrySendError::NoMemory(_) => ErrorKind::OutOfMemory,
+        })
+    }
+}
 
 impl<T: Drop> TrySendError<T> {
     ghost use Rattle.fi_channels.specs.ChannelErrors.{value_in, is_full, is_closed_to, is_memory};
@@ -151,6 +175,16 @@ impl fmt::Display for TryReceiveError {
 }
 
 impl Error for TryReceiveError {}
+
+/// So that `?` serves where an `io::Error` is answered: `WouldBlock` where the channel is empty, `BrokenPipe` where it is closed too.
+impl From<TryReceiveError> for io::Error {
+    fn from(refused: TryReceiveError) -> io::Error {
+        io::Error::from(match refused {
+            TryReceiveError::Empty => ErrorKind::WouldBlock,
+            TryReceiveError::Closed => ErrorKind::BrokenPipe,
+        })
+    }
+}
 
 impl TryReceiveError {
     ghost use Rattle.fi_channels.specs.ChannelErrors.{is_empty};

@@ -50,6 +50,8 @@ impl LocalFutureOf<ChannelStreaming> {
     ) -> Option<Poll<Option<T>>>
         ensures polled { IfSome result (λ answer. PollsNext channel.old self.old.name waker answer channel.new) }
         ensures ended { IfSome result (λ answer. self.new ≡ record { name = self.old.name; has_ended = is_end answer }) }
+        ensures live { IfSome result
+            (λ _. can_stream (kind_of channel.new self.old.name) (receive_phase channel.new self.old.name) ≡ true) }
         ensures others { IfSome result (λ answer. OtherReceivesStay self.old.name channel.old channel.new) }
         ensures refused { IfNone result (can_stream (kind_of channel.old self.old.name) (receive_phase channel.old self.old.name) ≡ false) }
         ensures unchanged { IfNone result ((channel.new ≡ channel.old) × (self.new ≡ self.old)) }

@@ -63,6 +63,8 @@ impl LocalFutureOf<ChannelSend> {
         C::Waker: Drop,
         ensures polled { IfSome result (λ answer. C.sends channel.old self.old.name waker answer channel.new) }
         ensures ended { IfSome result (λ answer. self.new ≡ record { name = self.old.name; has_ended = has_sent answer }) }
+        ensures live { IfSome result (λ _. C.is_sending channel.new self.old.name ≡ true) }
+        ensures pending { IfSome result (λ answer. OnPending answer (C.is_sendable channel.new self.old.name ≡ true)) }
         ensures others { IfSome result (λ answer. C.others_stay self.old.name channel.old channel.new) }
         ensures refused { IfNone result (C.is_sendable channel.old self.old.name ≡ false) }
         ensures unchanged { IfNone result ((channel.new ≡ channel.old) × (self.new ≡ self.old)) }

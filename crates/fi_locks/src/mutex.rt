@@ -176,6 +176,7 @@ impl<T: Drop, W: Drop> MutexState<T, W> {
     /// Makes a future under a slot that was not live. Refused only with `NoMemory`; then nothing has changed.
     pub fn claim_lock(&mut self) -> Result<Slot, Fault>
         ensures made { IfOk result (λ slot. Makes self.old slot.0 self.new) }
+        ensures pollable { IfOk result (λ slot. can_be_polled (phase_at self.new slot.0) ≡ true) }
         ensures refused { OnErr result (self.new ≡ self.old) }
         ensures fault { IfErr result (λ fault. fault ≡ Fault.NoMemory) }
         ensures apart { IfOk result (λ slot. IsApart slot.0 self.old) }
@@ -231,6 +232,8 @@ impl<T: Drop, W: Drop> MutexState<T, W> {
         ensures polled { IfOk result (λ polled. Polls self.old slot.0 waker polled.0 self.new) }
         ensures displaced { IfOk result (λ polled. polled.1.displaced ≡ displaced_at self.old slot.0) }
         ensures unused { IfOk result (λ polled. polled.1.unused ≡ unused_after polled.0 waker) }
+        ensures live { IfOk result (λ _. is_some (phase_at self.new slot.0) ≡ true) }
+        ensures pending { IfOk result (λ polled. OnPending polled.0 (can_be_polled (phase_at self.new slot.0) ≡ true)) }
         ensures locked { IfOk result (λ polled. IsLockedIfReady polled.0 self.new) }
         ensures refused { OnErr result ((can_be_polled (phase_at self.old slot.0) ≡ false) × (self.new ≡ self.old)) }
         ensures handed_back { IfErr result (λ back. back ≡ waker) }

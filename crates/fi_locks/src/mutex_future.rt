@@ -88,6 +88,8 @@ impl LocalMutexLockFuture {
     ) -> Option<Poll<LocalMutexGuard<T>>>
         ensures polled { IfSome result (λ answer. Polls mutex.old self.old.name waker answer mutex.new) }
         ensures ended { IfSome result (λ answer. self.new ≡ record { name = self.old.name; has_ended = is_ready answer }) }
+        ensures live { IfSome result (λ _. is_some (phase_at mutex.new self.old.name) ≡ true) }
+        ensures pending { IfSome result (λ answer. OnPending answer (can_be_polled (phase_at mutex.new self.old.name) ≡ true)) }
         ensures locked { IfSome result (λ answer. IsLockedIfReady answer mutex.new) }
         ensures refused { IfNone result (can_be_polled (phase_at mutex.old self.old.name) ≡ false) }
         ensures unchanged { IfNone result ((mutex.new ≡ mutex.old) × (self.new ≡ self.old)) }

@@ -206,6 +206,7 @@ impl<W: Drop> SemaphoreState<W> {
     /// has changed.
     pub fn claim_acquire(&mut self, permits: usize) -> Result<Slot, Fault>
         ensures made { IfOk result (λ slot. Makes self.old permits slot.0 self.new) }
+        ensures pollable { IfOk result (λ slot. can_be_polled (phase_at self.new slot.0) ≡ true) }
         ensures refused { OnErr result (self.new ≡ self.old) }
         ensures fault { IfErr result (λ fault. fault ≡ Fault.NoMemory) }
         ensures apart { IfOk result (λ slot. IsApart slot.0 self.old) }
@@ -262,6 +263,8 @@ impl<W: Drop> SemaphoreState<W> {
         ensures held { IfOk result (λ polled. AreHeld polled.0 self.new.own.held) }
         ensures displaced { IfOk result (λ polled. polled.1.displaced ≡ displaced_at self.old slot.0) }
         ensures unused { IfOk result (λ polled. polled.1.unused ≡ unused_after polled.0 waker) }
+        ensures live { IfOk result (λ _. is_some (phase_at self.new slot.0) ≡ true) }
+        ensures pending { IfOk result (λ polled. OnPending polled.0 (can_be_polled (phase_at self.new slot.0) ≡ true)) }
         ensures refused { OnErr result ((can_be_polled (phase_at self.old slot.0) ≡ false) × (self.new ≡ self.old)) }
         ensures handed_back { IfErr result (λ back. back ≡ waker) }
         ensures others { OthersStay can_be_polled slot.0 self.old self.new }

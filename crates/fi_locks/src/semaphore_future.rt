@@ -104,6 +104,8 @@ impl LocalSemaphoreAcquireFuture {
         ensures polled { IfSome result (λ answer. Polls semaphore.old self.old.name waker answer semaphore.new) }
         ensures held { IfSome result (λ answer. AreHeld answer semaphore.new.own.held) }
         ensures ended { IfSome result (λ answer. self.new ≡ record { name = self.old.name; has_ended = is_ready answer }) }
+        ensures live { IfSome result (λ _. is_some (phase_at semaphore.new self.old.name) ≡ true) }
+        ensures pending { IfSome result (λ answer. OnPending answer (can_be_polled (phase_at semaphore.new self.old.name) ≡ true)) }
         ensures refused { IfNone result (can_be_polled (phase_at semaphore.old self.old.name) ≡ false) }
         ensures unchanged { IfNone result ((semaphore.new ≡ semaphore.old) × (self.new ≡ self.old)) }
         ensures others { OthersStay can_be_polled self.old.name semaphore.old semaphore.new }
@@ -175,6 +177,7 @@ impl LocalSemaphoreReleaser {
         ensures held { result ≡ nat_le self semaphore.old.own.held }
         ensures given_back { result ≡ true → GivesBack semaphore.old self semaphore.new }
         ensures unchanged { result ≡ false → semaphore.new ≡ semaphore.old }
+        ensures all_stay { AllStay can_be_polled semaphore.old semaphore.new }
     {
         let LocalSemaphoreReleaser { permits: count } = self;
         if count > semaphore.held() {

@@ -169,6 +169,7 @@ impl<W: Drop> TimerState<W> {
     /// nothing has changed.
     pub fn claim_deadline(&mut self, expiry: u64) -> Result<Slot, Fault>
         ensures made { IfOk result (λ slot. Makes self.old expiry slot.0 self.new) }
+        ensures pollable { IfOk result (λ slot. can_be_polled (phase_at self.new slot.0) ≡ true) }
         ensures refused { OnErr result (self.new ≡ self.old) }
         ensures fault { IfErr result (λ fault. fault ≡ Fault.NoMemory) }
         ensures apart { IfOk result (λ slot. IsApart slot.0 self.old) }
@@ -181,6 +182,7 @@ impl<W: Drop> TimerState<W> {
     /// milliseconds, rounded down; the expiry is at most `u64::MAX`. Refused only with `NoMemory`; then nothing has changed.
     pub fn claim_delay(&mut self, now: u64, delay: Duration) -> Result<Slot, Fault>
         ensures made { IfOk result (λ slot. Makes self.old (expiry_after now (as_nanos delay)) slot.0 self.new) }
+        ensures pollable { IfOk result (λ slot. can_be_polled (phase_at self.new slot.0) ≡ true) }
         ensures refused { OnErr result (self.new ≡ self.old) }
         ensures fault { IfErr result (λ fault. fault ≡ Fault.NoMemory) }
         ensures apart { IfOk result (λ slot. IsApart slot.0 self.old) }
@@ -240,6 +242,8 @@ impl<W: Drop> TimerState<W> {
         ensures polled { IfOk result (λ polled. Polls self.old slot.0 now waker polled.0 self.new) }
         ensures displaced { IfOk result (λ polled. polled.1.displaced ≡ displaced_at self.old slot.0) }
         ensures unused { IfOk result (λ polled. polled.1.unused ≡ unused_after polled.0 waker) }
+        ensures live { IfOk result (λ _. is_some (phase_at self.new slot.0) ≡ true) }
+        ensures pending { IfOk result (λ polled. OnPending polled.0 (can_be_polled (phase_at self.new slot.0) ≡ true)) }
         ensures refused { OnErr result ((can_be_polled (phase_at self.old slot.0) ≡ false) × (self.new ≡ self.old)) }
         ensures handed_back { IfErr result (λ back. back ≡ waker) }
         ensures others { OthersStay can_be_polled slot.0 self.old self.new }

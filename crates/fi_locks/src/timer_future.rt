@@ -87,6 +87,8 @@ impl LocalTimerFuture {
     ) -> Option<Poll<()>>
         ensures polled { IfSome result (λ answer. Polls timer.old self.old.name now waker answer timer.new) }
         ensures ended { IfSome result (λ answer. self.new ≡ record { name = self.old.name; has_ended = is_ready answer }) }
+        ensures live { IfSome result (λ _. is_some (phase_at timer.new self.old.name) ≡ true) }
+        ensures pending { IfSome result (λ answer. OnPending answer (can_be_polled (phase_at timer.new self.old.name) ≡ true)) }
         ensures refused { IfNone result (can_be_polled (phase_at timer.old self.old.name) ≡ false) }
         ensures unchanged { IfNone result ((timer.new ≡ timer.old) × (self.new ≡ self.old)) }
         ensures others { OthersStay can_be_polled self.old.name timer.old timer.new }

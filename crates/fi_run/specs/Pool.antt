@@ -9,6 +9,7 @@ use Rattle.fi_parts.specs.Machine.{phase_at}
 use Rattle.fi_channels.specs.Channel.{Buffered, buffered_code, Stores, IsGrowing, has_room, with_buffer, closed}
 use Rattle.fi_channels.specs.Event as event
 use Rattle.fi_channels.specs.Event.{EventMachine, event_code}
+use Rattle.fi_run.specs.Outgoing.{Outgoing, machine_outgoing}
 use Rattle.fi_run.specs.Run.{AfterEveryRun}
 use Rattle.fi_run.specs.declared.answer.Answer.{Answer}
 use Rattle.fi_run.specs.declared.answer.Answer.TheVariants.{Made, Pending, Ready, Item, Nothing, Done, Newly, Already, Woken, Back, Refused}
@@ -132,6 +133,13 @@ module _ {W : Type 0} where
   -- No wake is owed: a wait is registered only while the event is not set.
   abbrev pub OwesNoWake : PoolMachine W → Type 0
   OwesNoWake pool = event.OwesNoWake pool.drained
+
+  -- Its wakers to be woken are those of the event.
+  abbrev pub pool_outgoing : Outgoing (PoolMachine W) W
+  pool_outgoing = record {
+    wakers = λ pool. machine_outgoing.wakers pool.drained;
+    without_wakers = λ pool. record pool { drained = machine_outgoing.without_wakers pool.drained };
+  }
 
   -- This holds after every run of a pool from a state that is sound and owes no wake: of that state, the history since, and the
   -- state at the end.

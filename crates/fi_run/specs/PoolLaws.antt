@@ -17,10 +17,10 @@ use Rattle.fi_run.specs.declared.event.EventCall.TheVariants as waits
 use Rattle.fi_run.specs.declared.pool.PoolCall.{PoolCall}
 use Rattle.fi_run.specs.declared.pool.PoolCall.TheVariants.{Submit, Start, Finish, Shutdown, Wait, Poll, Cancel, NextWake}
 use Rattle.fi_run.specs.EventLaws.{event_is_line, flag_after_step}
-use Rattle.fi_run.specs.Outgoing.{Outgoing, TakesOldest, machine_outgoing, pops_oldest}
+use Rattle.fi_run.specs.Outgoing.{TakesOldest, pops_oldest}
 use Rattle.fi_run.specs.WakerEffects.{on_wakers}
 use Rattle.fi_run.specs.Pool.{PoolMachine, is_drained, is_none_left, opened, SetsIf, Accepts, Starts, Finishes, Shuts, KeepsJobs, Step}
-use Rattle.fi_run.specs.Pool.{Opens, IsSound, OwesNoWake}
+use Rattle.fi_run.specs.Pool.{Opens, IsSound, OwesNoWake, pool_outgoing}
 use Rattle.fi_run.specs.PoolHistory.{accepted_step, started_step, finished_step, accepted_jobs, started_jobs, finished_count}
 use Rattle.fi_run.specs.PoolHistory.{subject, HistoryHolds}
 
@@ -241,12 +241,6 @@ module _ {W : Type 0} where
     count_after call answer did = absurd did
 
   -- the trait's laws
-  abbrev pub pool_outgoing : Outgoing (PoolMachine W) W
-  pool_outgoing = record {
-    wakers = λ pool. machine_outgoing.wakers pool.drained;
-    without_wakers = λ pool. record pool { drained = machine_outgoing.without_wakers pool.drained };
-  }
-
   opened_balanced : (limit capacity reserved : ℕ) → reserved ≤ capacity → IsBalanced (opened {W = W} limit (empty capacity reserved))
   opened_balanced limit capacity reserved fits = record { set = refl; within = omega arith; fits = (omega arith, fits) }
 

@@ -1,5 +1,5 @@
 -- Which entries of a history a script can't say.
-use Rattle.std.specs.Prelude.{◌≡◌, ⊤, ℕ, ◌+◌, Bool, true, false, List, Option, Some, None, slice_get}
+use Rattle.std.specs.Prelude.{◌≡◌, ⊤, ◌+◌, Bool, true, false, List, Option, Some, None, slice_get}
 use Rattle.fi_run.specs.declared.answer.Answer.{Answer}
 use Rattle.fi_run.specs.declared.answer.Answer.TheVariants.{Woken}
 use Rattle.fi_run.specs.declared.journal.Entry.{Entry}

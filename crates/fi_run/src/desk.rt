@@ -13,6 +13,7 @@ use fi_parts::Fault;
 use std::alloc::Global;
 use std::error::Error;
 use std::fmt;
+use std::io::{self, ErrorKind};
 use std::marker::Model;
 use std::sync::ledger::{Blank, Book, Ledger, Share};
 use std::sync::{Mutex, Wait};
@@ -47,6 +48,13 @@ impl fmt::Display for Mismatch {
 }
 
 impl Error for Mismatch {}
+
+/// So that `?` serves where an `io::Error` is answered: `InvalidData`.
+impl From<Mismatch> for io::Error {
+    fn from(_mismatch: Mismatch) -> io::Error {
+        io::Error::from(ErrorKind::InvalidData)
+    }
+}
 
 /// A seat at a desk: its number, and the receipts of its calls in the order of the calls.
 ///

@@ -50,11 +50,11 @@ pub enum PoolCall<W> {
 }
 
 impl<W: Drop> Primitive for PoolState<W> {
-    ghost use Rattle.fi_run.specs.Pool.{IsSound, OwesNoWake, Opens, Step};
+    ghost use Rattle.fi_run.specs.Pool.{IsSound, OwesNoWake, Opens, Step, pool_outgoing};
     ghost use Rattle.fi_run.specs.PoolHistory.{HistoryHolds};
     ghost use Rattle.fi_run.specs.declared.answer.Answer.TheVariants.{Woken};
     ghost use Rattle.fi_run.specs.declared.pool.PoolCall.TheVariants.{NextWake};
-    ghost use Rattle.fi_run.specs.PoolLaws.{pool_outgoing, pool_starts, pool_keeps, pool_takes_oldest};
+    ghost use Rattle.fi_run.specs.PoolLaws.{pool_starts, pool_keeps, pool_takes_oldest};
     ghost use Rattle.fi_run.specs.PoolLaws.{pool_history_initial, pool_history_preserved};
 
     type Opening = (usize, usize);

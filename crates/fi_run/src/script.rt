@@ -9,6 +9,7 @@ use fi_parts::Fault;
 use std::alloc::AllocError;
 use std::error::Error;
 use std::fmt;
+use std::io::{self, ErrorKind};
 
 mod channel;
 mod event;
@@ -56,6 +57,16 @@ impl fmt::Display for ScriptError {
 }
 
 impl Error for ScriptError {}
+
+/// So that `?` serves where an `io::Error` is answered: want of memory stays `OutOfMemory`, all else is `InvalidData`.
+impl From<ScriptError> for io::Error {
+    fn from(error: ScriptError) -> io::Error {
+        io::Error::from(match error {
+            ScriptError::NoMemory => ErrorKind::OutOfMemory,
+            ScriptError::Opening | ScriptError::Wakers(_) => ErrorKind::InvalidData,
+        })
+    }
+}
 
 impl From<AllocError> for ScriptError {
     ghost use Rattle.std.specs.Prelude.{◌≡◌};

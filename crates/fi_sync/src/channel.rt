@@ -169,6 +169,7 @@ impl<T: Drop, B: RingBuf<Item = T>, R: Wait> GenericChannel<T, B, R> {
     /// A stream of the values, which ends once the channel is closed and empty. Refused only with `NoMemory`; then nothing has
     /// changed. Keeps `GenericChannel::stream`.
     pub fn stream(&self) -> Result<ChannelStream<'_, T, B, R>, Fault>
+        ensures made { IfOk result (λ stream. IsNew self.now stream) }
         ensures fault { IfErr result (λ fault. fault ≡ Fault.NoMemory) }
     {
         let claim = self

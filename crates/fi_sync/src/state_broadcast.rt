@@ -88,7 +88,9 @@ impl<T: Clone, R: Wait> StateBroadcastChannel<T, R> {
 
     /// A clone of the newest state with its number, if that is greater than `seen`. Refused with `NoMemory` where the clone could
     /// not be allocated. Keeps `StateBroadcastChannel::try_receive`.
-    pub fn try_receive(&self, seen: StateId) -> Result<Option<(StateId, T)>, Fault> {
+    pub fn try_receive(&self, seen: StateId) -> Result<Option<(StateId, T)>, Fault>
+        ensures fault { IfErr result (λ fault. fault ≡ Fault.NoMemory) }
+    {
         self.monitor
             .call(seen, |channel, seen| channel.try_receive(seen))
     }

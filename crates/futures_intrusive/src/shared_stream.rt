@@ -1,9 +1,10 @@
 //! The stream of a channel that owns its receiver.
-ghost use Rattle.std.specs.Prelude.{◌≡◌, Option, IfErr};
+ghost use Rattle.std.specs.Prelude.{◌≡◌, Option, IfOk, IfErr};
 ghost use Rattle.futures.specs.Poll.{OnPending};
 ghost use Rattle.futures.specs.Task.{Covers, Keeps};
 ghost use Rattle.futures.specs.declared.task.waker.Waker.{Waker};
 ghost use Rattle.fi_sync.specs.Streams.{IsStreamAnswer, streamed};
+ghost use Rattle.fi_sync.specs.Waiting.{IsNew};
 ghost use Rattle.futures_intrusive.specs.SharedStreams.{PollsSharedStream};
 
 use crate::channel_ends::{GenericReceiver, SharedChannelState};
@@ -44,7 +45,8 @@ impl<T: Drop, B: RingBuf<Item = T>, R: Wait + Drop> GenericReceiver<T, B, R> {
     /// A stream of the values, which keeps the receiver. Refused only for want of memory; then the receiver comes back, and nothing
     /// has changed. Keeps `GenericReceiver::into_stream`.
     pub fn into_stream(self) -> Result<SharedStream<T, B, R>, Self>
-        ensures { IfErr result (λ receiver. receiver ≡ self) }
+        ensures made { IfOk result (λ stream. IsNew self stream) }
+        ensures handed_back { IfErr result (λ receiver. receiver ≡ self) }
     {
         let Ok(shared) = self.share() else {
             return Err(self);

@@ -6,45 +6,44 @@ use crate::answer::Answer;
 use crate::channel::ChannelCall;
 use fi_channels::ChannelState;
 use fi_parts::Slot;
-use fi_parts::buffer::{ArrayBuf, FixedHeapBuf, GrowingHeapBuf};
+use fi_parts::buffer::{ArrayBuf, FixedHeapBuf, GrowingHeapBuf, RingBuf};
 use std::alloc::AllocError;
 
-impl<const N: usize> ScriptLines for ChannelState<u64, ArrayBuf<u64, N>, u64> {
+/// A buffer over which a first line opens a channel.
+pub trait ScriptBuffer {
+    /// Writes the first line but for its end. Refused with `Opening` if none opens a channel over a buffer of this capacity, and with
+    /// `NoMemory`.
+    fn write_opening(script: &mut String, capacity: usize) -> Result<(), ScriptError>
+        ensures unwritten { IfErr result (λ error. error ≢ ScriptError.NoMemory → script.new ≡ script.old) }
+        ensures fault { IfErr result (λ error. (error ≡ ScriptError.NoMemory) ⊎ (error ≡ ScriptError.Opening)) };
+}
+
+impl<const N: usize> ScriptBuffer for ArrayBuf<u64, N> {
     /// The capacity is the array's, whatever was asked for.
-    fn write_opening(script: &mut String, _opening: &usize) -> Result<(), ScriptError> {
+    fn write_opening(script: &mut String, _capacity: usize) -> Result<(), ScriptError> {
         if !matches!(N, 0 | 1 | 2 | 5) {
             return Err(ScriptError::Opening);
         }
         write!(script, "channel array {N}")?;
         Ok(())
     }
+}
 
-    fn write_call(
-        script: &mut String,
-        call: &ChannelCall<u64, u64>,
-        answer: &Answer<u64, u64>,
-    ) -> Result<(), AllocError> {
-        write_channel_call(script, *call, *answer)
+impl ScriptBuffer for FixedHeapBuf<u64> {
+    fn write_opening(script: &mut String, capacity: usize) -> Result<(), ScriptError> {
+        write_heap_opening(script, "fixed", capacity)
     }
 }
 
-impl ScriptLines for ChannelState<u64, FixedHeapBuf<u64>, u64> {
-    fn write_opening(script: &mut String, opening: &usize) -> Result<(), ScriptError> {
-        write_heap_opening(script, "fixed", *opening)
-    }
-
-    fn write_call(
-        script: &mut String,
-        call: &ChannelCall<u64, u64>,
-        answer: &Answer<u64, u64>,
-    ) -> Result<(), AllocError> {
-        write_channel_call(script, *call, *answer)
+impl ScriptBuffer for GrowingHeapBuf<u64> {
+    fn write_opening(script: &mut String, capacity: usize) -> Result<(), ScriptError> {
+        write_heap_opening(script, "growing", capacity)
     }
 }
 
-impl ScriptLines for ChannelState<u64, GrowingHeapBuf<u64>, u64> {
+impl<B: RingBuf<Item = u64> + ScriptBuffer> ScriptLines for ChannelState<u64, B, u64> {
     fn write_opening(script: &mut String, opening: &usize) -> Result<(), ScriptError> {
-        write_heap_opening(script, "growing", *opening)
+        B::write_opening(script, *opening)
     }
 
     fn write_call(
@@ -52,7 +51,33 @@ impl ScriptLines for ChannelState<u64, GrowingHeapBuf<u64>, u64> {
         call: &ChannelCall<u64, u64>,
         answer: &Answer<u64, u64>,
     ) -> Result<(), AllocError> {
-        write_channel_call(script, *call, *answer)
+        match (*call, *answer) {
+            (ChannelCall::Send(value), Answer::Made(Slot(send))) => {
+                write!(script, "send s{send} {value}")
+            }
+            (ChannelCall::Receive, Answer::Made(Slot(receive))) => {
+                write!(script, "receive r{receive}")
+            }
+            (ChannelCall::Stream, Answer::Made(Slot(stream))) => write!(script, "stream r{stream}"),
+            (ChannelCall::PollSend(Slot(send), waker), _) => write!(script, "poll s{send} {waker}"),
+            (
+                ChannelCall::PollReceive(Slot(receive), waker)
+                | ChannelCall::PollNext(Slot(receive), waker),
+                _,
+            ) => write!(script, "poll r{receive} {waker}"),
+            (ChannelCall::CancelSend(Slot(send)), _) => write!(script, "cancel s{send}"),
+            (ChannelCall::CancelReceive(Slot(receive)), _) => write!(script, "cancel r{receive}"),
+            (ChannelCall::TrySend(value), _) => write!(script, "try-send {value}"),
+            (ChannelCall::TryReceive, _) => script.push_str("try-receive"),
+            (ChannelCall::Close, _) => script.push_str("close"),
+            (
+                ChannelCall::Send(_)
+                | ChannelCall::Receive
+                | ChannelCall::Stream
+                | ChannelCall::NextWake,
+                _,
+            ) => Ok(()),
+        }
     }
 }
 
@@ -66,38 +91,4 @@ fn write_heap_opening(script: &mut String, kind: &str, capacity: usize) -> Resul
     }
     write!(script, "channel {kind} {capacity}")?;
     Ok(())
-}
-
-fn write_channel_call(
-    script: &mut String,
-    call: ChannelCall<u64, u64>,
-    answer: Answer<u64, u64>,
-) -> Result<(), AllocError> {
-    match (call, answer) {
-        (ChannelCall::Send(value), Answer::Made(Slot(send))) => {
-            write!(script, "send s{send} {value}")
-        }
-        (ChannelCall::Receive, Answer::Made(Slot(receive))) => {
-            write!(script, "receive r{receive}")
-        }
-        (ChannelCall::Stream, Answer::Made(Slot(stream))) => write!(script, "stream r{stream}"),
-        (ChannelCall::PollSend(Slot(send), waker), _) => write!(script, "poll s{send} {waker}"),
-        (
-            ChannelCall::PollReceive(Slot(receive), waker)
-            | ChannelCall::PollNext(Slot(receive), waker),
-            _,
-        ) => write!(script, "poll r{receive} {waker}"),
-        (ChannelCall::CancelSend(Slot(send)), _) => write!(script, "cancel s{send}"),
-        (ChannelCall::CancelReceive(Slot(receive)), _) => write!(script, "cancel r{receive}"),
-        (ChannelCall::TrySend(value), _) => write!(script, "try-send {value}"),
-        (ChannelCall::TryReceive, _) => script.push_str("try-receive"),
-        (ChannelCall::Close, _) => script.push_str("close"),
-        (
-            ChannelCall::Send(_)
-            | ChannelCall::Receive
-            | ChannelCall::Stream
-            | ChannelCall::NextWake,
-            _,
-        ) => Ok(()),
-    }
 }

@@ -2,13 +2,26 @@
 use super::{ScriptError, ScriptLines};
 use crate::answer::Answer;
 use crate::oneshot::OneshotCall;
-use fi_channels::{OneshotBroadcastState, OneshotState};
+use fi_channels::{ClonesValue, GivesValue, OneValueState, TakesValue};
 use fi_parts::Slot;
 use std::alloc::AllocError;
 
-impl ScriptLines for OneshotState<u64, u64> {
+/// A way of giving the value whose channel has a name in scripts.
+pub trait ScriptGiving {
+    const NAME: &'static str;
+}
+
+impl ScriptGiving for TakesValue {
+    const NAME: &'static str = "oneshot";
+}
+
+impl ScriptGiving for ClonesValue {
+    const NAME: &'static str = "oneshot-broadcast";
+}
+
+impl<G: GivesValue<u64> + ScriptGiving> ScriptLines for OneValueState<u64, u64, G> {
     fn write_opening(script: &mut String, _opening: &()) -> Result<(), ScriptError> {
-        script.push_str("oneshot")?;
+        script.push_str(G::NAME)?;
         Ok(())
     }
 
@@ -17,38 +30,18 @@ impl ScriptLines for OneshotState<u64, u64> {
         call: &OneshotCall<u64, u64>,
         answer: &Answer<u64, u64>,
     ) -> Result<(), AllocError> {
-        write_oneshot_call(script, *call, *answer)
-    }
-}
-
-impl ScriptLines for OneshotBroadcastState<u64, u64> {
-    fn write_opening(script: &mut String, _opening: &()) -> Result<(), ScriptError> {
-        script.push_str("oneshot-broadcast")?;
-        Ok(())
-    }
-
-    fn write_call(
-        script: &mut String,
-        call: &OneshotCall<u64, u64>,
-        answer: &Answer<u64, u64>,
-    ) -> Result<(), AllocError> {
-        write_oneshot_call(script, *call, *answer)
-    }
-}
-
-fn write_oneshot_call(
-    script: &mut String,
-    call: OneshotCall<u64, u64>,
-    answer: Answer<u64, u64>,
-) -> Result<(), AllocError> {
-    match (call, answer) {
-        (OneshotCall::Receive, Answer::Made(Slot(receive))) => {
-            write!(script, "receive r{receive}")
+        match (*call, *answer) {
+            (OneshotCall::Receive, Answer::Made(Slot(receive))) => {
+                write!(script, "receive r{receive}")
+            }
+            (OneshotCall::Poll(Slot(receive), waker), _) => write!(
+                script,
+                "poll r{receive} {waker}"
+            ),
+            (OneshotCall::Cancel(Slot(receive)), _) => write!(script, "cancel r{receive}"),
+            (OneshotCall::Send(value), _) => write!(script, "send {value}"),
+            (OneshotCall::Close, _) => script.push_str("close"),
+            (OneshotCall::Receive | OneshotCall::NextWake, _) => Ok(()),
         }
-        (OneshotCall::Poll(Slot(receive), waker), _) => write!(script, "poll r{receive} {waker}"),
-        (OneshotCall::Cancel(Slot(receive)), _) => write!(script, "cancel r{receive}"),
-        (OneshotCall::Send(value), _) => write!(script, "send {value}"),
-        (OneshotCall::Close, _) => script.push_str("close"),
-        (OneshotCall::Receive | OneshotCall::NextWake, _) => Ok(()),
     }
 }

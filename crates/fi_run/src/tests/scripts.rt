@@ -1,6 +1,7 @@
-//! Histories that have no script. Those that have one are run in `schedule`, in its tests of histories.
+//! Histories that have no script, and what their errors become. Those that have one are run in `schedule`, in its tests of histories.
 use super::texts::reads;
 use crate::answer::Answer;
+use crate::desk::Mismatch;
 use crate::event::EventCall;
 use crate::journal::Journal;
 use crate::pool_state::PoolState;
@@ -9,6 +10,7 @@ use fi_channels::{ChannelState, EventState};
 use fi_parts::Slot;
 use fi_parts::buffer::{ArrayBuf, FixedHeapBuf, GrowingHeapBuf};
 use std::alloc::Global;
+use std::io::{self, ErrorKind};
 use std::test::Fail;
 
 /// The script of an event's history: with a wait that is polled by 1, one that is polled by 2, and these calls.
@@ -99,4 +101,28 @@ fn openings_without_a_line(rt: HostRuntime) -> Result<(), Fail> {
     );
     assert!(rt; reads(alloc, &ScriptError::NoMemory, "out of memory"));
     Ok(())
+}
+
+#[test]
+fn errors_become_io_errors(rt: HostRuntime) {
+    assert_eq!(rt;
+        io::Error::from(ScriptError::NoMemory).kind(),
+        ErrorKind::OutOfMemory
+    );
+    assert_eq!(rt;
+        io::Error::from(ScriptError::Opening).kind(),
+        ErrorKind::InvalidData
+    );
+    assert_eq!(rt;
+        io::Error::from(ScriptError::Wakers(3)).kind(),
+        ErrorKind::InvalidData
+    );
+    assert_eq!(rt;
+        io::Error::from(Mismatch::Seats).kind(),
+        ErrorKind::InvalidData
+    );
+    assert_eq!(rt;
+        io::Error::from(Mismatch::Entry(3)).kind(),
+        ErrorKind::InvalidData
+    );
 }

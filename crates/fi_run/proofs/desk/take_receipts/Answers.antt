@@ -1,9 +1,9 @@
-use Rattle.std.proofs.Common.{arith, ⊎_elim, ◌≡◌, ◌+◌, ◌-◌, ◌<◌, ◌≤◌, [], length, drop, slice_index_or, subst, sym, ap, ◌∙◌}
+use Rattle.std.proofs.Common.{arith, ⊎_elim, ◌≡◌, ◌+◌, ◌-◌, ◌<◌, length, drop, slice_index_or, subst, sym, ap, ◌∙◌}
 use Rattle.std.proofs.lemmas.Grind.{common_steps}
 use Rattle.std.proofs.lemmas.Bool.{cases_lt}
-use Rattle.std.proofs.lemmas.Option.{gets, get_or_from_slice_get, slice_get_within}
+use Rattle.std.proofs.lemmas.Option.{get_or_from_slice_get, slice_get_within}
 use Rattle.std.proofs.lemmas.List.{drop_all, get_or_default}
-use Rattle.fi_run.specs.Desk.{Matches, receipt_count, with_receipt}
+use Rattle.fi_run.specs.Desk.{Matches, receipt_count}
 use Rattle.fi_run.specs.Journal.{receipt_of}
 use Rattle.fi_run.proofs.DeskLemmas.{nothing_taken, same_length, count_without, taken_at, missing_at}
 use Rattle.fi_run.proofs.desk.take_receipts.Goals as goal

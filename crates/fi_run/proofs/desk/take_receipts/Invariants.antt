@@ -1,4 +1,4 @@
-use Rattle.std.proofs.Common.{◌≡◌, ◌≤◌, ◌<◌, ◌+◌, ℕ, length, drop}
+use Rattle.std.proofs.Common.{◌≡◌, ◌≤◌, ◌<◌, ◌+◌, length, drop}
 use Rattle.std.specs.List.{AllWithin}
 use Rattle.fi_run.specs.Desk.{Matches, receipt_count}
 use Rattle.fi_run.proofs.desk.take_receipts.Given as goal

@@ -4,7 +4,8 @@ use fi_channels::{
     ClonesValue, EventState, LocalChannel, LocalOneshotBroadcastChannel, LocalOneshotChannel,
     LocalStateBroadcastChannel, SendFault, TakesValue, TryReceiveError, TrySendError,
 };
-use fi_parts::Fault;
+use fi_parts::{ChannelSendError, Fault, NoRoom};
+use std::io::{self, ErrorKind};
 
 #[test]
 fn an_event_shows_its_name(rt: HostRuntime) {
@@ -106,5 +107,39 @@ fn refusals_say_what_is_wrong(rt: HostRuntime) {
             &TryReceiveError::Closed,
             "the channel is closed and empty"
         )
+    );
+}
+
+// Answers the refusal as an `io::Error`, by `?`.
+fn sends(refused: TrySendError<u8>) -> io::Result<()> {
+    Err(refused)?;
+    Ok(())
+}
+
+#[test]
+fn refusals_become_io_errors(rt: HostRuntime) {
+    let kind = |refused| sends(refused).err().map(|error| error.kind());
+    assert_eq!(rt; kind(TrySendError::Full(3)), Some(ErrorKind::WouldBlock));
+    assert_eq!(rt; kind(TrySendError::Closed(3)), Some(ErrorKind::BrokenPipe));
+    assert_eq!(rt;
+        kind(TrySendError::NoMemory(3)),
+        Some(ErrorKind::OutOfMemory)
+    );
+    let closed = io::Error::from(SendFault::Closed(3));
+    let no_memory = io::Error::from(SendFault::<u8>::Fault(Fault::NoMemory));
+    assert_eq!(rt; closed.kind(), ErrorKind::BrokenPipe);
+    assert_eq!(rt; no_memory.kind(), ErrorKind::OutOfMemory);
+    assert_eq!(rt; io::Error::from(NoRoom(3)).kind(), ErrorKind::OutOfMemory);
+    assert_eq!(rt;
+        io::Error::from(ChannelSendError(3)).kind(),
+        ErrorKind::BrokenPipe
+    );
+    assert_eq!(rt;
+        io::Error::from(TryReceiveError::Empty).kind(),
+        ErrorKind::WouldBlock
+    );
+    assert_eq!(rt;
+        io::Error::from(TryReceiveError::Closed).kind(),
+        ErrorKind::BrokenPipe
     );
 }

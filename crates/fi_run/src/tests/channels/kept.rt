@@ -1,7 +1,8 @@
-//! Local futures that are kept over other calls, as a user writes them: `poll_if_live` and `leave` ask their caller for nothing, so
-//! nothing here needs a proof.
+//! Local futures that are kept over other calls, as a user writes them: `poll_if_live` and `leave` ask their caller for nothing, and
+//! clauses say that a future which was polled lives until it is cancelled, so nothing here needs a proof.
 use fi_channels::{
     LocalChannel, LocalManualResetEvent, LocalOneshotChannel, LocalStateBroadcastChannel,
+    TrySendError,
 };
 use fi_parts::StateId;
 use futures::task::Poll;
@@ -18,6 +19,16 @@ fn a_wait_is_kept(rt: HostRuntime) {
     wait.leave(&mut event);
     assert_eq!(rt; (waits, woken), (Some(Poll::Pending), Some(1)));
     assert_eq!(rt; (ends, spent), (Some(Poll::Ready(())), None));
+}
+
+#[test]
+fn a_wait_is_cancelled(rt: HostRuntime) {
+    let mut event: LocalManualResetEvent<u64> = LocalManualResetEvent::new(rt.alloc(), false);
+    let mut wait = event.wait().expect(&rt, "memory");
+    let waits = wait.poll_if_live(&mut event, 1);
+    event.set();
+    wait.cancel(&mut event);
+    assert_eq!(rt; (waits, event.next_wake()), (Some(Poll::Pending), None));
 }
 
 #[test]
@@ -95,4 +106,19 @@ fn a_stream_is_kept(rt: HostRuntime) {
         (item, closed, end),
         (Some(Poll::Ready(Some(5))), true, Some(Poll::Ready(None)))
     );
+}
+
+#[test]
+fn a_send_is_cancelled(rt: HostRuntime) {
+    let mut channel: LocalChannel<u64, 1, u64> = LocalChannel::new(rt.alloc());
+    let stored = channel.try_send(5);
+    let mut send = channel.send(6).expect(&rt, "memory");
+    let waits = send.poll_if_live(&mut channel, 1);
+    let refused = channel.try_send(7);
+    let left = send.cancel(&mut channel);
+    assert_eq!(rt;
+        (stored, waits, left),
+        (Ok(()), Some(Poll::Pending), Some(6))
+    );
+    assert!(rt; refused == Err(TrySendError::Full(7)));
 }

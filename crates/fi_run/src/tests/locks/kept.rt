@@ -78,3 +78,13 @@ fn a_deadline_is_kept(rt: HostRuntime) {
     assert_eq!(rt; (waits, woken), (Some(Poll::Pending), Some(1)));
     assert_eq!(rt; ends, Some(Poll::Ready(())));
 }
+
+#[test]
+fn a_deadline_is_cancelled(rt: HostRuntime) {
+    let mut timer: LocalTimerService<u64> = LocalTimerService::new(rt.alloc());
+    let mut deadline = timer.deadline(5).expect(&rt, "memory");
+    let waits = deadline.poll_if_live(&mut timer, 4, 1);
+    timer.check_expirations(5);
+    deadline.cancel(&mut timer);
+    assert_eq!(rt; (waits, timer.next_wake()), (Some(Poll::Pending), None));
+}

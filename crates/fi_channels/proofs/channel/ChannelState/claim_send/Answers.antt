@@ -1,7 +1,7 @@
 use Rattle.fi_channels.proofs.ChannelStays.{claimed_send_stays, claimed_send_apart}
 use Rattle.fi_channels.specs.ChannelFields.{machine_of}
-use Rattle.fi_channels.proofs.ChannelLaws.{makes_send, unchanged}
-use Rattle.fi_channels.proofs.Results.{either}
+use Rattle.fi_channels.proofs.ChannelLaws.{makes_send, unchanged, send_pollable}
+use Rattle.fi_channels.proofs.Results.{either, of_made}
 use Rattle.fi_channels.proofs.channel.ChannelState.claim_send.Goals as goal
 
 pub invariant_of-self : goal.invariant_of-self
@@ -25,3 +25,8 @@ returns-clause-apart g c =
     let new = machine_of g.B.RingBuf.bounded c.claim_send.new.self in
     rw (← c.self.view_is) (claimed_send_apart old new c.self.invariant c.claim_send.result (λ slot. slot.0) c.args.value
     c.claim_send.ensures.made)
+
+pub returns-clause-pollable : goal.returns-clause-pollable
+returns-clause-pollable g c =
+    of_made c.claim_send.result _ _ c.claim_send.ensures.made
+    (λ slot did. send_pollable _ _ _ slot.0 did)

@@ -1,8 +1,9 @@
 use Rattle.fi_channels.proofs.ChannelStays.{claimed_receive_stays, claimed_receive_apart}
 use Rattle.fi_channels.specs.ChannelFields.{machine_of}
-use Rattle.fi_channels.proofs.ChannelLaws.{makes_receive, unchanged}
-use Rattle.fi_channels.proofs.Results.{either}
+use Rattle.fi_channels.proofs.ChannelLaws.{makes_receive, unchanged, kind_made, phase_made}
+use Rattle.fi_channels.proofs.Results.{either, of_made}
 use Rattle.fi_channels.specs.declared.channel_fields.ReceiveKind.TheVariants.{Stream}
+use Rattle.fi_channels.specs.Channel.{can_stream}
 use Rattle.fi_channels.proofs.channel.ChannelState.claim_stream.Goals as goal
 
 pub invariant_of-self : goal.invariant_of-self
@@ -26,3 +27,8 @@ returns-clause-apart g c =
     let new = machine_of g.B.RingBuf.bounded c.claim_receive.new.self in
     rw (← c.self.view_is) (claimed_receive_apart old new c.self.invariant c.claim_receive.result (λ slot. slot.0) Stream
     c.claim_receive.ensures.made)
+
+pub returns-clause-pollable : goal.returns-clause-pollable
+returns-clause-pollable g c =
+    of_made c.claim_receive.result _ _ c.claim_receive.ensures.made
+    (λ slot did i. can_stream (kind_made _ _ Stream slot.0 did i) (phase_made _ _ Stream slot.0 did i))

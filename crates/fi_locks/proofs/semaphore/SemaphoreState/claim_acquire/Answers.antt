@@ -2,10 +2,10 @@ use Rattle.fi_parts.proofs.Effects.{waits_are_fit}
 use Rattle.fi_parts.proofs.Machines.{claiming_stays, claimed_apart}
 use Rattle.fi_locks.specs.Semaphore.{can_be_polled}
 use Rattle.fi_locks.specs.SemaphoreSoundLaws.{rules}
-use Rattle.std.proofs.Common.{sym, subst}
-use Rattle.fi_parts.proofs.Results.{either}
+use Rattle.std.proofs.Common.{subst, sym}
+use Rattle.fi_parts.proofs.Results.{either, of_made}
 use Rattle.fi_locks.specs.SemaphoreFields.{machine_of}
-use Rattle.fi_locks.specs.SemaphoreLaws.{Holds, make_holds}
+use Rattle.fi_locks.specs.SemaphoreLaws.{Holds, make_holds, makes_pollable}
 use Rattle.fi_locks.proofs.semaphore.SemaphoreState.claim_acquire.Goals as goal
 
 pub invariant_of-self : goal.invariant_of-self
@@ -31,3 +31,8 @@ returns-clause-apart g c =
     let new = machine_of c.claim_acquire.new.self in
     rw (← c.self.view_is) (claimed_apart old new c.claim_acquire.result (λ slot. slot.0) _ c.args.permits
     c.claim_acquire.ensures.made)
+
+pub returns-clause-pollable : goal.returns-clause-pollable
+returns-clause-pollable g c =
+    of_made c.claim_acquire.result _ _ c.claim_acquire.ensures.made
+    (λ slot did. makes_pollable _ slot.0 _ _ did)
