@@ -9,6 +9,7 @@ pub mod Numbered
 pub mod Answered
 pub mod Channels
 pub mod Reading
+pub mod FirstWords
 pub mod Rebound
 pub mod Shelves
 pub mod Script

@@ -252,7 +252,7 @@ none_is_not e = cc
 pub some_same : {A : Type 0} (x y : A) → Some x ≡ Some y → x ≡ y
 some_same x y e = cc
 
-decimal_lacks : (n : ℕ) → n < 2 ^ 64 → Lacks 32 (decimal n)
+pub decimal_lacks : (n : ℕ) → n < 2 ^ 64 → Lacks 32 (decimal n)
 decimal_lacks n small = λ k d h same.
     let digit = numeral_digits (decimal n) n small refl k h in
     omega (arith, digit.0, same, get_or_default (decimal n) k d 0 h)
@@ -290,16 +290,32 @@ same_numerals (Two n k) Absent fits fits' e = cc
 same_numerals (Two n k) (One m) fits fits' e = absurd (one_is_not_two m n k fits' fits.0 (cc))
 same_numerals (Two n k) (Two m l) fits fits' e = same_two n k m l fits fits' (cc)
 
--- A text that is no numeral, and is not cut into two, has no numbers.
-pub no_numerals : (text first : List ℕ) (second : Option (List ℕ)) → IsCut 32 text first second
-    → ((n : ℕ) → n < 2 ^ 64 → text ≢ decimal n)
-    → ((n m : ℕ) → n < 2 ^ 64 → m < 2 ^ 64 → first ≡ decimal n → second ≡ Some (decimal m) → ⊥) → IsNoNumerals text
-no_numerals text first second cut not_one not_two Absent fits e = none_is_not (sym e)
-no_numerals text first second cut not_one not_two (One n) fits e = not_one n fits (some_same _ _ e)
-no_numerals text first second cut not_one not_two (Two n m) fits e =
-    let same = one_place 32 first (decimal n) second (Some (decimal m)) text cut
-    (cut_of text (decimal n) (Some (decimal m)) (some_same _ _ e) (decimal_lacks n fits.0)) in
-    not_two n m fits.0 fits.1 same.0 same.1
+-- A text that begins with no numeral has no numbers.
+pub no_first : (text : List ℕ) → ((n : ℕ) (rest : Option (List ℕ)) → n < 2 ^ 64 → ¬ IsCut 32 text (decimal n) rest)
+    → IsNoNumerals text
+no_first text none Absent fits e = none_is_not (sym e)
+no_first text none (One n) fits e =
+    none n None fits (cut_of text (decimal n) None (some_same _ _ e) (decimal_lacks n fits))
+no_first text none (Two n m) fits e =
+    none n (Some (decimal m)) fits.0 (cut_of text (decimal n) (Some (decimal m)) (some_same _ _ e) (decimal_lacks n fits.0))
+
+-- Nor has one whose first numeral is followed by what is none.
+pub no_second : (text second : List ℕ) (first : ℕ) → IsCut 32 text (decimal first) (Some second)
+    → ((m : ℕ) → m < 2 ^ 64 → second ≢ decimal m) → IsNoNumerals text
+no_second text second first cut none Absent fits e = none_is_not (sym e)
+no_second text second first cut none (One n) fits e =
+    none_is_not (sym (one_place 32 (decimal first) (decimal n) (Some second) None text cut
+    (cut_of text (decimal n) None (some_same _ _ e) (decimal_lacks n fits))).1)
+no_second text second first cut none (Two n m) fits e =
+    none m fits.1 (some_same _ _ (one_place 32 (decimal first) (decimal n) (Some second) (Some (decimal m)) text cut
+    (cut_of text (decimal n) (Some (decimal m)) (some_same _ _ e) (decimal_lacks n fits.0))).1)
+
+-- A text whose first word is a numeral, and which goes on behind a space, is none as a whole.
+pub goes_on : (text second : List ℕ) (first n : ℕ) → n < 2 ^ 64 → IsCut 32 text (decimal first) (Some second)
+    → text ≢ decimal n
+goes_on text second first n small cut e =
+    none_is_not (sym (one_place 32 (decimal first) (decimal n) (Some second) None text cut
+    (cut_of text (decimal n) None e (decimal_lacks n small))).1)
 
 -- No numeral begins as a label does.
 pub not_label : (word : List ℕ) (rest : Option (List ℕ)) (n : ℕ) → n < 2 ^ 64 → IsLabel word
@@ -354,20 +370,19 @@ no_verb line word rest cut none =
     λ verb label numbers words. none verb (one_place 32 _ _ _ _ line cut
     (cut_of line _ _ words.text (verb_lacks verb))).0
 
-neither_word : (rest word : List ℕ) (after : Option (List ℕ)) → IsCut 32 rest word after → (¬ IsLabel word)
+neither_word : (rest : List ℕ) → ((word : List ℕ) (after : Option (List ℕ)) → IsCut 32 rest word after → ¬ IsLabel word)
     → IsNoNumerals rest → (label : Option (List ℕ)) (numbers : Numbers)
     → IfSome label IsLabel → Fit numbers → Some rest ≡ words_after label numbers → ⊥
-neither_word rest word after cut no_label no_numerals None numbers is fits e = no_numerals numbers fits e
-neither_word rest word after cut no_label no_numerals (Some l) numbers is fits e =
+neither_word rest no_label no_numerals None numbers is fits e = no_numerals numbers fits e
+neither_word rest no_label no_numerals (Some l) numbers is fits e =
     let text : rest ≡ joined l (numerals numbers) = cc in
-    no_label (subst IsLabel (sym (one_place 32 word l after (numerals numbers) rest cut
-    (cut_of rest l (numerals numbers) text (label_lacks l is))).0) is)
+    no_label l (numerals numbers) (cut_of rest l (numerals numbers) text (label_lacks l is)) is
 
-pub no_plain : (line : List ℕ) (v : Verb) (rest word : List ℕ) (after : Option (List ℕ))
-    → IsCut 32 line (verb_text v) (Some rest) → IsCut 32 rest word after → (¬ IsLabel word) → IsNoNumerals rest
+pub no_plain : (line : List ℕ) (v : Verb) (rest : List ℕ) → IsCut 32 line (verb_text v) (Some rest)
+    → ((word : List ℕ) (after : Option (List ℕ)) → IsCut 32 rest word after → ¬ IsLabel word) → IsNoNumerals rest
     → IsNotSpelled line
-no_plain line v rest word after cut cut' no_label no_numerals = λ verb label numbers words.
-    neither_word rest word after cut' no_label no_numerals label numbers words.label_is words.numbers_fit
+no_plain line v rest cut no_label no_numerals = λ verb label numbers words.
+    neither_word rest no_label no_numerals label numbers words.label_is words.numbers_fit
     (rest_words line v verb (Some rest) label numbers cut words)
 
 no_numbers_after : (rest word last : List ℕ) → IsCut 32 rest word (Some last) → IsLabel word → IsNoNumerals last

@@ -7,4 +7,4 @@ use Rattle.schedule.specs.Stored.{stored}
 
 -- the futures that the labels in use stand for
 abbrev pub labels_of : Labelled MadeFuture → Labels
-labels_of futures word = stored futures.shelves.items (code_of word)
+labels_of futures word = stored futures.short.items futures.long.items (code_of word)

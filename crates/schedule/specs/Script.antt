@@ -14,7 +14,6 @@ use Rattle.fi_run.specs.Oneshot as oneshot
 use Rattle.fi_run.specs.Outgoing.{machine_outgoing}
 use Rattle.fi_run.specs.Pool as pool
 use Rattle.fi_run.specs.Pool.{PoolMachine}
-use Rattle.fi_run.specs.PoolLaws.{pool_outgoing}
 use Rattle.fi_run.specs.Semaphore as semaphore
 use Rattle.fi_run.specs.State as state
 use Rattle.fi_run.specs.Timer as timer
@@ -67,7 +66,7 @@ OfPrimitive Mutex P =
 OfPrimitive Semaphore P =
     P (SemaphoreMachine ℕ) (ℕ × Bool) (SemaphoreCall ℕ)
     (spoken semaphore.Opens semaphore.Step machine_outgoing semaphore_language)
-OfPrimitive Pool P = P (PoolMachine ℕ) (ℕ × ℕ) (PoolCall ℕ) (spoken pool.Opens pool.Step pool_outgoing pool_language)
+OfPrimitive Pool P = P (PoolMachine ℕ) (ℕ × ℕ) (PoolCall ℕ) (spoken pool.Opens pool.Step pool.pool_outgoing pool_language)
 
 -- The first line is the primitive's name, and what stands after it for the opening, which is one that scripts can name.
 abbrev pub IsFirst : {S O C : Type 0} → Named → Spoken S O C → List ℕ → O → Type 0

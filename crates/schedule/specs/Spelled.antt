@@ -1,5 +1,6 @@
 -- What a line spells.
 use Rattle.std.specs.Prelude.{◌≡◌, ◌≢◌, ⊤, ℕ, List, Option, None, Some}
+use Rattle.schedule.specs.Cuts.{IsCut}
 use Rattle.schedule.specs.Labels.{IsLabel, code_of}
 use Rattle.schedule.specs.Lines.{HasWords, Fit, numerals}
 use Rattle.schedule.specs.declared.label.Label.{Label}
@@ -23,3 +24,7 @@ IsNotSpelled line = (verb : Verb) (label : Option (List ℕ)) (numbers : Numbers
 -- The text is neither a numeral of 64 bits nor two of them with a space between.
 abbrev pub IsNoNumerals : List ℕ → Type 0
 IsNoNumerals text = (numbers : Numbers) → Fit numbers → Some text ≢ numerals numbers
+
+-- The text is a label of this code, and after one space what stands behind it.
+abbrev pub LabelBegins : List ℕ → ℕ → Option (List ℕ) → Type 0
+LabelBegins text code rest = (word : List ℕ) × IsCut 32 text word rest × IsLabel word × (code ≡ code_of word)

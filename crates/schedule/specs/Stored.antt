@@ -1,5 +1,5 @@
 -- What stands on shelves under labels.
-use Rattle.std.specs.Prelude.{◌≡◌, ◌≢◌, ◌/◌, ◌%◌, ◌^◌, ℕ, List, length, Option, None, Some, slice_get}
+use Rattle.std.specs.Prelude.{◌≡◌, ◌≢◌, ◌/◌, ◌%◌, ◌^◌, ℕ, List, length, Option, None, Some, cond, ltb, slice_get}
 use Rattle.std.specs.BTreeMap as tree
 use Rattle.std.specs.BTreeMap.{BTreeMap}
 use Rattle.std.specs.Ordering.{nat_cmp}
@@ -14,11 +14,15 @@ module _ {V : Type 0} where
   on_shelf None code = None
   on_shelf (Some shelf) code = tree.get nat_cmp shelf code
 
-  -- what stands under a label's code
-  abbrev pub stored : List (BTreeMap ℕ V) → ℕ → Option V
-  stored shelves code = on_shelf (slice_get shelves (shelf_of shelves code)) code
+  -- what these shelves have under a code
+  abbrev pub on_shelves : List (BTreeMap ℕ V) → ℕ → Option V
+  on_shelves shelves code = on_shelf (slice_get shelves (shelf_of shelves code)) code
+
+  -- what stands under a label's code: codes of up to 64 bits stand on shelves of their own
+  abbrev pub stored : List (BTreeMap ℕ V) → List (BTreeMap ℕ V) → ℕ → Option V
+  stored short long code = cond (ltb code (2 ^ 64)) (on_shelves short code) (on_shelves long code)
 
   -- This stands there from now on, and elsewhere what stood there.
-  abbrev pub Stores : ℕ → Option V → List (BTreeMap ℕ V) → List (BTreeMap ℕ V) → Type 0
-  Stores code value old new =
-      (stored new code ≡ value) × ((other : ℕ) → other ≢ code → stored new other ≡ stored old other)
+  pub record Stores (code : ℕ) (value : Option V) (short long new_short new_long : List (BTreeMap ℕ V)) : Type 0 where
+    pub here : stored new_short new_long code ≡ value
+    pub elsewhere : (other : ℕ) → other ≢ code → stored new_short new_long other ≡ stored short long other

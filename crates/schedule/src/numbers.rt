@@ -3,8 +3,7 @@ ghost use Rattle.std.specs.Prelude.{◌≡◌, Some, MatchOption};
 ghost use Rattle.schedule.specs.Lines.{numerals, Fit};
 ghost use Rattle.schedule.specs.Spelled.{IsNoNumerals};
 
-use crate::number::parse_number;
-use crate::words::split_at_first;
+use crate::number::{first_number, parse_number};
 
 /// The numbers that end a line, at most two.
 #[derive(Clone, Copy, Debug, PartialEq, Eq)]
@@ -21,10 +20,10 @@ impl Numbers {
         ensures { MatchOption result (IsNoNumerals text.now)
             (λ numbers. Fit numbers × (Some text.now ≡ numerals numbers)) }
     {
-        if let Some(number) = parse_number(text) {
-            return Some(Numbers::One(number));
+        let (first, rest) = first_number(text)?;
+        match rest {
+            None => Some(Numbers::One(first)),
+            Some(second) => Some(Numbers::Two(first, parse_number(second)?)),
         }
-        let (first, second) = split_at_first(text, b' ');
-        Some(Numbers::Two(parse_number(first)?, parse_number(second?)?))
     }
 }

@@ -1,5 +1,5 @@
 //! The verbs of script lines.
-ghost use Rattle.std.specs.Prelude.{◌≡◌, ◌≢◌, MatchOption, codes};
+ghost use Rattle.std.specs.Prelude.{◌≡◌, ◌≤◌, MatchOption, length};
 ghost use Rattle.schedule.specs.Verbs.{verb_text, IsNoVerb};
 
 /// What a line asks for.
@@ -44,61 +44,80 @@ impl Verb {
     pub fn by(word: &[u8]) -> Option<Verb>
         ensures { MatchOption result (IsNoVerb word.now) (λ verb. word.now ≡ verb_text verb) }
     {
-        if let Some(verb) = Verb::with_shared_beginning(word) {
-            return Some(verb);
+        // By its length first, so that a word is compared with few texts.
+        if word.len() <= 4 {
+            Verb::short(word)
+        } else if word.len() <= 6 {
+            Verb::middling(word)
+        } else {
+            Verb::long(word)
         }
+    }
+
+    /// The verb that a word of up to four characters spells.
+    #[inline(always)]
+    fn short(word: &[u8]) -> Option<Verb>
+        requires { length word.now ≤ 4 }
+        ensures { MatchOption result (IsNoVerb word.now) (λ verb. word.now ≡ verb_text verb) }
+    {
         match word {
             b"poll" => Some(Verb::Poll),
-            b"cancel" => Some(Verb::Cancel),
             b"wait" => Some(Verb::Wait),
-            b"set" => Some(Verb::Set),
-            b"reset" => Some(Verb::Reset),
-            b"is-set" => Some(Verb::IsSet),
-            b"receive" => Some(Verb::Receive),
-            b"send" => Some(Verb::Send),
-            b"close" => Some(Verb::Close),
-            b"try-receive" => Some(Verb::TryReceive),
-            b"deadline" => Some(Verb::Deadline),
-            b"delay" => Some(Verb::Delay),
-            b"check" => Some(Verb::Check),
-            b"next" => Some(Verb::Next),
             b"lock" => Some(Verb::Lock),
-            b"try-lock" => Some(Verb::TryLock),
-            b"unlock" => Some(Verb::Unlock),
-            b"is-locked" => Some(Verb::IsLocked),
-            b"acquire" => Some(Verb::Acquire),
-            b"release" => Some(Verb::Release),
-            b"give-back" => Some(Verb::GiveBack),
-            b"disarm" => Some(Verb::Disarm),
-            b"permits" => Some(Verb::Permits),
+            b"send" => Some(Verb::Send),
+            b"set" => Some(Verb::Set),
+            b"next" => Some(Verb::Next),
             b"held" => Some(Verb::Held),
-            b"finish" => Some(Verb::Finish),
             _ => None,
         }
     }
 
-    /// The verb that a word spells, of those that begin as others do: as arms of the `match` above they would take its proof past the
-    /// prover's limits.
+    /// The verb that a word of five or six characters spells.
     #[inline(always)]
-    fn with_shared_beginning(word: &[u8]) -> Option<Verb>
-        ensures { MatchOption result ((word.now ≢ codes "try-acquire") × (word.now ≢ codes "try-send")
-            × (word.now ≢ codes "stream") × (word.now ≢ codes "start") × (word.now ≢ codes "submit")
-            × (word.now ≢ codes "shutdown")) (λ verb. word.now ≡ verb_text verb) }
+    fn middling(word: &[u8]) -> Option<Verb>
+        requires { (5 ≤ length word.now) × (length word.now ≤ 6) }
+        ensures { MatchOption result (IsNoVerb word.now) (λ verb. word.now ≡ verb_text verb) }
     {
+        match word {
+            b"cancel" => Some(Verb::Cancel),
+            b"unlock" => Some(Verb::Unlock),
+            b"submit" => Some(Verb::Submit),
+            b"finish" => Some(Verb::Finish),
+            b"stream" => Some(Verb::Stream),
+            b"is-set" => Some(Verb::IsSet),
+            b"disarm" => Some(Verb::Disarm),
+            b"check" => Some(Verb::Check),
+            b"start" => Some(Verb::Start),
+            b"reset" => Some(Verb::Reset),
+            b"close" => Some(Verb::Close),
+            b"delay" => Some(Verb::Delay),
+            _ => None,
+        }
+    }
+
+    /// The verb that a word of seven or more characters spells.
+    #[inline(always)]
+    fn long(word: &[u8]) -> Option<Verb>
+        requires { 7 ≤ length word.now }
+        ensures { MatchOption result (IsNoVerb word.now) (λ verb. word.now ≡ verb_text verb) }
+    {
+        // One more arm that begins with `try-` would take the proof past the prover's limits.
         if word == b"try-acquire".as_slice() {
-            Some(Verb::TryAcquire)
-        } else if word == b"try-send".as_slice() {
-            Some(Verb::TrySend)
-        } else if word == b"stream".as_slice() {
-            Some(Verb::Stream)
-        } else if word == b"start".as_slice() {
-            Some(Verb::Start)
-        } else if word == b"submit".as_slice() {
-            Some(Verb::Submit)
-        } else if word == b"shutdown".as_slice() {
-            Some(Verb::Shutdown)
-        } else {
-            None
+            return Some(Verb::TryAcquire);
+        }
+        match word {
+            b"receive" => Some(Verb::Receive),
+            b"acquire" => Some(Verb::Acquire),
+            b"release" => Some(Verb::Release),
+            b"permits" => Some(Verb::Permits),
+            b"deadline" => Some(Verb::Deadline),
+            b"try-send" => Some(Verb::TrySend),
+            b"try-lock" => Some(Verb::TryLock),
+            b"shutdown" => Some(Verb::Shutdown),
+            b"give-back" => Some(Verb::GiveBack),
+            b"is-locked" => Some(Verb::IsLocked),
+            b"try-receive" => Some(Verb::TryReceive),
+            _ => None,
         }
     }
 }

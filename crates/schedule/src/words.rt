@@ -1,5 +1,5 @@
 //! Lines and their words.
-ghost use Rattle.std.specs.Prelude.{◌≡◌, ◌≢◌, ℕ, List, Some, MatchOption, codes, option_copied};
+ghost use Rattle.std.specs.Prelude.{◌≡◌, ◌≢◌, ◌<◌, ℕ, List, Some, MatchOption, codes, length, option_copied, slice_index, take};
 ghost use Rattle.schedule.specs.Cuts.{IsCut, NextLine};
 ghost use Rattle.schedule.specs.Lines.{joined};
 ghost use Rattle.schedule.specs.Spelled.{IsSpelled, IsNotSpelled};
@@ -18,6 +18,22 @@ pub fn split_at_first(bytes: &[u8], separator: u8) -> (&[u8], Option<&[u8]>)
         Some(at) => (&bytes[..at], Some(&bytes[at + 1..])),
         None => (bytes, None),
     }
+}
+
+/// What follows the word that a text begins with, if that word ends at this place: nothing where the text ends there, else
+/// what stands behind a space.
+#[inline(always)]
+pub fn after_word(text: &[u8], end: usize) -> Option<Option<&[u8]>>
+    ensures { MatchOption result ((end < length text.now) × (slice_index text.now end ≢ 32))
+        (λ rest. text.now ≡ joined (take end text.now) (option_copied rest)) }
+{
+    if end >= text.len() {
+        return Some(None);
+    }
+    if text[end] != b' ' {
+        return None;
+    }
+    Some(Some(&text[end + 1..]))
 }
 
 /// What follows `hold` in a line that holds its wakers back.
@@ -89,8 +105,7 @@ impl Words {
                 numbers: Numbers::Absent,
             });
         };
-        let (word, after) = split_at_first(rest, b' ');
-        let Some(label) = Label::parse(word) else {
+        let Some((label, after)) = Label::first(rest) else {
             return Some(Words {
                 verb,
                 label: None,

@@ -4,4 +4,5 @@ use Rattle.std.specs.BTreeMap.{IsEmpty}
 use Rattle.schedule.proofs.labelled.Labelled.new.Given as goal
 
 abbrev pub invariant-loop : goal.invariant-loop
-invariant-loop g l = (vec_len l.shelves ≡ l.counter) × All (λ shelf. IsEmpty shelf) l.shelves.items
+invariant-loop g l = (vec_len l.short ≡ l.counter) × All (λ shelf. IsEmpty shelf) l.short.items
+    × (vec_len l.long ≡ l.counter) × All (λ shelf. IsEmpty shelf) l.long.items

@@ -1,20 +1,19 @@
-use Rattle.std.specs.Prelude.{option_copied}
-use Rattle.std.proofs.Common.{◌∙◌, sym, ap, rules, arith}
-use Rattle.schedule.proofs.Reading.{no_numerals, some_same}
+use Rattle.std.specs.Prelude.{Some, option_copied}
+use Rattle.std.specs.Fmt.{decimal}
+use Rattle.std.proofs.Common.{refl, ap, arith}
+use Rattle.schedule.specs.Cuts.{IsCut}
+use Rattle.schedule.proofs.Reading.{cut_is, no_first, no_second}
 use Rattle.schedule.proofs.numbers.Numbers.parse.Goals as goal
 
-pub returns-in_err-parse_number : goal.returns-in_err-parse_number
-returns-in_err-parse_number c =
-    rw c.from_residual.ensures (no_numerals c.args.text.now _ _ c.split_at_first.ensures
-    (λ n fits. c.in_default.ensures n (omega (arith, fits)))
-    (λ n m fits fits' first second. c.in_err-parse_number.ensures n (omega (arith, fits)) first))
+pub returns-in_err-first : goal.returns-in_err-first
+returns-in_err-first c =
+    rw c.from_residual.ensures
+    (no_first c.args.text.now (λ n rest small. c.in_err-first.ensures n rest (omega (arith, small))))
 
-pub returns-in_err-parse_number-2 : goal.returns-in_err-parse_number-2
-returns-in_err-parse_number-2 c =
-    rw c.from_residual-in_err-parse_number-2.ensures (no_numerals c.args.text.now _ _ c.split_at_first.ensures
-    (λ n fits. c.in_default.ensures n (omega (arith, fits)))
-    (λ n m fits fits' first second. c.in_err-parse_number-2.ensures m (omega (arith, fits'))
-    (some_same _ _ (sym (ap option_copied c.in_ok-second.was) ∙ second))))
-
-pub returns : goal.returns
-returns c = search rules
+pub returns-in_err-parse_number-in-Some : goal.returns-in_err-parse_number-in-Some
+returns-in_err-parse_number-in-Some c =
+    let cut : IsCut 32 c.args.text.now (decimal c.in_ok-first.first) (Some c.in-Some.second.now) = cut_is _ _ _ _ _
+    c.in_ok-first.ensures refl (ap option_copied c.in-Some.is) in
+    rw c.from_residual-in_err-parse_number-in-Some.ensures
+    (no_second c.args.text.now c.in-Some.second.now c.in_ok-first.first cut
+    (λ m small. c.in_err-parse_number-in-Some.ensures m (omega (arith, small))))

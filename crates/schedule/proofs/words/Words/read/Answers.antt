@@ -13,38 +13,37 @@ pub returns-in_err-parse : goal.returns-in_err-parse
 returns-in_err-parse c =
     let cut : IsCut 32 c.args.line.now (verb_text c.in_ok-verb.verb) (Some c.in-Some.rest.now) = cut_is _ _ _ _ _
     c.split_at_first.ensures c.in_ok-verb.ensures (ap option_copied c.in-Some.is) in
-    rw c.from_residual-in_err-parse.ensures
-    (no_plain _ _ _ _ _ cut c.split_at_first-2.ensures c.in_default-parse.ensures.label c.in_err-parse.ensures)
+    rw c.from_residual-in_err-parse.ensures (no_plain _ _ _ cut c.in_default-first.ensures.label c.in_err-parse.ensures)
 
 pub returns-in_default-after : goal.returns-in_default-after
 returns-in_default-after c =
     let cut : IsCut 32 c.args.line.now (verb_text c.in_ok-verb.verb) (Some c.in-Some.rest.now) = cut_is _ _ _ _ _
-    c.split_at_first.ensures c.in_ok-verb.ensures (ap option_copied c.in-Some.is) in (
-      Some c.split_at_first-2.result.0.now,
-      labelled_words _ _ _ _ _ Absent cut c.split_at_first-2.ensures
-          c.in-Some-parse.ensures.label.0 (ap option_copied c.in_default-after.is) tt,
-      c.in-Some-parse.ensures.label,
+    c.split_at_first.ensures c.in_ok-verb.ensures (ap option_copied c.in-Some.is) in
+    let begins = c.in-Some-first.ensures.label in (
+      Some begins.0,
+      labelled_words _ _ _ _ _ Absent cut begins.1 begins.2 (ap option_copied c.in_default-after.is) tt,
+      (begins.2, begins.3),
     )
 
 pub returns-in_err-parse-2 : goal.returns-in_err-parse-2
 returns-in_err-parse-2 c =
     let cut : IsCut 32 c.args.line.now (verb_text c.in_ok-verb.verb) (Some c.in-Some.rest.now) = cut_is _ _ _ _ _
     c.split_at_first.ensures c.in_ok-verb.ensures (ap option_copied c.in-Some.is) in
-    let cut' : IsCut 32 c.in-Some.rest.now c.split_at_first-2.result.0.now
-    (Some c.in-Some-after.numerals.now) = cut_is _ _ _ _ _ c.split_at_first-2.ensures refl
+    let begins = c.in-Some-first.ensures.label in
+    let cut' : IsCut 32 c.in-Some.rest.now begins.0 (Some c.in-Some-after.numerals.now) = cut_is _ _ _ _ _ begins.1 refl
     (ap option_copied c.in-Some-after.is) in
     rw c.from_residual-in_err-parse-2.ensures
-    (no_labelled _ _ _ _ _ cut cut' c.in-Some-parse.ensures.label.0 c.in_err-parse-2.ensures)
+    (no_labelled _ _ _ _ _ cut cut' begins.2 c.in_err-parse-2.ensures)
 
 pub returns : goal.returns
 returns c =
     let cut : IsCut 32 c.args.line.now (verb_text c.in_ok-verb.verb) (Some c.in-Some.rest.now) = cut_is _ _ _ _ _
     c.split_at_first.ensures c.in_ok-verb.ensures (ap option_copied c.in-Some.is) in
-    let cut' : IsCut 32 c.in-Some.rest.now c.split_at_first-2.result.0.now
-    (Some c.in-Some-after.numerals.now) = cut_is _ _ _ _ _ c.split_at_first-2.ensures refl
+    let begins = c.in-Some-first.ensures.label in
+    let cut' : IsCut 32 c.in-Some.rest.now begins.0 (Some c.in-Some-after.numerals.now) = cut_is _ _ _ _ _ begins.1 refl
     (ap option_copied c.in-Some-after.is) in (
-      Some c.split_at_first-2.result.0.now,
-      labelled_words _ _ _ _ _ c.in_ok-parse-2.field-0 cut cut' c.in-Some-parse.ensures.label.0
-          c.in_ok-parse-2.ensures.1 c.in_ok-parse-2.ensures.0,
-      c.in-Some-parse.ensures.label,
+      Some begins.0,
+      labelled_words _ _ _ _ _ c.in_ok-parse-2.field-0 cut cut' begins.2 c.in_ok-parse-2.ensures.1
+          c.in_ok-parse-2.ensures.0,
+      (begins.2, begins.3),
     )
