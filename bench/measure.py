@@ -30,7 +30,9 @@ CALLS = (
 )
 HEAPS = ("heap-sorted", "heap-reversed", "heap-drawn")
 # What the Rust crate has not.
-ALONE = ("pool-jobs", "journal-bare", "journal-recorded")
+ALONE = (
+    "pool-jobs", "journal-bare", "journal-recorded", "list-slots", "list-links", "list-look-ups", "list-fresh", "outbox-tickets",
+)
 SYNC = ("try-lock", "lock", "lock-queue", "try-acquire", "acquire", "try-send", "send", "end-try-send", "end-send")
 IN_THREADS = ("try-lock", "try-acquire", "try-send", "end-try-send")
 # What waits in each of these loads at its peak.
