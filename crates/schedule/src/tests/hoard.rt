@@ -17,8 +17,9 @@ const SMALL: usize = 1040;
 /// So many blocks are held at most.
 const PLACES: usize = 20_000;
 
-/// What is left is the end of a block of this size, whose beginning is taken again.
-pub const REGION: usize = 1 << 16;
+/// What is left is the end of a block of this size, whose beginning is taken again. The C library would map a block of 128 KiB by
+/// itself, and then small blocks could not be cut from its memory.
+pub const REGION: usize = 96 << 10;
 
 /// A block that is taken and let go again and again, always in its own place.
 #[derive(Drop)]

@@ -21,7 +21,7 @@ const LONG_SCRIPT: usize = 262_144;
 const STEP: usize = 32;
 
 /// So many steps are tried, up to a region.
-const STEPS: usize = 2048;
+const STEPS: usize = REGION / STEP;
 
 /// How a run ended.
 #[derive(Clone, Copy, PartialEq, Eq, Debug)]
