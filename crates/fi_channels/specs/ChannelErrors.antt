@@ -1,5 +1,9 @@
 -- What the refusals of a channel say.
 use Rattle.std.specs.Prelude.{Bool, true, false}
+use Rattle.fi_parts.specs.declared.errors.Fault.{Fault}
+use Rattle.fi_parts.specs.declared.errors.Fault.TheVariants as faults
+use Rattle.fi_channels.specs.declared.channel_errors.SendFault.{SendFault}
+use Rattle.fi_channels.specs.declared.channel_errors.SendFault.TheVariants as not_polled
 use Rattle.fi_channels.specs.declared.channel_errors.TryReceiveError.{TryReceiveError}
 use Rattle.fi_channels.specs.declared.channel_errors.TryReceiveError.TheVariants as not_received
 use Rattle.fi_channels.specs.declared.channel_errors.TrySendError.{TrySendError}
@@ -23,6 +27,21 @@ module _ {T : Type 0} where
   abbrev pub is_memory : TrySendError T → Bool
   is_memory (NoMemory value) = true
   is_memory error = false
+
+  -- The fault that a refusal converts into: of a send at once, and of a send's poll.
+  abbrev pub fault_of_send : TrySendError T → Fault
+  fault_of_send (Full value) = faults.Full
+  fault_of_send (Closed value) = faults.Closed
+  fault_of_send (NoMemory value) = faults.NoMemory
+
+  abbrev pub fault_of_poll : SendFault T → Fault
+  fault_of_poll (not_polled.Closed value) = faults.Closed
+  fault_of_poll (not_polled.Fault fault) = fault
+
+-- the same of a receive at once
+abbrev pub fault_of_receive : TryReceiveError → Fault
+fault_of_receive not_received.Empty = faults.Empty
+fault_of_receive not_received.Closed = faults.Closed
 
 abbrev pub is_empty : TryReceiveError → Bool
 is_empty not_received.Empty = true

@@ -48,6 +48,20 @@ impl<T: Drop> From<SendFault<T>> for io::Error {
     }
 }
 
+/// So that `?` serves where a `Fault` is answered: `Closed` where the channel is closed (the value is dropped), else the fault.
+impl<T: Drop> From<SendFault<T>> for Fault {
+    ghost use Rattle.fi_channels.specs.ChannelErrors.{fault_of_poll};
+
+    ghost from_gives = { λ refused fault. fault ≡ fault_of_poll refused };
+
+    fn from(refused: SendFault<T>) -> Fault {
+        match refused {
+            SendFault::Closed(_) => Fault::Closed,
+            SendFault::Fault(fault) => fault,
+        }
+    }
+}
+
 /// Why a value was not sent at once; it is handed back.
 ///
 /// Keeps `TrySendError` of futures-intrusive's `channel`.
@@ -92,6 +106,21 @@ impl<T: Drop> From<TrySendError<T>> for io::Error {
             TrySendError::Closed(_) => ErrorKind::BrokenPipe,
             TrySendError::NoMemory(_) => ErrorKind::OutOfMemory,
         })
+    }
+}
+
+/// So that `?` serves where a `Fault` is answered: the fault of the same name. The value is dropped.
+impl<T: Drop> From<TrySendError<T>> for Fault {
+    ghost use Rattle.fi_channels.specs.ChannelErrors.{fault_of_send};
+
+    ghost from_gives = { λ refused fault. fault ≡ fault_of_send refused };
+
+    fn from(refused: TrySendError<T>) -> Fault {
+        match refused {
+            TrySendError::Full(_) => Fault::Full,
+            TrySendError::Closed(_) => Fault::Closed,
+            TrySendError::NoMemory(_) => Fault::NoMemory,
+        }
     }
 }
 
@@ -183,6 +212,20 @@ impl From<TryReceiveError> for io::Error {
             TryReceiveError::Empty => ErrorKind::WouldBlock,
             TryReceiveError::Closed => ErrorKind::BrokenPipe,
         })
+    }
+}
+
+/// So that `?` serves where a `Fault` is answered: the fault of the same name.
+impl From<TryReceiveError> for Fault {
+    ghost use Rattle.fi_channels.specs.ChannelErrors.{fault_of_receive};
+
+    ghost from_gives = { λ refused fault. fault ≡ fault_of_receive refused };
+
+    fn from(refused: TryReceiveError) -> Fault {
+        match refused {
+            TryReceiveError::Empty => Fault::Empty,
+            TryReceiveError::Closed => Fault::Closed,
+        }
     }
 }
 

@@ -5,6 +5,7 @@ use fi_channels::{
     LocalStateBroadcastChannel, SendFault, TakesValue, TryReceiveError, TrySendError,
 };
 use fi_parts::{ChannelSendError, Fault, NoRoom};
+use std::alloc::AllocError;
 use std::io::{self, ErrorKind};
 
 #[test]
@@ -142,4 +143,20 @@ fn refusals_become_io_errors(rt: HostRuntime) {
         io::Error::from(TryReceiveError::Closed).kind(),
         ErrorKind::BrokenPipe
     );
+}
+
+// Answers the refusal as a `Fault`, by `?`.
+fn fault_of(refused: TrySendError<u8>) -> Result<(), Fault> {
+    Err(refused)?;
+    Ok(())
+}
+
+#[test]
+fn refusals_become_faults(rt: HostRuntime) {
+    assert_eq!(rt; fault_of(TrySendError::Full(3)), Err(Fault::Full));
+    assert_eq!(rt; Fault::from(NoRoom(3)), Fault::NoMemory);
+    assert_eq!(rt; Fault::from(AllocError), Fault::NoMemory);
+    assert_eq!(rt; Fault::from(SendFault::Closed(3)), Fault::Closed);
+    assert_eq!(rt; Fault::from(ChannelSendError(3)), Fault::Closed);
+    assert_eq!(rt; Fault::from(TryReceiveError::Empty), Fault::Empty);
 }
