@@ -14,6 +14,8 @@ pub mod BlockNeighbours
 pub mod BlockChanges
 pub mod BlocksFreed
 pub mod BlocksListed
+pub mod BlocksMoved
+pub mod BlockEnds
 pub mod Pairs
 pub mod OutboxList
 pub mod Queues

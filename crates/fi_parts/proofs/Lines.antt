@@ -12,10 +12,10 @@ use Rattle.fi_parts.specs.declared.phase.Phase.{Phase}
 use Rattle.fi_parts.specs.declared.phase.Phase.TheVariants.{Fresh, Registered, Told, Complete, Ended}
 use Rattle.fi_parts.specs.declared.outbox.Ticket.{Ticket}
 use Rattle.fi_parts.specs.declared.line.Entry.{Entry}
-use Rattle.fi_parts.specs.ListModel.{ListModel, with_live}
-use Rattle.fi_parts.specs.Order.{holds, without}
+use Rattle.fi_parts.specs.ListModel.{ListModel, item_of, with_live, at_end}
+use Rattle.fi_parts.specs.Order.{holds, without, youngest}
 use Rattle.fi_parts.specs.Waiting.{phase_in, phase_of, asks_in, asks_of, is_registered, waker_in, insert_fresh, registered, without_future}
-use Rattle.fi_parts.specs.Waiting.{rephased, with_phase, with_asks_in, with_asks}
+use Rattle.fi_parts.specs.Waiting.{rephased, pair_of, with_phase, with_asks_in, with_asks}
 use Rattle.fi_parts.specs.LineModel.{LineModel, mapped, future_of, ticket_of, line_of, empty_line}
 use Rattle.fi_parts.proofs.FiniteMaps.{get-insert_same, get-insert_other, get-remove_same, get-remove_other}
 use Rattle.fi_parts.proofs.Queues.{reverse_cons, reverse-without, holds-reverse}
@@ -163,6 +163,10 @@ module _ {D W : Type 0} where
     pub its_asks : (n : ℕ) (e : Entry D W) → finmap.get list.live n ≡ Some e → asks_of seen.side n ≡ Some e.future.asks
     its_asks n e is = asks-seen list.live n ∙ ap asks_at is
 
+    pub its_future : (n : ℕ) (e : Entry D W) → finmap.get list.live n ≡ Some e →
+        finmap.get seen.side.live n ≡ Some e.future
+    its_future n e is = get-mapped future_of list.live n ∙ ap (option_map future_of) is
+
     pub seen-inserted : (n : ℕ) (ticket : Ticket) (asks : D) (after : ListModel (Entry D W)) →
         after ≡ with_live list (finmap.insert list.live n (fresh ticket asks)) →
         line_of after ≡ record { side = insert_fresh seen.side n asks; tickets = finmap.insert seen.tickets n ticket.0 }
@@ -206,6 +210,24 @@ module _ {D W : Type 0} where
         ap reverse (order ∙ ap (λ (l : ListModel (Entry D W)). n ∷ l.order) is.2) ∙ reverse_cons n list.order in
         λ i. record { side = record { live = lives i; queue = queue i }; tickets = tickets i }
 
+    -- put in front, and registered there
+    pub seen-joined : (n : ℕ) (waker : W) (mid after : ListModel (Entry D W)) → mid.live ≡ list.live →
+        mid.order ≡ n ∷ list.order →
+        ((e : Entry D W) × (item_of mid (youngest mid.order) ≡ Some e)
+        × (after ≡ at_end mid (youngest mid.order) (at_phase e (Registered waker)))) →
+        line_of after ≡ record seen { side = registered seen.side n waker }
+    seen-joined n waker mid after live order set =
+        let e = set.0 in
+        let at : finmap.get list.live n ≡ Some e =
+        ap (λ l. finmap.get l n) (sym live) ∙ ap (λ o. item_of mid (youngest o)) (sym order) ∙ set.1 in
+        let is : after ≡ with_live mid (finmap.insert mid.live n (at_phase e (Registered waker))) =
+        set.2 ∙ ap (λ o. at_end mid (youngest o) (at_phase e (Registered waker))) order in
+        seen-registered n waker (with_live list (finmap.insert list.live n (at_phase e (Registered waker)))) after
+        (e, at, refl)
+        (ap (λ (l : ListModel (Entry D W)). l.live) is
+        ∙ ap (λ l. finmap.insert l n (at_phase e (Registered waker))) live)
+        (ap (λ (l : ListModel (Entry D W)). l.order) is ∙ order)
+
     pub live-after : (n : ℕ) (phase : Phase W) (after : ListModel (Entry D W)) → PhaseAt n phase after →
         IsSome (finmap.get after.live n)
     live-after n phase after is =
@@ -217,19 +239,16 @@ module _ {D W : Type 0} where
     apart-after n phase after is apart =
         ap (λ (l : ListModel (Entry D W)). holds n l.order) is.2 ∙ sym (holds-reverse n list.order) ∙ apart
 
-    pub seen-removed : (n : ℕ) (mid after : ListModel (Entry D W)) → mid.live ≡ list.live →
-        mid.order ≡ without n list.order →
-        after ≡ with_live mid (finmap.remove mid.live n) →
+    pub seen-removed : (n : ℕ) (after : ListModel (Entry D W)) → after.live ≡ finmap.remove list.live n →
+        after.order ≡ without n list.order →
         line_of after ≡ record { side = without_future seen.side n; tickets = finmap.remove seen.tickets n }
-    seen-removed n mid after live order freed =
-        let gone : after.live ≡ finmap.remove list.live n =
-        ap (λ (l : ListModel (Entry D W)). l.live) freed ∙ ap (λ l. finmap.remove l n) live in
+    seen-removed n after gone order =
         let lives : mapped future_of after.live ≡ finmap.remove seen.side.live n =
         ap (mapped future_of) gone ∙ mapped-remove future_of list.live n in
         let tickets : mapped ticket_of after.live ≡ finmap.remove seen.tickets n =
         ap (mapped ticket_of) gone ∙ mapped-remove ticket_of list.live n in
         let queue : reverse after.order ≡ without n (reverse list.order) =
-        ap reverse (ap (λ (l : ListModel (Entry D W)). l.order) freed ∙ order) ∙ reverse-without n list.order in
+        ap reverse order ∙ reverse-without n list.order in
         λ i. record { side = record { live = lives i; queue = queue i }; tickets = tickets i }
 
     -- the queue's first is the list's last
@@ -267,6 +286,26 @@ module _ {W : Type 0} where
   its_waker (Some Told) r h e = absurd (both_ways false refl h)
   its_waker (Some Complete) r h e = absurd (both_ways false refl h)
   its_waker (Some Ended) r h e = absurd (both_ways false refl h)
+
+  -- who gave a waker was registered with it
+  pub registered_with : (p : Option (Phase W)) (r : Option W) (w : W) →
+      MatchOption p ⊥ (λ before. r ≡ waker_in before) → r ≡ Some w → p ≡ Some (Registered w)
+  registered_with None r w h e = absurd h
+  registered_with (Some Fresh) r w h e = absurd (cc)
+  registered_with (Some (Registered v)) r w h e = let same : v ≡ w = cc in ap (λ z. Some (Registered z)) same
+  registered_with (Some Told) r w h e = absurd (cc)
+  registered_with (Some Complete) r w h e = absurd (cc)
+  registered_with (Some Ended) r w h e = absurd (cc)
+
+  -- and who gave none has no pair to be named by
+  pub pairless : (p : Option (Phase W)) (r : Option W) (n : ℕ) → MatchOption p ⊥ (λ before. r ≡ waker_in before) →
+      r ≡ None → pair_of n p ≡ []
+  pairless None r n h e = absurd h
+  pairless (Some Fresh) r n h e = refl
+  pairless (Some (Registered v)) r n h e = absurd (cc)
+  pairless (Some Told) r n h e = refl
+  pairless (Some Complete) r n h e = refl
+  pairless (Some Ended) r n h e = refl
 
   pub some_is : (r : Option W) (w : W) → r ≡ Some w → IsSome r
   some_is None w e = cc

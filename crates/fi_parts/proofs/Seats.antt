@@ -1,5 +1,6 @@
 -- The futures of a timer without their seats, and that each change keeps futures and seats together.
-use Rattle.std.proofs.Common.{◌≡◌, ◌≢◌, ◌<◌, ◌-◌, arith, ℕ, Bool, true, false, List, [], ◌∷◌, ◌++◌, Option, Some, None, IsSome}
+use Rattle.std.proofs.Common.{◌≡◌, ◌≢◌, ◌<◌, ◌-◌, arith, ℕ, Bool, true, false, List, [], ◌∷◌, ◌++◌, Option, Some, None}
+use Rattle.std.proofs.Common.{IsSome, option_map}
 use Rattle.std.proofs.Common.{is_some, cond, map, refl, sym, ap, ◌∙◌, inl, inr}
 use Rattle.std.proofs.lemmas.Bool.{both_ways, cases_eq}
 use Rattle.std.proofs.lemmas.Option.{none-some}
@@ -14,7 +15,8 @@ use Rattle.fi_parts.specs.Waiting.{Waiting, phase_in, asks_in, is_registered, re
 use Rattle.fi_parts.specs.Waiting.{with_phase, insert_fresh, without_future, pair, pair_of}
 use Rattle.fi_parts.specs.declared.phase.Phase.TheVariants.{Fresh, Registered, Told}
 use Rattle.fi_parts.specs.Pairs.{without_pair}
-use Rattle.fi_parts.proofs.Picked.{contains-insert_same, contains-insert_other, contains-remove_same, contains-remove_other}
+use Rattle.fi_parts.proofs.Picked.{contains-insert_same, contains-insert_other, contains-remove_same}
+use Rattle.fi_parts.proofs.Picked.{contains-remove_other}
 use Rattle.fi_parts.proofs.Waiting.{get-with_phase, get-with_phase_other}
 use Rattle.fi_parts.proofs.FiniteMaps.{get-insert_same, get-insert_other, get-remove_same, get-remove_other}
 use Rattle.fi_parts.specs.declared.deadlines.Timed.{Timed}
@@ -38,6 +40,10 @@ module _ {W : Type 0} where
   abbrev pub unseated_in : Option (Future Timed W) → Option (Future ℕ W)
   unseated_in None = None
   unseated_in (Some future) = Some (unseated future)
+
+  pub unseated_in-map : (o : Option (Future Timed W)) → option_map unseated o ≡ unseated_in o
+  unseated_in-map None = refl
+  unseated_in-map (Some future) = refl
 
   find-unseated : (q : ℕ) (es : List (ℕ × Future Timed W)) → finmap.find nat_cmp q (map (λ e. (e.0, unseated e.1)) es) ≡
       unseated_in (finmap.find nat_cmp q es)

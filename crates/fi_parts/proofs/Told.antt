@@ -1,7 +1,8 @@
 -- A front of the queue is told: the phases then, that the store stays in order, and that it can be told one by one.
-use Rattle.std.proofs.Common.{◌≡◌, ℕ, Bool, true, false, if◌then◌else◌, List, [], ◌∷◌, ◌++◌, Option, Some, None, append_assoc, refl, sym}
+use Rattle.std.proofs.Common.{◌≡◌, ℕ, Bool, true, false, if◌then◌else◌, List, [], ◌∷◌, ◌++◌, Option, Some, None, IsSome}
+use Rattle.std.proofs.Common.{append_assoc, refl, sym}
 use Rattle.std.proofs.Common.{ap, subst, ◌∙◌, inl, inr}
-use Rattle.std.proofs.lemmas.Bool.{both_ways, cases_eq}
+use Rattle.std.proofs.lemmas.Bool.{cases_eq}
 use Rattle.std.proofs.lemmas.List.{append-nil}
 use Rattle.std.specs.Ordering.{nat_cmp}
 use Rattle.std.specs.Cmp.{nat_cmp_total}
@@ -11,7 +12,8 @@ use Rattle.fi_parts.specs.declared.phase.Phase.TheVariants.{Fresh, Registered, T
 use Rattle.fi_parts.specs.declared.phase.Future.{Future}
 use Rattle.fi_parts.specs.Order.{holds, Apart, without}
 use Rattle.fi_parts.specs.Pairs.{has}
-use Rattle.fi_parts.specs.Waiting.{Waiting, phase_in, phase_of, is_registered, is_queued, rephased, with_phase, pair_of, pair}
+use Rattle.fi_parts.specs.Waiting.{Waiters, Waiting, IsLive, phase_in, phase_of, is_registered, is_queued, with_phase}
+use Rattle.fi_parts.specs.Waiting.{pair_of, rephased}
 use Rattle.fi_parts.specs.Waiting.{IsOrderedBy, named, with_phases, told_one, front_told}
 use Rattle.fi_parts.proofs.FiniteMaps.{get-insert_same, get-insert_other}
 use Rattle.fi_parts.proofs.Slots.{Apart-back, apart_middle, in_neither, without_first}
@@ -92,14 +94,6 @@ module _ {D W : Type 0} (place : Option (Phase W) → Bool) (rule : IsPlaceRule 
       either false = refl
 
 module _ {W : Type 0} where
-  pub told_if : (p : Option (Phase W)) → is_queued true p ≡ true → is_registered p ≡ false → p ≡ Some Told
-  told_if None h off = absurd (both_ways false refl h)
-  told_if (Some Fresh) h off = absurd (both_ways false refl h)
-  told_if (Some (Registered w)) h off = absurd (both_ways true off refl)
-  told_if (Some Told) h off = refl
-  told_if (Some Complete) h off = absurd (both_ways false refl h)
-  told_if (Some Ended) h off = absurd (both_ways false refl h)
-
   waits_if : (keeps : Bool) (p : Option (Phase W)) → is_queued keeps p ≡ true → is_queued true p ≡ true
   waits_if keeps None h = h
   waits_if keeps (Some Fresh) h = h
@@ -109,14 +103,13 @@ module _ {W : Type 0} where
   waits_if keeps (Some Ended) h = h
 
 module _ {D W : Type 0} where
-  -- nothing changes where it is told already
-  pub told_one-same : (w : Waiting D W) (name : ℕ) → is_queued true (phase_of w.side name) ≡ true →
-      is_registered (phase_of w.side name) ≡ false → told_one true w name ≡ w
-  told_one-same w name waits off =
-      let stood : phase_of w.side name ≡ Some Told = told_if (phase_of w.side name) waits off in
-      let live : with_phase w.side.live name Told ≡ w.side.live = with_phase-same w.side.live name Told stood in
-      let out : w.out ++ pair w.side name ≡ w.out = ap (λ p. w.out ++ pair_of name p) stood ∙ append-nil w.out in
-      λ i. record { side = record { live = live i; queue = w.side.queue }; out = out i }
+  -- who waits is live
+  pub live_if_waits : (side : Waiters D W) (name : ℕ) → is_queued true (phase_of side name) ≡ true → IsLive side name
+  live_if_waits side name waits = each (map.get side.live name) waits
+    where
+      each : (o : Option (Future D W)) → is_queued true (phase_in o) ≡ true → IsSome o
+      each None r = r
+      each (Some f) r = refl
 
   pub waits-ordered : (keeps : Bool) (w : Waiting D W) (name : ℕ) → IsOrderedBy (is_queued keeps) w.side w.out →
       holds name w.side.queue ≡ true → is_queued true (phase_of w.side name) ≡ true

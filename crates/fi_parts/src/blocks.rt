@@ -1,10 +1,10 @@
 //! The store of a list: live slots, each with a block of its own, some of which are linked by raw pointers.
-ghost use Rattle.std.specs.Prelude.{◌≡◌, ℕ, ◌+◌, ◌≤◌, ◌<◌, ◌^◌, length, List, ◌∷◌, ◌++◌, [], Some, None, true, false, IfOk, IfErr, OnErr, option_copied};
+ghost use Rattle.std.specs.Prelude.{◌≡◌, ℕ, ◌+◌, ◌≤◌, ◌<◌, ◌^◌, length, List, ◌∷◌, ◌++◌, [], Some, None, true, false, IfOk, IfErr, OnErr, MatchOption, option_copied};
 ghost use Rattle.std.specs.Option.{option_copied_mut};
 ghost use Rattle.std.specs.Borrow.{sem};
 ghost use Rattle.std.specs.FinMap as map;
 ghost use Rattle.fi_parts.specs.Order.{holds, without, youngest, oldest};
-ghost use Rattle.fi_parts.specs.ListModel.{item, IsLive, with_live, IsListed};
+ghost use Rattle.fi_parts.specs.ListModel.{item, item_of, IsLive, with_live, IsListed};
 
 mod block;
 mod counted;
@@ -42,7 +42,7 @@ impl<T> Model for Blocks<T> {
 }
 
 impl<T> Blocks<T> {
-    ghost use Rattle.fi_parts.specs.BlocksLending.{LendsSlot};
+    ghost use Rattle.fi_parts.specs.BlocksLending.{LendsSlot, LendsEndSlot};
 
     /// No live slot. It takes no memory yet.
     pub fn new(alloc: Global) -> Self
@@ -87,6 +87,52 @@ impl<T> Blocks<T> {
             Some(at) => Some(self.linked.slot(at)),
             None => None,
         }
+    }
+
+    /// The value of the youngest linked slot, by its pointer.
+    pub fn first_item(&self) -> Option<&T>
+        ensures { option_copied result ≡ item_of self.now (youngest self.now.order) }
+    {
+        let youngest = match self.linked.first() {
+            Some(youngest) => youngest,
+            None => return None,
+        };
+        Some(self.linked.item(youngest))
+    }
+
+    /// The value of the oldest linked slot, by its pointer.
+    pub fn last_item(&self) -> Option<&T>
+        ensures { option_copied result ≡ item_of self.now (oldest self.now.order) }
+    {
+        let oldest = match self.linked.last() {
+            Some(oldest) => oldest,
+            None => return None,
+        };
+        Some(self.linked.item(oldest))
+    }
+
+    /// The value of the youngest linked slot, to be written, by its pointer.
+    pub fn first_item_mut(&mut self) -> Option<&mut T>
+        ensures* writes_back { sem 𝓛 (LendsEndSlot T.row self.entry (youngest self.old.order) result) }
+        ensures value { option_copied_mut result ≡ item_of self.old (youngest self.old.order) }
+    {
+        let youngest = match self.linked.first() {
+            Some(youngest) => youngest,
+            None => return None,
+        };
+        Some(self.linked.item_mut(youngest))
+    }
+
+    /// The value of the oldest linked slot, to be written, by its pointer.
+    pub fn last_item_mut(&mut self) -> Option<&mut T>
+        ensures* writes_back { sem 𝓛 (LendsEndSlot T.row self.entry (oldest self.old.order) result) }
+        ensures value { option_copied_mut result ≡ item_of self.old (oldest self.old.order) }
+    {
+        let oldest = match self.linked.last() {
+            Some(oldest) => oldest,
+            None => return None,
+        };
+        Some(self.linked.item_mut(oldest))
     }
 
     /// The value of a live slot; None for another.
@@ -149,6 +195,23 @@ impl<T> Blocks<T> {
         self.linked.free(self.alloc, at)
     }
 
+    /// Takes a live slot out of the list, if it is linked, and gives its value back; the slot is not live afterwards. As `unlink`
+    /// and then `free`, with one look-up.
+    pub fn unlink_and_free(&mut self, slot: usize) -> T
+    where
+        T: Drop,
+        requires { IsLive self.old slot }
+        ensures value { item self.old slot ≡ Some result }
+        ensures live { self.new.live ≡ map.remove self.old.live slot }
+        ensures order { self.new.order ≡ without slot self.old.order }
+        ensures visits { self.new.visits ≤ self.old.visits + 3 }
+        ensures never_fewer { self.old.visits ≤ self.new.visits }
+    {
+        let block = self.slab.remove(slot);
+        self.linked.unlink(block);
+        self.linked.free(self.alloc, block)
+    }
+
     /// The next younger linked slot; none for the youngest.
     pub fn younger(&mut self, slot: usize) -> Option<usize>
         requires { holds slot self.old.order ≡ true }
@@ -190,6 +253,23 @@ impl<T> Blocks<T> {
             None => return false,
         };
         self.linked.unlink(at)
+    }
+
+    /// Takes the oldest linked slot out of the list, by its pointer; None where no slot is linked.
+    pub fn unlink_last(&mut self) -> Option<usize>
+        ensures oldest { result ≡ oldest self.old.order }
+        ensures live { self.new.live ≡ self.old.live }
+        ensures order { MatchOption result (self.new.order ≡ self.old.order) (λ slot. self.new.order ≡ without slot self.old.order) }
+        ensures visits { self.new.visits ≤ self.old.visits + 3 }
+        ensures never_fewer { self.old.visits ≤ self.new.visits }
+    {
+        let oldest = match self.linked.last() {
+            Some(oldest) => oldest,
+            None => return None,
+        };
+        let slot = self.linked.slot(oldest);
+        self.linked.unlink(oldest);
+        Some(slot)
     }
 }
 

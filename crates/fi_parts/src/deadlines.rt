@@ -1,5 +1,6 @@
 //! Futures that wait for a moment, and those that are registered in a heap by expiry.
 ghost use Rattle.std.specs.Prelude.{◌≡◌, ◌≢◌, ℕ, [], Some, None, true, false, IfOk, IfErr, OnErr, length, drop, option_copied, MatchOption, MatchBool, nat_le, ◌<◌};
+ghost use Rattle.std.specs.Option.{option_map};
 ghost use Rattle.std.specs.FinMap as map;
 ghost use Rattle.std.specs.FinSet as set;
 ghost use Rattle.fi_parts.specs.HeapModel.{IsLiveIn, with_values};
@@ -7,11 +8,11 @@ ghost use Rattle.fi_parts.specs.Pairs.{waker_of, without_pair, oldest};
 ghost use Rattle.fi_parts.specs.Waiting.{phase_of, asks_of, is_registered, waker_in, with_phase, no_futures};
 ghost use Rattle.fi_parts.specs.Waiting.{insert_fresh, stays, without_future, displaced, IsLive};
 ghost use Rattle.fi_parts.specs.Deadlines.{told_due, IsLeastDue, NoneDue, TellsExpired, NoneHasPair, IsNextExpiry, is_fresh, expiry_of};
-ghost use Rattle.fi_parts.specs.Seats.{deadlines_of, AreSeated, IsFirst};
+ghost use Rattle.fi_parts.specs.Seats.{unseated, deadlines_of, AreSeated, IsFirst};
 
 use crate::errors::{Fault, Slot};
 use crate::heap::PairingHeap;
-use crate::phase::Phase;
+use crate::phase::{Future, Phase};
 use crate::waits::Waits;
 use std::alloc::Global;
 use std::marker::Model;
@@ -120,6 +121,13 @@ impl<W: Drop> Deadlines<W> {
             waits: Waits::new(alloc),
             heap: PairingHeap::new(alloc),
         }
+    }
+
+    /// A future, with its seat: it asks for its expiry, and has this phase. None where none lives under this name.
+    pub fn future(&self, slot: Slot) -> Option<&Future<Timed, W>>
+        ensures { option_map unseated (option_copied result) ≡ map.get self.now.side.live slot.0 }
+    {
+        self.waits.future(slot)
     }
 
     /// The phase of a name; None where no future lives under it.

@@ -28,7 +28,7 @@ mod visits;
 mod waits;
 
 pub use clocks::{Clock, MockClock, StdClock, whole_millis};
-pub use deadlines::Deadlines;
+pub use deadlines::{Deadlines, Timed};
 pub use drain::{Drain, ReverseDrain};
 pub use errors::{ChannelSendError, CloseStatus, Fault, NoRoom, Slot, StateId};
 pub use heap::PairingHeap;

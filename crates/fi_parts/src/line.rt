@@ -2,8 +2,8 @@
 ghost use Rattle.std.specs.Prelude.{◌≡◌, ℕ, ◌∷◌, ◌++◌, List, [], Some, None, true, false, Option, IfOk, OnErr, IfErr, IsSome, MatchOption, option_copied};
 ghost use Rattle.std.specs.FinMap as map;
 ghost use Rattle.std.specs.FinSet as set;
-ghost use Rattle.fi_parts.specs.Order.{holds, without};
-ghost use Rattle.fi_parts.specs.ListModel.{item, with_live};
+ghost use Rattle.fi_parts.specs.Order.{holds, without, youngest};
+ghost use Rattle.fi_parts.specs.ListModel.{item, item_of, with_live, at_end};
 ghost use Rattle.fi_parts.specs.Pairs.{with_tickets};
 ghost use Rattle.fi_parts.specs.NamedPairs.{waker_in_pair};
 ghost use Rattle.fi_parts.specs.Waiting.{with_phase, exchange, phase_of, IsLive, insert_fresh, registered};
@@ -72,18 +72,28 @@ fn into_waker<W: Drop>(phase: Phase<W>) -> Option<W>
     }
 }
 
-// Sets the phase of a live future, and takes the phase that it had.
+// Sets the phase of a live future, and takes the phase that it had. Gives its ticket too.
 fn swap_phase<D: Drop, W: Drop>(
     list: &mut LinkedList<Entry<D, W>>,
     slot: Slot,
     phase: Phase<W>,
-) -> Phase<W>
+) -> (Ticket, Phase<W>)
     requires { IsSome (item list.old slot.0) }
-    ensures { (entry : Entry D W) × (item list.old slot.0 ≡ Some entry) × (result ≡ entry.future.phase)
+    ensures { (entry : Entry D W) × (item list.old slot.0 ≡ Some entry) × (result ≡ (entry.ticket, entry.future.phase))
         × (list.new ≡ with_live list.old (map.insert list.old.live slot.0 (record entry { future = record entry.future { phase = phase } }))) }
 {
     let entry = list.get_mut(slot).unwrap();
-    mem::replace(&mut entry.future.phase, phase)
+    (entry.ticket, mem::replace(&mut entry.future.phase, phase))
+}
+
+// Sets the phase of the youngest future of the list.
+fn set_youngest<D: Drop, W: Drop>(list: &mut LinkedList<Entry<D, W>>, phase: Phase<W>)
+    requires { IsSome (item_of list.old (youngest list.old.order)) }
+    ensures { (entry : Entry D W) × (item_of list.old (youngest list.old.order) ≡ Some entry)
+        × (list.new ≡ at_end list.old (youngest list.old.order) (record entry { future = record entry.future { phase = phase } })) }
+{
+    let entry = list.peek_first_mut().unwrap();
+    entry.future.phase = phase;
 }
 
 // Polls a live future, which is looked up once.
@@ -119,6 +129,16 @@ impl<D: Drop, W: Drop> Line<D, W> {
     {
         Line {
             list: LinkedList::new(alloc),
+        }
+    }
+
+    /// A future: what it asks for, and its phase; None if none lives in this slot.
+    pub fn future(&self, slot: Slot) -> Option<&Future<D, W>>
+        ensures { option_copied result ≡ map.get self.now.side.live slot.0 }
+    {
+        match self.list.get(slot) {
+            Some(entry) => Some(&entry.future),
+            None => None,
         }
     }
 
@@ -191,8 +211,8 @@ impl<D: Drop, W: Drop> Line<D, W> {
         requires apart { holds slot.0 self.old.side.queue ≡ false }
         ensures { self.new ≡ record self.old { side = registered self.old.side slot.0 waker } }
     {
-        swap_phase(&mut self.list, slot, Phase::Registered(waker));
         self.list.add_front(slot);
+        set_youngest(&mut self.list, Phase::Registered(waker));
     }
 
     /// Sets the phase of a live future; its place in the queue stays. Returns the waker that it was registered with.
@@ -201,7 +221,18 @@ impl<D: Drop, W: Drop> Line<D, W> {
         ensures waker { MatchOption (phase_of self.old.side slot.0) ⊥ (λ before. result ≡ waker_in before) }
         ensures rest { self.new ≡ record self.old { side = record self.old.side { live = with_phase self.old.side.live slot.0 phase } } }
     {
-        into_waker(swap_phase(&mut self.list, slot, phase))
+        into_waker(swap_phase(&mut self.list, slot, phase).1)
+    }
+
+    /// Sets the phase of a live future as `set_phase` does, and gives its ticket with the waker: it is looked up once.
+    pub fn notice(&mut self, slot: Slot, phase: Phase<W>) -> (Ticket, Option<W>)
+        requires { IsLive self.old.side slot.0 }
+        ensures ticket { map.get self.old.tickets slot.0 ≡ Some result.0.0 }
+        ensures waker { MatchOption (phase_of self.old.side slot.0) ⊥ (λ before. result.1 ≡ waker_in before) }
+        ensures rest { self.new ≡ record self.old { side = record self.old.side { live = with_phase self.old.side.live slot.0 phase } } }
+    {
+        let (ticket, was) = swap_phase(&mut self.list, slot, phase);
+        (ticket, into_waker(was))
     }
 
     /// Polls a live future. A registered one keeps its place with this newer waker; a fresh one is registered and goes to the queue's
@@ -234,10 +265,10 @@ impl<D: Drop, W: Drop> Line<D, W> {
         ensures ticket { map.get self.old.tickets slot.0 ≡ Some result.ticket.0 }
         ensures asked { asks_of self.old.side slot.0 ≡ Some result.future.asks }
         ensures phase { phase_of self.old.side slot.0 ≡ Some result.future.phase }
+        ensures future { map.get self.old.side.live slot.0 ≡ Some result.future }
         ensures removed { self.new ≡ record { side = without_future self.old.side slot.0; tickets = map.remove self.old.tickets slot.0 } }
     {
-        self.list.remove(slot);
-        self.list.free(slot)
+        self.list.remove_and_free(slot)
     }
 
     /// The oldest future of the queue; None if the queue is empty.

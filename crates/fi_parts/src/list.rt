@@ -148,6 +148,21 @@ impl<T> LinkedList<T> {
         self.blocks.unlink(slot.0)
     }
 
+    /// Takes a live slot out of the list, if it is there, and gives its value back; the slot is not live afterwards. As `remove`
+    /// and then `free`, with one look-up.
+    pub fn remove_and_free(&mut self, slot: Slot) -> T
+    where
+        T: Drop,
+        requires { IsLive self.old slot.0 }
+        ensures value { item self.old slot.0 ≡ Some result }
+        ensures live { self.new.live ≡ map.remove self.old.live slot.0 }
+        ensures order { self.new.order ≡ without slot.0 self.old.order }
+        ensures visits { self.new.visits ≤ self.old.visits + 3 }
+        ensures never_fewer { self.old.visits ≤ self.new.visits }
+    {
+        self.blocks.unlink_and_free(slot.0)
+    }
+
     /// The youngest slot of the list; None for an empty list.
     pub fn first_slot(&self) -> Option<Slot>
         ensures { MatchOption result (self.now.order ≡ []) (λ slot. ((rest : List ℕ) × (self.now.order ≡ slot.0 ∷ rest))) }
@@ -206,29 +221,25 @@ impl<T> LinkedList<T> {
         ensures never_fewer { self.old.visits ≤ self.new.visits }
     {
         self.is_listed();
-        let slot = self.last_slot()?;
-        self.remove(slot);
-        Some(slot)
+        let slot = match self.blocks.unlink_last() {
+            Some(slot) => slot,
+            None => return None,
+        };
+        Some(Slot(slot))
     }
 
     /// The youngest slot's value; None for an empty list. Keeps `LinkedList::peek_first`.
     pub fn peek_first(&self) -> Option<&T>
         ensures { option_copied result ≡ item_of self.now (youngest self.now.order) }
     {
-        match self.blocks.first() {
-            Some(youngest) => self.blocks.get(youngest),
-            None => None,
-        }
+        self.blocks.first_item()
     }
 
     /// The oldest slot's value; None for an empty list. Keeps `LinkedList::peek_last`.
     pub fn peek_last(&self) -> Option<&T>
         ensures { option_copied result ≡ item_of self.now (oldest self.now.order) }
     {
-        match self.blocks.last() {
-            Some(oldest) => self.blocks.get(oldest),
-            None => None,
-        }
+        self.blocks.last_item()
     }
 
     /// The youngest slot's value, for writing; None for an empty list.
@@ -236,10 +247,7 @@ impl<T> LinkedList<T> {
         ensures* writes_back { sem 𝓛 (LendsEnd T.row self.entry (youngest self.old.order) result) }
         ensures value { option_copied_mut result ≡ item_of self.old (youngest self.old.order) }
     {
-        match self.blocks.first() {
-            Some(youngest) => self.get_mut(Slot(youngest)),
-            None => None,
-        }
+        self.blocks.first_item_mut()
     }
 
     /// The oldest slot's value, for writing; None for an empty list. Keeps `LinkedList::peek_last_mut`.
@@ -247,10 +255,7 @@ impl<T> LinkedList<T> {
         ensures* writes_back { sem 𝓛 (LendsEnd T.row self.entry (oldest self.old.order) result) }
         ensures value { option_copied_mut result ≡ item_of self.old (oldest self.old.order) }
     {
-        match self.blocks.last() {
-            Some(oldest) => self.get_mut(Slot(oldest)),
-            None => None,
-        }
+        self.blocks.last_item_mut()
     }
 
     /// An iterator that takes the slots out, the youngest first. Slots that it has not yielded stay in the list.

@@ -1,5 +1,6 @@
 //! Futures that wait in a queue, and the wakers that are named to be woken.
 ghost use Rattle.std.specs.Prelude.{◌≡◌, ℕ, ◌++◌, ◌∷◌, List, [], Some, None, true, false, Option, IfOk, OnErr, IfErr, IsSome, MatchOption, length, drop, option_copied};
+ghost use Rattle.std.specs.FinMap as map;
 ghost use Rattle.fi_parts.specs.Order.{holds, without};
 ghost use Rattle.fi_parts.specs.Pairs.{has, waker_of, without_pair, oldest};
 ghost use Rattle.fi_parts.specs.Noticed.{phase_after};
@@ -47,6 +48,13 @@ impl<D: Drop, W: Drop> Waits<D, W> {
             line: Line::new(alloc),
             outbox: Outbox::new(alloc),
         }
+    }
+
+    /// A future: what it asks for, and its phase; None where none lives under this name.
+    pub fn future(&self, slot: Slot) -> Option<&Future<D, W>>
+        ensures { option_copied result ≡ map.get self.now.side.live slot.0 }
+    {
+        self.line.future(slot)
     }
 
     /// The phase of a future; None where none lives under this name.
@@ -146,11 +154,22 @@ impl<D: Drop, W: Drop> Waits<D, W> {
         ensures waker { result.1 ≡ displaced self.old.side self.old.out slot.0 }
         ensures removed { self.new ≡ record { side = without_future self.old.side slot.0; out = without_pair slot.0 self.old.out } }
     {
+        let (future, named) = self.remove_future(slot);
+        let Future { asks, phase } = future;
+        (asks, last_waker(phase, named))
+    }
+
+    /// Takes a live future out of everything as `remove` does, and gives it back as it was, with the waker of its pair.
+    pub fn remove_future(&mut self, slot: Slot) -> (Future<D, W>, Option<W>)
+        requires { IsLive self.old.side slot.0 }
+        ensures future { map.get self.old.side.live slot.0 ≡ Some result.0 }
+        ensures waker { result.1 ≡ waker_of slot.0 self.old.out }
+        ensures removed { self.new ≡ record { side = without_future self.old.side slot.0; out = without_pair slot.0 self.old.out } }
+    {
         let named = self.take_out(slot);
         let entry = self.line.remove(slot);
         self.outbox.free(entry.ticket);
-        let Future { asks, phase } = entry.future;
-        (asks, last_waker(phase, named))
+        (entry.future, named)
     }
 
     /// Takes the oldest out of the queue; None where nobody waits.
@@ -192,8 +211,7 @@ impl<D: Drop, W: Drop> Waits<D, W> {
         requires no_pair { has slot.0 self.old.out ≡ false }
         ensures { self.new ≡ record { side = record self.old.side { live = with_phase self.old.side.live slot.0 phase }; out = self.old.out ++ pair self.old.side slot.0 } }
     {
-        let ticket = self.line.ticket(slot);
-        let waker = self.line.set_phase(slot, phase);
+        let (ticket, waker) = self.line.notice(slot, phase);
         self.outbox.name(ticket, (slot.0, waker.unwrap()));
     }
 
@@ -213,8 +231,9 @@ impl<D: Drop, W: Drop> Waits<D, W> {
         requires no_pair { is_registered (phase_of self.old.side slot.0) ≡ true → has slot.0 self.old.out ≡ false }
         ensures { self.new ≡ told_one true self.old slot.0 }
     {
-        if self.is_registered(slot) {
-            self.notice(slot, Phase::Told);
+        let (ticket, waker) = self.line.notice(slot, Phase::Told);
+        if let Some(waker) = waker {
+            self.outbox.name(ticket, (slot.0, waker));
         }
     }
 

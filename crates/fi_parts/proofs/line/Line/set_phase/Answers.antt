@@ -17,4 +17,4 @@ returns-clause-waker g c =
     let was = c.swap_phase.ensures in
     let stood : phase_of c.args.self.now.side c.args.slot.0 ≡ Some was.0.future.phase =
     rw (← c.self.view_is) (its_phase c.self.inside.list c.args.slot.0 was.0 was.1) in
-    rw stood (c.into_waker.ensures ∙ ap waker_in was.2)
+    rw stood (c.into_waker.ensures ∙ ap (λ p. waker_in p.1) was.2)
