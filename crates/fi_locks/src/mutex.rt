@@ -10,7 +10,7 @@ ghost use Rattle.fi_parts.specs.Stays.{AllStay, OthersStay, IsApart};
 
 use crate::mutex_future::LocalMutexLockFuture;
 use crate::mutex_guard::LocalMutexGuard;
-use fi_parts::{Fault, Leftover, Phase, Slot, Waits};
+use fi_parts::{Fault, Leftover, Phase, Slot, Waits, last_waker};
 use futures::task::Poll;
 use std::alloc::Global;
 use std::marker::Model;
@@ -301,7 +301,6 @@ impl<T, W: Drop> MutexState<T, W> {
 
 impl<T: Drop, W: Drop> Fields<T, W> {
     ghost use Rattle.fi_parts.specs.Order.{holds};
-    ghost use Rattle.fi_parts.specs.Places.{is_told};
     ghost use Rattle.fi_parts.specs.Waiting.{IsLive, IsOrderedBy, is_queued, is_registered, may_be_named};
     ghost use Rattle.fi_parts.specs.Effects.{TakesEffect};
     ghost use Rattle.fi_parts.specs.Effects.WaiterEffect.{EndsPlaced, Registers};
@@ -482,24 +481,15 @@ impl<T: Drop, W: Drop> Fields<T, W> {
         self.poll_fresh(slot, waker)
     }
 
-    fn is_told(&self, slot: Slot) -> bool
-        ensures { result ≡ is_told (phase_of self.now.locks.side slot.0) }
-    {
-        match self.locks.phase(slot) {
-            Some(Phase::Told) => true,
-            None | Some(Phase::Fresh | Phase::Registered(_) | Phase::Complete | Phase::Ended) =>
-                false,
-        }
-    }
-
     fn remove_waiter(&mut self, slot: Slot) -> Option<W>
         requires sound { IsSound (machine_of self.old) }
         requires live { is_some (phase_of self.old.locks.side slot.0) ≡ true }
         ensures cancelled { Cancels (machine_of self.old) slot.0 (machine_of self.new) }
         ensures displaced { result ≡ displaced self.old.locks.side self.old.locks.out slot.0 }
     {
-        let was_told = self.is_told(slot);
-        let (_, waker) = self.locks.remove(slot);
+        let (future, named) = self.locks.remove_future(slot);
+        let was_told = future.phase.is_told();
+        let waker = last_waker(future.phase, named);
         if was_told {
             self.tell_oldest();
         }

@@ -4,7 +4,7 @@ ghost use Rattle.std.specs.Prelude.{None, IfOk, IfErr, OnErr, MatchOption, is_so
 ghost use Rattle.fi_parts.specs.Effects.{TakesEffect};
 ghost use Rattle.fi_parts.specs.Effects.WaiterEffect.{EndsPlaced};
 ghost use Rattle.fi_parts.specs.Machine.{phase_at, displaced_at};
-ghost use Rattle.fi_parts.specs.Places.{is_told};
+ghost use Rattle.fi_parts.specs.Places as told;
 ghost use Rattle.fi_parts.specs.Polled.{unused_after, WouldBeReady, LeavesWhere};
 ghost use Rattle.fi_parts.specs.Waiting.{phase_of, displaced, is_registered, is_queued, IsOrderedBy};
 ghost use Rattle.fi_parts.specs.declared.phase.Phase.TheVariants as phases;
@@ -371,17 +371,6 @@ impl<W: Drop> Fields<W> {
         }
     }
 
-    fn is_told(&self, slot: Slot) -> bool
-        ensures { result ≡ is_told (phase_of self.now.waits.side slot.0) }
-    {
-        match self.waits.phase(slot) {
-            Some(Phase::Told) => true,
-            None | Some(Phase::Fresh | Phase::Registered(_) | Phase::Complete | Phase::Ended) => {
-                false
-            }
-        }
-    }
-
     // Whether one who does not wait is granted this many permits.
     fn can_take(&self, permits: usize) -> bool
         ensures { result ≡ can_take (machine_of self.now).own self.now.waits.side.queue permits }
@@ -398,12 +387,15 @@ impl<W: Drop> Fields<W> {
     fn ends_now(&self, slot: Slot) -> bool
         ensures { WouldBeReady (Polls (machine_of self.now) slot.0) result }
     {
-        let need = self.need(slot);
-        match self.waits.phase(slot) {
-            Some(Phase::Fresh) => self.can_take(need),
-            Some(Phase::Registered(_)) => !self.is_fair && need <= self.free,
-            Some(Phase::Told) => need <= self.free,
-            None | Some(Phase::Complete | Phase::Ended) => false,
+        let future = match self.waits.future(slot) {
+            Some(future) => future,
+            None => return false,
+        };
+        match &future.phase {
+            Phase::Fresh => self.can_take(future.asks),
+            Phase::Registered(_) => !self.is_fair && future.asks <= self.free,
+            Phase::Told => future.asks <= self.free,
+            Phase::Complete | Phase::Ended => false,
         }
     }
 
@@ -429,16 +421,16 @@ impl<W: Drop> Fields<W> {
         self.waits.set_phase(slot, Phase::Ended).or(named)
     }
 
-    fn poll_fresh(&mut self, slot: Slot, waker: W) -> (Poll<usize>, Leftover<W>)
+    fn poll_fresh(&mut self, slot: Slot, need: usize, waker: W) -> (Poll<usize>, Leftover<W>)
         requires sound { IsSound (machine_of self.old) }
         requires marked { IsMarked self.old }
+        requires need { need ≡ need_of self.old.waits.side slot.0 }
         requires fresh { phase_of self.old.waits.side slot.0 ≡ Some phases.Fresh }
         ensures polled { Polls (machine_of self.old) slot.0 waker result.0 (machine_of self.new) }
         ensures displaced { result.1.displaced ≡ displaced self.old.waits.side self.old.waits.out slot.0 }
         ensures unused { result.1.unused ≡ unused_after result.0 waker }
         ensures marked { IsMarked self.new }
     {
-        let need = self.need(slot);
         if !self.can_take(need) {
             let named = self.waits.take_out(slot);
             self.waits.register(slot, waker);
@@ -451,16 +443,16 @@ impl<W: Drop> Fields<W> {
         (Poll::Ready(need), Leftover::of(named, Some(waker)))
     }
 
-    fn poll_registered(&mut self, slot: Slot, waker: W) -> (Poll<usize>, Leftover<W>)
+    fn poll_registered(&mut self, slot: Slot, need: usize, waker: W) -> (Poll<usize>, Leftover<W>)
         requires sound { IsSound (machine_of self.old) }
         requires marked { IsMarked self.old }
+        requires need { need ≡ need_of self.old.waits.side slot.0 }
         requires registered { is_registered (phase_of self.old.waits.side slot.0) ≡ true }
         ensures polled { Polls (machine_of self.old) slot.0 waker result.0 (machine_of self.new) }
         ensures displaced { result.1.displaced ≡ displaced self.old.waits.side self.old.waits.out slot.0 }
         ensures unused { result.1.unused ≡ unused_after result.0 waker }
         ensures marked { IsMarked self.new }
     {
-        let need = self.need(slot);
         if self.is_fair || need > self.free {
             self.waits.take_out(slot);
             let before = self.waits.set_phase(slot, Phase::Registered(waker));
@@ -471,16 +463,16 @@ impl<W: Drop> Fields<W> {
         (Poll::Ready(need), Leftover::of(before, Some(waker)))
     }
 
-    fn poll_told(&mut self, slot: Slot, waker: W) -> (Poll<usize>, Leftover<W>)
+    fn poll_told(&mut self, slot: Slot, need: usize, waker: W) -> (Poll<usize>, Leftover<W>)
         requires sound { IsSound (machine_of self.old) }
         requires marked { IsMarked self.old }
+        requires need { need ≡ need_of self.old.waits.side slot.0 }
         requires told { phase_of self.old.waits.side slot.0 ≡ Some phases.Told }
         ensures polled { Polls (machine_of self.old) slot.0 waker result.0 (machine_of self.new) }
         ensures displaced { result.1.displaced ≡ displaced self.old.waits.side self.old.waits.out slot.0 }
         ensures unused { result.1.unused ≡ unused_after result.0 waker }
         ensures marked { IsMarked self.new }
     {
-        let need = self.need(slot);
         if need > self.free {
             let named = self.waits.take_out(slot);
             self.waits.register(slot, waker);
@@ -505,38 +497,41 @@ impl<W: Drop> Fields<W> {
         ensures unused { result.1.unused ≡ unused_after result.0 waker }
         ensures marked { IsMarked self.new }
     {
-        if self.waits.is_registered(slot) {
-            return self.poll_registered(slot, waker);
+        let future = self.waits.future(slot).unwrap();
+        let need = future.asks;
+        match &future.phase {
+            Phase::Registered(_) => return self.poll_registered(slot, need, waker),
+            Phase::Told => return self.poll_told(slot, need, waker),
+            _ => {}
         }
-        if self.is_told(slot) {
-            return self.poll_told(slot, waker);
-        }
-        self.poll_fresh(slot, waker)
+        self.poll_fresh(slot, need, waker)
     }
 
-    // A telling round follows the cancel of this future.
-    fn tells_on_cancel(&self, slot: Slot) -> bool
-        ensures { result ≡ cancel_tells self.now.is_fair (phase_of self.now.waits.side slot.0) }
+    // A telling round follows the cancel of a future with this phase.
+    fn tells_on_cancel(&self, phase: &Phase<W>) -> bool
+        ensures { result ≡ cancel_tells self.now.is_fair (Some phase.now) }
     {
-        match self.waits.phase(slot) {
-            Some(Phase::Told) => true,
-            Some(Phase::Registered(_)) => self.is_fair,
-            None | Some(Phase::Fresh | Phase::Complete | Phase::Ended) => false,
+        match phase {
+            Phase::Told => true,
+            Phase::Registered(_) => self.is_fair,
+            Phase::Fresh | Phase::Complete | Phase::Ended => false,
         }
     }
 
-    // Marks the queue as it is without this future.
-    fn unmark(&mut self, slot: Slot)
+    // Marks the queue as it is without this future, of which the caller has read whether it is told and what it needs.
+    fn unmark(&mut self, slot: Slot, is_told: bool, need: usize)
         requires sound { IsSound (machine_of self.old) }
         requires marked { IsMarked self.old }
+        requires told { is_told ≡ told.is_told (phase_of self.old.waits.side slot.0) }
+        requires need { need ≡ need_of self.old.waits.side slot.0 }
         ensures marked { MarksWithoutIf self.old.is_fair slot.0 self.old.free self.new.promised self.new.untold self.old.waits.side }
         ensures rest { self.new ≡ record self.old { promised = self.new.promised; untold = self.new.untold } }
     {
         if !self.is_fair {
             return;
         }
-        if self.is_told(slot) {
-            self.promised -= self.need(slot);
+        if is_told {
+            self.promised -= need;
             return;
         }
         let Some(first) = self.untold else {
@@ -555,8 +550,10 @@ impl<W: Drop> Fields<W> {
         ensures displaced { result ≡ displaced self.old.waits.side self.old.waits.out slot.0 }
         ensures marked { IsMarked self.new }
     {
-        let tells = self.tells_on_cancel(slot);
-        self.unmark(slot);
+        let future = self.waits.future(slot).unwrap();
+        let tells = self.tells_on_cancel(&future.phase);
+        let (is_told, need) = (future.phase.is_told(), future.asks);
+        self.unmark(slot, is_told, need);
         let (_, waker) = self.waits.remove(slot);
         if tells {
             self.tell();

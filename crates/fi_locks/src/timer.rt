@@ -279,7 +279,8 @@ impl<W: Drop> TimerState<W> {
 }
 
 impl<W: Drop> Fields<W> {
-    ghost use Rattle.fi_locks.specs.TimerFields.{machine_of};
+    ghost use Rattle.fi_parts.specs.Waiting.{is_registered};
+    ghost use Rattle.fi_locks.specs.TimerFields.{machine_of, is_early};
 
     fn next_expiration(&self) -> Option<u64>
         ensures { IsNextExpiry self.now.deadlines.side result }
@@ -306,10 +307,30 @@ impl<W: Drop> Fields<W> {
     fn ends_now(&self, slot: Slot, now: u64) -> bool
         ensures { WouldBeReady (Polls (machine_of self.now) slot.0 now) result }
     {
-        match self.deadlines.phase(slot) {
-            Some(Phase::Fresh) => self.deadlines.has_come(slot, now),
-            Some(Phase::Told) => true,
-            None | Some(Phase::Registered(_) | Phase::Complete | Phase::Ended) => false,
+        let future = match self.deadlines.future(slot) {
+            Some(future) => future,
+            None => return false,
+        };
+        match &future.phase {
+            Phase::Fresh => future.asks.expiry <= now,
+            Phase::Told => true,
+            Phase::Registered(_) | Phase::Complete | Phase::Ended => false,
+        }
+    }
+
+    // Whether the future under this slot is registered, and whether it is fresh and its expiry has not come: one look-up tells both.
+    fn standing(&self, slot: Slot, now: u64) -> (bool, bool)
+        ensures registered { result.0 ≡ is_registered (phase_of self.now.deadlines.side slot.0) }
+        ensures early { result.1 ≡ is_early self.now.deadlines.side slot.0 now }
+    {
+        let future = match self.deadlines.future(slot) {
+            Some(future) => future,
+            None => return (false, false),
+        };
+        match &future.phase {
+            Phase::Fresh => (false, future.asks.expiry > now),
+            Phase::Registered(_) => (true, false),
+            Phase::Told | Phase::Complete | Phase::Ended => (false, false),
         }
     }
 
@@ -320,11 +341,12 @@ impl<W: Drop> Fields<W> {
         ensures unused { result.1.unused ≡ unused_after result.0 waker }
     {
         let named = self.deadlines.take_out(slot);
-        if self.deadlines.is_registered(slot) {
+        let (is_registered, is_early) = self.standing(slot, now);
+        if is_registered {
             let before = self.deadlines.set_phase(slot, Phase::Registered(waker));
             return (Poll::Pending, Leftover::of(before, None));
         }
-        if self.deadlines.is_fresh(slot) && !self.deadlines.has_come(slot, now) {
+        if is_early {
             self.floor = self.floor.min(now);
             self.deadlines.register(slot, waker);
             return (Poll::Pending, Leftover::of(named, None));

@@ -137,36 +137,11 @@ impl<W: Drop> Deadlines<W> {
         self.waits.phase(slot)
     }
 
-    /// The expiry of a name; None where no future lives under it.
-    pub fn expiry(&self, slot: Slot) -> Option<u64>
-        ensures { result ≡ asks_of self.now.side slot.0 }
-    {
-        match self.waits.asks(slot) {
-            Some(asks) => Some(asks.expiry),
-            None => None,
-        }
-    }
-
-    /// Returns `true` if a live future has this name and is registered.
-    pub fn is_registered(&self, slot: Slot) -> bool
-        ensures { result ≡ is_registered (phase_of self.now.side slot.0) }
-    {
-        matches!(self.phase(slot), Some(Phase::Registered(_)))
-    }
-
     /// Returns `true` if a live future has this name and is fresh.
     pub fn is_fresh(&self, slot: Slot) -> bool
         ensures { result ≡ is_fresh (phase_of self.now.side slot.0) }
     {
         matches!(self.phase(slot), Some(Phase::Fresh))
-    }
-
-    /// Returns `true` if the expiry of a live name has come at this moment.
-    pub fn has_come(&self, slot: Slot, now: u64) -> bool
-        requires { IsLive self.now.side slot.0 }
-        ensures { result ≡ nat_le (expiry_of self.now.side slot.0) now }
-    {
-        self.expiry(slot).unwrap() <= now
     }
 
     /// Makes a fresh future with this expiry under a name that was not live.

@@ -215,16 +215,6 @@ impl<D: Drop, W: Drop> Waits<D, W> {
         self.outbox.name(ticket, (slot.0, waker.unwrap()));
     }
 
-    /// Returns `true` if a live future has this name and is registered.
-    pub fn is_registered(&self, slot: Slot) -> bool
-        ensures { result ≡ is_registered (phase_of self.now.side slot.0) }
-    {
-        match self.phase(slot) {
-            Some(Phase::Registered(_)) => true,
-            None | Some(Phase::Fresh | Phase::Told | Phase::Complete | Phase::Ended) => false,
-        }
-    }
-
     /// Tells a registered future and names its waker; a told one stays as it is. Its place in the queue stays.
     pub fn mark_told(&mut self, slot: Slot)
         requires waits { is_queued true (phase_of self.old.side slot.0) ≡ true }

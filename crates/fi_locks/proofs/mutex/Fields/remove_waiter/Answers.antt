@@ -7,7 +7,7 @@ use Rattle.fi_parts.specs.Effects.{TakesEffect}
 use Rattle.fi_parts.specs.Machine.{phase_at}
 use Rattle.fi_parts.specs.Pairs.{without_pair}
 use Rattle.fi_parts.specs.Places.{is_told, queued_rule}
-use Rattle.fi_parts.specs.Waiting.{Waiting, without_future, is_queued}
+use Rattle.fi_parts.specs.Waiting.{Waiting, phase_in, without_future, is_queued}
 use Rattle.fi_parts.proofs.Waiting.{ordered-forgotten, lives_as}
 use Rattle.fi_locks.specs.declared.mutex.Fields.{Fields}
 use Rattle.fi_locks.specs.Mutex.{MutexMachine, tells_oldest, CancelsAs}
@@ -37,7 +37,7 @@ cancels_told old new name mid (Some Ended) is told left own tells = absurd (both
 pub tell_oldest-requires : goal.tell_oldest-requires
 tell_oldest-requires g c =
     let now = c.args.self.now in
-    rw c.remove-waker.ensures.removed
+    rw c.remove_future-future.ensures.removed
     (ordered-forgotten (is_queued now.is_fair) (queued_rule now.is_fair) now.locks.side now.locks.out c.args.slot.0
     c.requires.sound.ordered)
 
@@ -45,6 +45,7 @@ pub returns-then-was_told-clause-cancelled : goal.returns-then-was_told-clause-c
 returns-then-was_told-clause-cancelled g c =
     let old = machine_of c.args.self.now in
     let new = machine_of c.tell_oldest.new.self in
-    cancels_told old new c.args.slot.0 c.remove-waker.new.self (phase_at old c.args.slot.0) refl
-    (sym c.is_told-was_told.ensures ∙ c.if-was_told.true) c.remove-waker.ensures.removed
+    cancels_told old new c.args.slot.0 c.remove_future-future.new.self (phase_at old c.args.slot.0) refl
+    (ap (λ o. is_told (phase_in o)) c.remove_future-future.ensures.future ∙ sym c.is_told-was_told.ensures
+    ∙ c.if-was_told.true) c.remove_future-future.ensures.removed
     (ap (λ (f : Fields g.row.T.Denot g.row.W.Denot). (machine_of f).own) c.tell_oldest.ensures.rest) c.tell_oldest.ensures.told

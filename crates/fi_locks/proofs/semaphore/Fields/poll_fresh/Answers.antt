@@ -38,9 +38,9 @@ returns-clause-marked g c =
           record v { out = without_pair name v.out } in w) waits),
     ) in
     let takes : can_take (machine_of old).own old.waits.side.queue (need_of old.waits.side name) ≡ true =
-    ap (λ n. can_take (machine_of old).own old.waits.side.queue n) (sym c.need-need.ensures)
+    ap (λ n. can_take (machine_of old).own old.waits.side.queue n) (sym c.requires.need)
     ∙ sym c.can_take.ensures ∙ c.if-not-can_take.false in
-    rw (c.hand_out.ensures, c.need-need.ensures)
+    rw (c.hand_out.ensures, c.requires.need)
     (marks_ended (machine_of old) name old.promised old.untold c.set_phase.new.self c.requires.sound
     c.requires.marked c.requires.fresh takes
     taken)

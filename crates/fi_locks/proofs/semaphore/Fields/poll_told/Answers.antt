@@ -16,7 +16,7 @@ pub register-requires-clause-apart : goal.register-requires-clause-apart
 register-requires-clause-apart g c =
     let old = c.args.self.now in
     let name = c.args.slot.0 in
-    let over : old.free < need_of old.waits.side name = rw (← c.need-need.ensures) c.if-need-self.true in
+    let over : old.free < need_of old.waits.side name = rw (← c.requires.need) c.if-need-self.true in
     let unfair = told_unfair (machine_of old) name old.promised old.untold c.requires.sound c.requires.marked c.requires.told over in
     let apart = told_apart (machine_of old) name old.promised old.untold c.requires.sound c.requires.marked c.requires.told unfair in
     ap (λ (v : Waiting ℕ g.row.W.Denot). holds name v.side.queue) c.take_out-named.ensures.rest ∙ apart
@@ -25,7 +25,7 @@ pub returns-then-need-self-clause-polled : goal.returns-then-need-self-clause-po
 returns-then-need-self-clause-polled g c =
     let old = c.args.self.now in
     let name = c.args.slot.0 in
-    let over : old.free < need_of old.waits.side name = rw (← c.need-need.ensures) c.if-need-self.true in
+    let over : old.free < need_of old.waits.side name = rw (← c.requires.need) c.if-need-self.true in
     let unfair = told_unfair (machine_of old) name old.promised old.untold c.requires.sound c.requires.marked c.requires.told over in
     let taken : TakesEffect (Registers name c.args.waker) old.waits c.register.new.self = (
       ap may_be_named c.requires.told,
@@ -40,7 +40,7 @@ pub returns-then-need-self-clause-marked : goal.returns-then-need-self-clause-ma
 returns-then-need-self-clause-marked g c =
     let old = c.args.self.now in
     let name = c.args.slot.0 in
-    let over : old.free < need_of old.waits.side name = rw (← c.need-need.ensures) c.if-need-self.true in
+    let over : old.free < need_of old.waits.side name = rw (← c.requires.need) c.if-need-self.true in
     let unfair = told_unfair (machine_of old) name old.promised old.untold c.requires.sound c.requires.marked c.requires.told over in
     marks_any old.is_fair old.free old.free old.promised old.untold old.untold old.waits.side c.register.new.self.side unfair
     c.requires.marked
@@ -70,10 +70,10 @@ pub overflow_sub-self : goal.overflow_sub-self
 overflow_sub-self g c =
     let old = c.args.self.now in
     let name = c.args.slot.0 in
-    let e = has_ended old c.hand_out.new.self c.end-named.new.self name c.need-need.result c.need-need.ensures c.hand_out.ensures
+    let e = has_ended old c.hand_out.new.self c.end-named.new.self name c.args.need c.requires.need c.hand_out.ensures
     c.end-named.ensures.ended c.end-named.ensures.rest in
     let fair : old.is_fair ≡ true = sym e.kind ∙ c.if-not-self.false in
-    rw (e.promised, c.need-need.ensures)
+    rw (e.promised, c.requires.need)
     (told_need_free (machine_of old) name old.promised old.untold old.waits c.requires.sound fair (ap is_told c.requires.told)
     c.requires.marked)
 
@@ -82,9 +82,9 @@ tell-requires-clause-sound g c =
     let old = c.args.self.now in
     let name = c.args.slot.0 in
     let now = c.end-named.new.self in
-    let e = has_ended old c.hand_out.new.self now name c.need-need.result c.need-need.ensures c.hand_out.ensures
+    let e = has_ended old c.hand_out.new.self now name c.args.need c.requires.need c.hand_out.ensures
     c.end-named.ensures.ended c.end-named.ensures.rest in
-    let fits : need_of old.waits.side name ≤ old.free = rw (← c.need-need.ensures) c.if-need-self.false in
+    let fits : need_of old.waits.side name ≤ old.free = rw (← c.requires.need) c.if-need-self.false in
     subst (λ o. IsSound (at_own o now.waits)) (sym e.own) (sound_ended (machine_of old) now.waits name c.requires.sound e.taken fits)
 
 pub tell-requires-clause-marked : goal.tell-requires-clause-marked
@@ -92,10 +92,10 @@ tell-requires-clause-marked g c =
     let old = c.args.self.now in
     let name = c.args.slot.0 in
     let now = c.end-named.new.self in
-    let e = has_ended old c.hand_out.new.self now name c.need-need.result c.need-need.ensures c.hand_out.ensures
+    let e = has_ended old c.hand_out.new.self now name c.args.need c.requires.need c.hand_out.ensures
     c.end-named.ensures.ended c.end-named.ensures.rest in
     let fair : old.is_fair ≡ true = sym e.kind ∙ c.if-not-self.false in
-    rw (e.kind, e.free, e.promised, e.untold, c.need-need.ensures)
+    rw (e.kind, e.free, e.promised, e.untold, c.requires.need)
     (marks_told_ended (machine_of old) name old.promised old.untold now.waits c.requires.sound fair c.requires.told c.requires.marked
     e.taken)
 
@@ -104,12 +104,12 @@ returns-clause-polled g c =
     let old = c.args.self.now in
     let name = c.args.slot.0 in
     let now = c.end-named.new.self in
-    let e = has_ended old c.hand_out.new.self now name c.need-need.result c.need-need.ensures c.hand_out.ensures
+    let e = has_ended old c.hand_out.new.self now name c.args.need c.requires.need c.hand_out.ensures
     c.end-named.ensures.ended c.end-named.ensures.rest in
     let fair : old.is_fair ≡ true = sym e.kind ∙ c.if-not-self.false in
-    let fits : need_of old.waits.side name ≤ old.free = rw (← c.need-need.ensures) c.if-need-self.false in
+    let fits : need_of old.waits.side name ≤ old.free = rw (← c.requires.need) c.if-need-self.false in
     let permits : Permits = granted (machine_of old).own (need_of old.waits.side name) in
-    rw c.need-need.ensures
+    rw c.requires.need
     (told_ends (machine_of old) name c.args.waker (machine_of c.tell.new.self) c.requires.told fits
     (telling_if old.is_fair (machine_of old) permits (EndsPlaced name) (machine_of c.tell.new.self) fair
     (now.waits, e.taken, subst (λ o. Tells (at_own o now.waits) (machine_of c.tell.new.self)) e.own c.tell.ensures.told)))
@@ -119,11 +119,11 @@ returns-then-not-self-clause-polled g c =
     let old = c.args.self.now in
     let name = c.args.slot.0 in
     let now = c.end-named.new.self in
-    let e = has_ended old c.hand_out.new.self now name c.need-need.result c.need-need.ensures c.hand_out.ensures
+    let e = has_ended old c.hand_out.new.self now name c.args.need c.requires.need c.hand_out.ensures
     c.end-named.ensures.ended c.end-named.ensures.rest in
     let unfair : old.is_fair ≡ false = sym e.kind ∙ c.if-not-self.true in
-    let fits : need_of old.waits.side name ≤ old.free = rw (← c.need-need.ensures) c.if-need-self.false in
+    let fits : need_of old.waits.side name ≤ old.free = rw (← c.requires.need) c.if-need-self.false in
     let permits : Permits = granted (machine_of old).own (need_of old.waits.side name) in
-    rw c.need-need.ensures
+    rw c.requires.need
     (told_ends (machine_of old) name c.args.waker (machine_of now) c.requires.told fits
     (quiet_if old.is_fair (machine_of old) permits (EndsPlaced name) (machine_of now) unfair (e.own, e.taken)))

@@ -1,8 +1,8 @@
-use Rattle.std.proofs.Common.{◌≡◌, ℕ, true, is_some, ap, sym, subst, ◌∙◌}
+use Rattle.std.proofs.Common.{◌≡◌, ℕ, true, is_some, option_copied, ap, sym, subst, ◌∙◌}
 use Rattle.fi_parts.specs.Effects.{TakesEffect}
 use Rattle.fi_parts.specs.Effects.WaiterEffect.{Removes}
 use Rattle.fi_parts.specs.Pairs.{without_pair}
-use Rattle.fi_parts.specs.Waiting.{Waiting, phase_of, without_future}
+use Rattle.fi_parts.specs.Waiting.{Waiting, phase_in, phase_of, without_future}
 use Rattle.fi_locks.specs.declared.semaphore.Fields.{Fields}
 use Rattle.fi_locks.specs.Semaphore.{cancel_tells, IsSound, Tells}
 use Rattle.fi_locks.specs.SemaphoreFields.{machine_of}
@@ -53,8 +53,10 @@ returns-then-tells-clause-cancelled g c =
     let own : (machine_of c.unmark.new.self).own ≡ (machine_of old).own =
     ap (λ (p : Fields g.row.W.Denot). (machine_of p).own) c.unmark.ensures.rest in
     let taken = removed old.waits c.unmark.new.self.waits now name waits c.requires.live c.remove-waker.ensures.removed in
+    let stood = sym c.future.ensures ∙ ap option_copied c.unwrap-future.ensures in
     telling_if (cancel_tells old.is_fair (phase_of old.waits.side name)) (machine_of old) (machine_of old).own (Removes name)
-    (machine_of c.tell.new.self) (sym c.tells_on_cancel-tells.ensures ∙ c.if-tells.true)
+    (machine_of c.tell.new.self) (ap (λ o. cancel_tells old.is_fair (phase_in o)) stood
+    ∙ sym c.tells_on_cancel-tells.ensures ∙ c.if-tells.true)
     (now, taken, subst (λ o. Tells (at_own o now) (machine_of c.tell.new.self)) own c.tell.ensures.told)
 
 pub returns-else-tells-clause-marked : goal.returns-else-tells-clause-marked

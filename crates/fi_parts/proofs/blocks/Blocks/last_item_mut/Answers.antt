@@ -11,8 +11,7 @@ pub returns-in-None : goal.returns-in-None
 returns-in-None g c =
     let slab = c.self.inside.slab in
     let s = c.self.inside.linked in
-    let none = no_last slab s c.self.invariant (sym c.in-None.ensures) in
-    (
+    let none = no_last slab s c.self.invariant (sym c.in-None.ensures) in (
       ap inr c.self.view_is,
       record { writes_back = tt; value = rw (← c.self.view_is) (sym (ap (item_of (view_of slab s)) none)) },
     )
