@@ -15,6 +15,7 @@ use Rattle.fi_parts.specs.declared.phase.Phase.{Phase}
 use Rattle.fi_parts.specs.declared.phase.Phase.TheVariants.{Fresh, Registered, Told, Complete, Ended}
 use Rattle.fi_parts.specs.Buffer.{Bounded, Fits, pushed}
 use Rattle.fi_parts.specs.NamedPairs.{without_by}
+use Rattle.fi_parts.specs.Places.{is_told}
 use Rattle.fi_parts.specs.Oldest.{pop_oldest, pair_of_oldest}
 use Rattle.fi_parts.specs.Waiting.{Waiters, phase_of, phase_in, asks_of, asks_in, is_registered, may_be_named, with_phase}
 use Rattle.fi_parts.specs.Waiting.{with_asks, exchange, ended, registered, without_future, IsLive, IsOrdered}
@@ -42,6 +43,15 @@ use Rattle.fi_channels.specs.Waiter.{same_waiter, of_receives, sends_in, receive
 use Rattle.fi_channels.proofs.BothSound.{both_sound-take_out_receive, both_sound-remove_receive, both_sound-notify_receives}
 use Rattle.fi_channels.proofs.Sides.{receives-without_send}
 use Rattle.fi_channels.proofs.TwoSidedEffects.{oldest_completes}
+
+-- the phase of one that is told
+pub told_phase : {W : Type 0} (phase : Option (Phase W)) → is_told phase ≡ true → phase ≡ Some Told
+told_phase None is = absurd (both_ways false refl is)
+told_phase (Some Fresh) is = absurd (both_ways false refl is)
+told_phase (Some (Registered waker)) is = absurd (both_ways false refl is)
+told_phase (Some Told) is = refl
+told_phase (Some Complete) is = absurd (both_ways false refl is)
+told_phase (Some Ended) is = absurd (both_ways false refl is)
 
 module _ {D W : Type 0} where
   pub future_there : (side : Waiters D W) (name : ℕ) (phase : Phase W) → phase_of side name ≡ Some phase →
@@ -106,6 +116,12 @@ module _ {T W : Type 0} where
     (ap (λ (v : ChannelWaiters T W). v.receives) now, ap (λ (v : ChannelWaiters T W). v.out) now),
     ap (λ (v : ChannelWaiters T W). v.sends) now,
   )
+
+  -- the receives stay where the next value is taken
+  pub same_receives : (next : Option (T × Bounded T)) (buffer left : Bounded T) (mid taken : ChannelWaiters T W)
+      (answer : Option T) → TakesAt next buffer mid answer left taken → taken.receives ≡ mid.receives
+  same_receives None buffer left mid taken answer took = ap (λ (v : ChannelWaiters T W). v.receives) took.2
+  same_receives (Some next) buffer left mid taken answer took = ap (λ (v : ChannelWaiters T W). v.receives) took.2
 
   -- who lives still does without a pair
   pub unpaired_lives : (one two : ChannelWaiters T W) (name : ℕ) (out : List (Waiter × W)) → two ≡ record one { out = out } →

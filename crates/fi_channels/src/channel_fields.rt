@@ -1,7 +1,7 @@
 //! The fields of a channel of many values, over any bounded buffer, and the calls on them.
 ghost use Rattle.std.specs.Prelude.{◌≡◌, ◌==◌, not, Bool, true, false, Option, Some, None, length, IfOk, IfErr, OnErr, is_some};
 ghost use Rattle.fi_parts.specs.Buffer.{Fits, empty};
-ghost use Rattle.fi_parts.specs.Waiting.{phase_of, asks_of};
+ghost use Rattle.fi_parts.specs.Waiting.{phase_of, asks_of, is_registered};
 ghost use Rattle.fi_parts.specs.declared.phase.Phase.TheVariants.{Fresh};
 ghost use Rattle.fi_channels.specs.Polled.{unused_after, WouldBeReady};
 ghost use Rattle.fi_channels.specs.Channel.{opened, can_send, can_take, can_receive, can_stream, MakesSend, MakesReceive};
@@ -39,12 +39,12 @@ pub struct ChannelFields<T, B, W> {
 }
 
 // How a receive that was given an item stands: a single one has ended, and a stream is fresh again.
-fn phase_given<W>(kind: Option<ReceiveKind>) -> Phase<W>
-    ensures { result ≡ phase_given kind }
+fn phase_given<W>(kind: ReceiveKind) -> Phase<W>
+    ensures { result ≡ phase_given (Some kind) }
 {
     match kind {
-        Some(ReceiveKind::Stream) => Phase::Fresh,
-        Some(ReceiveKind::Single) | None => Phase::Ended,
+        ReceiveKind::Stream => Phase::Fresh,
+        ReceiveKind::Single => Phase::Ended,
     }
 }
 
@@ -96,12 +96,12 @@ impl<T: Drop, B: RingBuf<Item = T>, W: Drop> ChannelFields<T, B, W> {
     pub fn can_receive(&self, slot: Slot) -> bool
         ensures { result ≡ can_receive (asks_of self.now.waiters.receives slot.0) (phase_of self.now.waiters.receives slot.0) }
     {
-        match (
-            self.waiters.receive_asks(slot),
-            self.waiters.receive_phase(slot),
-        ) {
-            (Some(ReceiveKind::Single), Some(Phase::Fresh | Phase::Registered(_) | Phase::Told)) =>
-                true,
+        let future = match self.waiters.receive_future(slot) {
+            Some(future) => future,
+            None => return false,
+        };
+        match (&future.asks, &future.phase) {
+            (ReceiveKind::Single, Phase::Fresh | Phase::Registered(_) | Phase::Told) => true,
             _ => false,
         }
     }
@@ -110,12 +110,9 @@ impl<T: Drop, B: RingBuf<Item = T>, W: Drop> ChannelFields<T, B, W> {
     pub fn can_stream(&self, slot: Slot) -> bool
         ensures { result ≡ can_stream (asks_of self.now.waiters.receives slot.0) (phase_of self.now.waiters.receives slot.0) }
     {
-        match (
-            self.waiters.receive_asks(slot),
-            self.waiters.receive_phase(slot),
-        ) {
-            (Some(ReceiveKind::Stream), Some(_)) => true,
-            _ => false,
+        match self.waiters.receive_future(slot) {
+            Some(future) => matches!(future.asks, ReceiveKind::Stream),
+            None => false,
         }
     }
 
@@ -238,15 +235,16 @@ impl<T: Drop, B: RingBuf<Item = T>, W: Drop> ChannelFields<T, B, W> {
         ensures unused { result.1.unused ≡ unused_after result.0 waker }
     {
         let named = self.waiters.take_out_receive(slot);
-        if let Some(Phase::Registered(_)) = self.waiters.receive_phase(slot) {
+        let future = self.waiters.receive_future(slot).unwrap();
+        let kind = future.asks;
+        if let Phase::Registered(_) = &future.phase {
             let before = self
                 .waiters
                 .set_receive_phase(slot, Phase::Registered(waker));
             return (Poll::Pending, Leftover::of(before, None));
         }
         if let Some(value) = self.take_next() {
-            let phase = phase_given(self.waiters.receive_asks(slot).copied());
-            self.waiters.set_receive_phase(slot, phase);
+            self.waiters.set_receive_phase(slot, phase_given(kind));
             return (Poll::Ready(Some(value)), Leftover::of(named, Some(waker)));
         }
         if self.is_open {
@@ -279,12 +277,10 @@ impl<T: Drop, B: RingBuf<Item = T>, W: Drop> ChannelFields<T, B, W> {
         ensures cancelled { CancelsReceive (machine_of B.bounded self.old) slot.0 (machine_of B.bounded self.new) }
         ensures displaced { result ≡ displaced_receive (machine_of B.bounded self.old) slot.0 }
     {
-        if let Some(Phase::Told) = self.waiters.receive_phase(slot) {
-            let (_, waker) = self.waiters.remove_receive(slot);
+        let (was_told, waker) = self.waiters.remove_receive(slot);
+        if was_told {
             self.waiters.tell_oldest_receive();
-            return waker;
         }
-        let (_, waker) = self.waiters.remove_receive(slot);
         waker
     }
 
@@ -316,16 +312,27 @@ impl<T: Drop, B: RingBuf<Item = T>, W: Drop> ChannelFields<T, B, W> {
         ensures displaced { result.1.displaced ≡ displaced_by_send result.0 (displaced_send (machine_of B.bounded self.old) slot.0) }
         ensures unused { result.1.unused ≡ unused_after result.0 waker }
     {
-        if let Some(Phase::Fresh) = self.waiters.send_phase(slot) {
-            return self.send_fresh(slot, waker);
+        match self.waiters.send_phase(slot) {
+            Some(Phase::Fresh) => return self.send_fresh(slot, waker),
+            Some(Phase::Registered(_)) => return self.send_registered(slot, waker),
+            _ => {}
         }
         let named = self.waiters.take_out_send(slot);
-        if let Some(Phase::Registered(_)) = self.waiters.send_phase(slot) {
-            let before = self.waiters.set_send_phase(slot, Phase::Registered(waker));
-            return (Poll::Pending, Leftover::of(before, None));
-        }
         self.waiters.set_send_phase(slot, Phase::Ended);
         (Poll::Ready(Ok(())), Leftover::of(named, Some(waker)))
+    }
+
+    // Polls a send that waits: it keeps its place with this newer waker.
+    fn send_registered(&mut self, slot: Slot, waker: W) -> Sent<T, W>
+        requires sound { IsSound (machine_of B.bounded self.old) }
+        requires registered { is_registered (phase_of self.old.waiters.sends slot.0) ≡ true }
+        ensures polled { PollsSend (machine_of B.bounded self.old) slot.0 waker result.0 (machine_of B.bounded self.new) }
+        ensures displaced { result.1.displaced ≡ displaced_by_send result.0 (displaced_send (machine_of B.bounded self.old) slot.0) }
+        ensures unused { result.1.unused ≡ unused_after result.0 waker }
+    {
+        self.waiters.take_out_send(slot);
+        let before = self.waiters.set_send_phase(slot, Phase::Registered(waker));
+        (Poll::Pending, Leftover::of(before, None))
     }
 
     // Polls a fresh send.

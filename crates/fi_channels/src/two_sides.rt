@@ -8,6 +8,7 @@ ghost use Rattle.fi_parts.specs.Waiting.{with_phase, exchange, phase_of, IsLive,
 ghost use Rattle.fi_parts.specs.Waiting.{insert_fresh, registered, without_future, pair, asks_of, waker_in, waker_or};
 ghost use Rattle.fi_channels.specs.declared.two_sides.Waiter.TheVariants.{Send, Receive};
 ghost use Rattle.fi_parts.specs.NamedPairs.{has_by, waker_by, without_by, first_waker};
+ghost use Rattle.fi_parts.specs.Places.{is_told};
 ghost use Rattle.fi_parts.specs.Oldest.{pop_oldest, pair_of_oldest, asks_of_oldest, complete_oldest};
 ghost use Rattle.fi_channels.specs.Waiter.{same_waiter, of_sends, of_receives, sends_in, receives_in};
 ghost use Rattle.fi_channels.specs.TwoSidesModel.{no_waiters, notify_sends, notify_receives};
@@ -63,13 +64,6 @@ impl<D: Drop, E: Drop, W: Drop> TwoSides<D, E, W> {
         ensures { option_copied result ≡ phase_of self.now.sends slot.0 }
     {
         self.sends.phase(slot)
-    }
-
-    /// What a send asks for; None if none lives in this slot.
-    pub fn send_asks(&self, slot: Slot) -> Option<&D>
-        ensures { option_copied result ≡ asks_of self.now.sends slot.0 }
-    {
-        self.sends.asks(slot)
     }
 
     /// Inserts a fresh send, in a slot that was not live.
@@ -164,8 +158,7 @@ impl<D: Drop, E: Drop, W: Drop> TwoSides<D, E, W> {
           out = self.old.out ++ of_sends (pair self.old.sends slot.0);
         } }
     {
-        let ticket = self.sends.ticket(slot);
-        let waker = self.sends.set_phase(slot, phase);
+        let (ticket, waker) = self.sends.notice(slot, phase);
         self.outbox
             .name(ticket, (Waiter::Send(slot.0), waker.unwrap()));
     }
@@ -212,11 +205,11 @@ impl<D: Drop, E: Drop, W: Drop> TwoSides<D, E, W> {
         self.receives.phase(slot)
     }
 
-    /// What a receive asks for; None if none lives in this slot.
-    pub fn receive_asks(&self, slot: Slot) -> Option<&E>
-        ensures { option_copied result ≡ asks_of self.now.receives slot.0 }
+    /// A receive: what it asks for, and its phase; None if none lives in this slot.
+    pub fn receive_future(&self, slot: Slot) -> Option<&Future<E, W>>
+        ensures { option_copied result ≡ map.get self.now.receives.live slot.0 }
     {
-        self.receives.asks(slot)
+        self.receives.future(slot)
     }
 
     /// Inserts a fresh receive, in a slot that was not live.
@@ -268,10 +261,10 @@ impl<D: Drop, E: Drop, W: Drop> TwoSides<D, E, W> {
         self.receives.set_phase(slot, phase)
     }
 
-    /// Removes a live receive, also from the queue and the outbox. Returns what it asked for and the waker that it had.
-    pub fn remove_receive(&mut self, slot: Slot) -> (E, Option<W>)
+    /// Removes a live receive, also from the queue and the outbox. Returns whether it was told, and the waker that it had.
+    pub fn remove_receive(&mut self, slot: Slot) -> (bool, Option<W>)
         requires { IsLive self.old.receives slot.0 }
-        ensures asked { asks_of self.old.receives slot.0 ≡ Some result.0 }
+        ensures told { result.0 ≡ is_told (phase_of self.old.receives slot.0) }
         ensures waker { MatchOption (phase_of self.old.receives slot.0) ⊥
             (λ before. result.1 ≡ waker_or before (waker_by same_waiter (Receive slot.0) self.old.out)) }
         ensures removed { self.new ≡ record self.old {
@@ -282,8 +275,8 @@ impl<D: Drop, E: Drop, W: Drop> TwoSides<D, E, W> {
         let named = self.take_out_receive(slot);
         let entry = self.receives.remove(slot);
         self.outbox.free(entry.ticket);
-        let Future { asks, phase } = entry.future;
-        (asks, last_waker(phase, named))
+        let phase = entry.future.phase;
+        (phase.is_told(), last_waker(phase, named))
     }
 
     // Takes the oldest receive out of the queue; None if the queue is empty.
@@ -305,8 +298,7 @@ impl<D: Drop, E: Drop, W: Drop> TwoSides<D, E, W> {
           out = self.old.out ++ of_receives (pair self.old.receives slot.0);
         } }
     {
-        let ticket = self.receives.ticket(slot);
-        let waker = self.receives.set_phase(slot, phase);
+        let (ticket, waker) = self.receives.notice(slot, phase);
         self.outbox
             .name(ticket, (Waiter::Receive(slot.0), waker.unwrap()));
     }

@@ -9,39 +9,35 @@ use Rattle.fi_channels.proofs.BothTied.{has_out}
 use Rattle.fi_parts.proofs.Waiting.{live_if_registered}
 use Rattle.fi_channels.proofs.two_sides.TwoSides.notice_receive.Goals as goal
 
-pub ticket-ticket-requires : goal.ticket-ticket-requires
-ticket-ticket-requires g c =
-    rw (← c.self.view_is) at (live_if_registered c.args.self.now.receives c.args.slot.0 c.requires.registered)
-
-pub set_phase-waker-requires : goal.set_phase-waker-requires
-set_phase-waker-requires g c =
+pub notice-waker-requires : goal.notice-waker-requires
+notice-waker-requires g c =
     rw (← c.self.view_is) at (live_if_registered c.args.self.now.receives c.args.slot.0 c.requires.registered)
 
 pub unwrap-requires : goal.unwrap-requires
 unwrap-requires g c =
     let its =
-    its_waker (phase_of c.self.inside.receives.side c.args.slot.0) c.set_phase-waker.result
-    (rw (← c.self.view_is) at c.requires.registered) c.set_phase-waker.ensures.waker in
-    some_is c.set_phase-waker.result its.0 its.2
+    its_waker (phase_of c.self.inside.receives.side c.args.slot.0) c.notice-waker.result.1
+    (rw (← c.self.view_is) at c.requires.registered) c.notice-waker.ensures.waker in
+    some_is c.notice-waker.result.1 its.0 its.2
 
 pub name-requires-clause-live : goal.name-requires-clause-live
 name-requires-clause-live g c =
-    c.self.invariant.claimed (Receive c.args.slot.0) c.ticket-ticket.result.0 c.ticket-ticket.ensures
+    c.self.invariant.claimed (Receive c.args.slot.0) c.notice-waker.result.0.0 c.notice-waker.ensures.ticket
 
 pub name-requires-clause-no_pair : goal.name-requires-clause-no_pair
 name-requires-clause-no_pair g c =
     let s = c.self.inside in
     sym
     (has_out s.sends.tickets s.receives.tickets s.outbox c.self.invariant (Receive c.args.slot.0)
-    c.ticket-ticket.result.0
-    c.ticket-ticket.ensures) ∙ (rw (← c.self.view_is) at c.requires.no_pair)
+    c.notice-waker.result.0.0
+    c.notice-waker.ensures.ticket) ∙ (rw (← c.self.view_is) at c.requires.no_pair)
 
 pub invariant_of-self : goal.invariant_of-self
 invariant_of-self g c =
     let s = c.self.inside in
-    rw c.set_phase-waker.ensures.rest (tied_after_name (ticket_of_waiter s.sends.tickets s.receives.tickets) s.outbox
-    c.self.invariant (Receive c.args.slot.0) c.ticket-ticket.result.0 c.unwrap.result c.name.new.self
-    c.ticket-ticket.ensures
+    rw c.notice-waker.ensures.rest (tied_after_name (ticket_of_waiter s.sends.tickets s.receives.tickets) s.outbox
+    c.self.invariant (Receive c.args.slot.0) c.notice-waker.result.0.0 c.unwrap.result c.name.new.self
+    c.notice-waker.ensures.ticket
     c.name.ensures.tickets c.name.ensures.pairs)
 
 pub returns : goal.returns
@@ -51,14 +47,14 @@ returns g c =
     let pairs = s.outbox.pairs in
     let slot = c.args.slot.0 in
     let its =
-    its_waker (phase_of side slot) c.set_phase-waker.result (rw (← c.self.view_is) at c.requires.registered)
-    c.set_phase-waker.ensures.waker in
-    let waker = same_waker c.set_phase-waker.result c.unwrap.result its.0 its.2 c.unwrap.ensures in
+    its_waker (phase_of side slot) c.notice-waker.result.1 (rw (← c.self.view_is) at c.requires.registered)
+    c.notice-waker.ensures.waker in
+    let waker = same_waker c.notice-waker.result.1 c.unwrap.result its.0 its.2 c.unwrap.ensures in
     let out : out_of c.name.new.self.pairs ≡ out_of pairs ++ of_receives (pair side slot) =
-    ap out_of c.name.ensures.pairs ∙ out-named pairs c.ticket-ticket.result.0 (Receive slot) c.unwrap.result
+    ap out_of c.name.ensures.pairs ∙ out-named pairs c.notice-waker.result.0.0 (Receive slot) c.unwrap.result
     ∙ ap (λ v. out_of pairs ++ of_receives ((slot, v) ∷ [])) waker
     ∙ ap (λ p. out_of pairs ++ of_receives (pair_of slot p)) (sym its.1) in
-    rw (← c.self.view_is, c.set_phase-waker.ensures.rest) (λ i. record {
+    rw (← c.self.view_is, c.notice-waker.ensures.rest) (λ i. record {
       sends = s.sends.side;
       receives = record s.receives.side { live = with_phase s.receives.side.live slot c.args.phase };
       out = out i;

@@ -12,7 +12,8 @@ overflow_sub-self g c =
 pub returns-then-is_told-clause-marked : goal.returns-then-is_told-clause-marked
 returns-then-is_told-clause-marked g c =
     let old = c.args.self.now in
-    rw c.requires.need (unmark_told (machine_of old) c.args.slot.0 old.promised old.untold c.requires.sound c.if-not-self.false
+    rw c.requires.need
+    (unmark_told (machine_of old) c.args.slot.0 old.promised old.untold c.requires.sound c.if-not-self.false
     c.requires.marked (sym c.requires.told ∙ c.if-is_told.true))
 
 pub returns-in_default-clause-marked : goal.returns-in_default-clause-marked
