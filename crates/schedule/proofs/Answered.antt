@@ -1,6 +1,6 @@
 -- What a line does, from what its parts do.
 use Rattle.std.specs.Prelude.{◌≡◌, ℕ, ◌++◌, Bool, true, false, List, [], ◌∷◌, ◌+◌, length, Option, Some, None, Result, Ok, Err}
-use Rattle.std.specs.Prelude.{IfErr, IsErrAnd}
+use Rattle.std.specs.Prelude.{OnOk, IfErr, IsErrAnd}
 use Rattle.std.proofs.Common.{refl, sym, subst, inl, inr, arith}
 use Rattle.schedule.specs.declared.output.Output.{Output}
 use Rattle.fi_run.specs.declared.answer.Answer.{Answer}
@@ -8,13 +8,14 @@ use Rattle.schedule.specs.Asked.{Asks, Performs}
 use Rattle.schedule.specs.Texts.{answer_text, wakes_text}
 use Rattle.schedule.specs.declared.engine.Request.{Request}
 use Rattle.schedule.specs.Answered.{line_text, Calls, TellsWakers, AnswersLine, AnswersLines, LinesAre, AnswersBeginning}
-use Rattle.schedule.specs.Answered.{AnswersRest, AnswersFront, RunsShort, IfStopped}
+use Rattle.schedule.specs.Answered.{AnswersRest, RefusesLine, RunsShort, IfStopped}
 use Rattle.schedule.specs.declared.fault.ScriptFault.{ScriptFault}
 use Rattle.schedule.specs.declared.fault.ScriptFault.TheVariants.{Read, Write, BadLine, NoMemory}
 use Rattle.schedule.specs.Cuts.{NextLine}
 use Rattle.schedule.specs.Language.{Spoken}
 use Rattle.schedule.specs.Lines.{Labels, NoLabels, IsBad}
 use Rattle.schedule.specs.Outputs.{GoesOn, Tells, on_its_way}
+use Rattle.schedule.specs.Unread.{AnswersLeft}
 use Rattle.schedule.proofs.Bytes.{appends_none, appends_twice}
 
 module _ {W : Type 0} (contents : W → Option (List ℕ)) where
@@ -142,19 +143,19 @@ module _ {S O C W : Type 0} (primitive : Spoken S O C) (contents : W → Option 
 
     pub front_answered : (bad : List ℕ) (after : Option (List ℕ)) → NextLine rest (Some bad) after
         → IsBad primitive.language.call_of used bad
-        → Tells contents shown left (AnswersFront primitive (λ asked. asked ≡ opening) whole (number + 1))
+        → Tells contents shown left (RefusesLine primitive (λ asked. asked ≡ opening) whole (number + 1))
     unfolding LinesAre AnswersLines
     front_answered bad after comes is_bad =
         let all = so_far.4 [] rest used now [] left refl (refl, refl, refl) stays in (
           all.1,
-          record {
+          inr (record {
             beginning = begun opening whole so_far.1 used so_far.0 now all.0 rest all.1 so_far.2 so_far.3 all.2 all.3;
             bad = bad;
             later = after;
             next = comes;
             is_bad = is_bad;
             number_is = omega (arith, all.5);
-          },
+          }),
           all.4,
         )
 
@@ -180,3 +181,31 @@ pub if_err_same : {A E : Type 0} (r : Result A E) (told : E → Type 0) (fault :
     → told fault → IfErr r told
 if_err_same (Ok x) told fault is here = tt
 if_err_same (Err other) told fault is here = subst told (sym is) here
+
+-- What was answered in one way was answered in another, where each of its texts is one of the other's.
+answered_more : {A W : Type 0} (contents : W → Option (List ℕ)) (shown left : Output W) (r : Result A ScriptFault)
+    (less more : List ℕ → Type 0) → ((text : List ℕ) → less text → more text) → OnOk r (Tells contents shown left less)
+    → OnOk r (Tells contents shown left more)
+answered_more contents shown left (Ok x) less more on told = (told.0, on told.0 told.1, told.2)
+answered_more contents shown left (Err e) less more on told = tt
+
+stopped_more : {A W : Type 0} (contents : W → Option (List ℕ)) (shown left : Output W) (r : Result A ScriptFault)
+    (less more : ℕ → List ℕ → Type 0) (short longer : List ℕ → Type 0)
+    → ((number : ℕ) (text : List ℕ) → less number text → more number text) → ((text : List ℕ) → short text → longer text)
+    → IfErr r (IfStopped (λ number. Tells contents shown left (less number)) (Tells contents shown left short))
+    → IfErr r (IfStopped (λ number. Tells contents shown left (more number)) (Tells contents shown left longer))
+stopped_more contents shown left (Ok x) less more short longer refused ended told = tt
+stopped_more contents shown left (Err fault) less more short longer refused ended told = if_stopped_more _ _ _ _ fault told
+    (λ number it. (it.0, refused number it.0 it.1, it.2)) (λ it. (it.0, ended it.0 it.1, it.2))
+
+pub answers_more : {S T O P C D W A : Type 0} {primitive : Spoken S O C} {other : Spoken T P D} {asked : O → Type 0}
+    {wanted : P → Type 0} {rest : Option (List ℕ)} {contents : W → Option (List ℕ)} {shown left : Output W}
+    {r : Result A ScriptFault} → ((text : List ℕ) → AnswersRest primitive asked rest text → AnswersRest other wanted rest text)
+    → ((number : ℕ) (text : List ℕ) → RefusesLine primitive asked rest number text → RefusesLine other wanted rest number text)
+    → ((text : List ℕ) → RunsShort primitive asked rest text → RunsShort other wanted rest text)
+    → AnswersLeft primitive asked rest contents shown left r → AnswersLeft other wanted rest contents shown left r
+answers_more {contents} {shown} {left} {r} answered refused short told = record {
+  answered = answered_more contents shown left r _ _ answered told.answered;
+  stopped = stopped_more contents shown left r _ _ _ _ refused short told.stopped;
+  same_writer = told.same_writer;
+}

@@ -1,6 +1,6 @@
 -- What is answered over one buffer is what the channel answers.
 use Rattle.std.specs.Prelude.{◌≡◌, ◌≢◌, ◌<◌, ◌≤◌, ◌^◌, ℕ, Bool, true, false, List, [], ◌∷◌}
-use Rattle.std.specs.Prelude.{Option, None, Some, Result, Ok, Err, OnOk, IfErr, codes}
+use Rattle.std.specs.Prelude.{Option, None, Some, Result, codes}
 use Rattle.std.specs.Fmt.{decimal}
 use Rattle.std.proofs.Common.{refl, sym, subst, inl, inr, ap, arith, ◌∙◌}
 use Rattle.fi_parts.specs.Buffer.{empty}
@@ -9,19 +9,19 @@ use Rattle.fi_run.specs.Channel.{Opens}
 use Rattle.fi_run.specs.Outgoing.{Outgoing}
 use Rattle.fi_run.specs.declared.answer.Answer.{Answer}
 use Rattle.schedule.specs.Answered.{TellsWakers, AnswersLine, AnswersLines, AnswersBeginning, AnswersRest}
-use Rattle.schedule.specs.Answered.{AnswersFront, RunsShort, IfStopped}
+use Rattle.schedule.specs.Answered.{AnswersFront, RefusesLine, RunsShort}
 use Rattle.schedule.specs.Channels.{capacity_of, OpensOver}
 use Rattle.schedule.specs.Cuts.{IsCut}
 use Rattle.schedule.specs.Language.{Openings, Spoken, spoken}
 use Rattle.schedule.specs.Lines.{Labels}
-use Rattle.schedule.specs.Outputs.{Tells}
 use Rattle.schedule.specs.Tables.{buffer_text}
 use Rattle.schedule.specs.declared.buffer.Buffer.{Buffer}
 use Rattle.schedule.specs.declared.buffer.Buffer.TheVariants.{Fixed, Growing}
 use Rattle.schedule.specs.declared.fault.ScriptFault.{ScriptFault}
 use Rattle.schedule.specs.declared.output.Output.{Output}
+use Rattle.schedule.specs.Unread.{AnswersLeft}
 use Rattle.schedule.specs.declared.row.Row.{Row}
-use Rattle.schedule.proofs.Answered.{if_stopped_more}
+use Rattle.schedule.proofs.Answered.{answers_more}
 use Rattle.schedule.proofs.Reading.{one_place, cut_of, some_same, none_is_not, same_number, heap_lacks}
 
 -- One machine with one table of lines, whose openings are told in two ways.
@@ -99,30 +99,24 @@ module _ {S O P C : Type 0} (step : S → C → Answer ℕ ℕ → S → Type 0)
       number_is = it.number_is;
     }
 
+    refused_over : (number : ℕ) → RefusesLine one (λ asked. asked ≡ opening) rest number text
+        → RefusesLine other (λ asked. asked ≡ opening_too) rest number text
+    refused_over number (inl none) = absurd (none.2 opening refl)
+    refused_over number (inr front) = inr (front_over number front)
+
     short_over : RunsShort one (λ asked. asked ≡ opening) rest text → RunsShort other (λ asked. asked ≡ opening_too) rest text
     short_over (inl none) = inl none
     short_over (inr begun) = inr (beginning_over begun)
 
-  module _ {W : Type 0} (contents : W → Option (List ℕ)) (opening : O) (opening_too : P)
-      (opens_both : (state : S) → opens opening state → opens_too opening_too state)
-      (rest : Option (List ℕ)) (shown left : Output W) where
-    pub answered_over : {A E : Type 0} (r : Result A E)
-        → OnOk r (Tells contents shown left (AnswersRest one (λ asked. asked ≡ opening) rest))
-        → OnOk r (Tells contents shown left (AnswersRest other (λ asked. asked ≡ opening_too) rest))
-    answered_over (Ok x) told = (told.0, rest_over opening opening_too opens_both rest told.0 told.1, told.2)
-    answered_over (Err e) told = tt
-
-    pub stopped_over : {A : Type 0} (r : Result A ScriptFault)
-        → IfErr r (IfStopped
-        (λ number. Tells contents shown left (AnswersFront one (λ asked. asked ≡ opening) rest number))
-        (Tells contents shown left (RunsShort one (λ asked. asked ≡ opening) rest)))
-        → IfErr r (IfStopped
-        (λ number. Tells contents shown left (AnswersFront other (λ asked. asked ≡ opening_too) rest number))
-        (Tells contents shown left (RunsShort other (λ asked. asked ≡ opening_too) rest)))
-    stopped_over (Ok x) told = tt
-    stopped_over (Err fault) told = if_stopped_more _ _ _ _ fault told
-        (λ number it. (it.0, front_over opening opening_too opens_both rest it.0 number it.1, it.2))
-        (λ it. (it.0, short_over opening opening_too opens_both rest it.0 it.1, it.2))
+  pub answers_over : {W A : Type 0} {opening : O} {opening_too : P} {rest : Option (List ℕ)}
+      {contents : W → Option (List ℕ)} {shown left : Output W} {r : Result A ScriptFault}
+      → ((state : S) → opens opening state → opens_too opening_too state)
+      → AnswersLeft one (λ asked. asked ≡ opening) rest contents shown left r
+      → AnswersLeft other (λ asked. asked ≡ opening_too) rest contents shown left r
+  answers_over {opening} {opening_too} {rest} opens_both told = answers_more
+      (λ text it. rest_over opening opening_too opens_both rest text it)
+      (λ number text it. refused_over opening opening_too opens_both rest text number it)
+      (λ text it. short_over opening opening_too opens_both rest text it) told
 
 -- What is opened over a buffer of this capacity is opened over the buffer of this name.
 pub opens_named : (capacity_for : ℕ → ℕ) (capacity : ℕ) (buffer : Buffer) → capacity ≡ capacity_of buffer

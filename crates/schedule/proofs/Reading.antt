@@ -7,22 +7,17 @@ use Rattle.std.proofs.lemmas.Fmt.{digits_value-decimal}
 use Rattle.std.proofs.lemmas.List.{get_or_default}
 use Rattle.std.specs.Str.Parse.{digits_value}
 use Rattle.schedule.specs.Cuts.{IsCut}
-use Rattle.schedule.specs.Labels.{IsLabel, code_of}
+use Rattle.schedule.specs.Labels.{IsLabel}
 use Rattle.schedule.specs.Lines.{joined, numerals, Fit, words_after, HasWords, Labels, row_of, HoldsLine, IsNoCall, IsBad}
 use Rattle.schedule.specs.declared.row.Row.{Row}
-use Rattle.schedule.specs.Names.{name_of}
+use Rattle.schedule.specs.Primitives.{known}
 use Rattle.schedule.specs.Spelled.{IsNotSpelled, IsNoNumerals}
 use Rattle.schedule.specs.Tables.{fairness_text}
 use Rattle.schedule.specs.Verbs.{verb_text, IsNoVerb}
 use Rattle.schedule.specs.declared.named.Named.{Named}
-use Rattle.schedule.specs.declared.named.Named.TheVariants as named
 use Rattle.schedule.specs.declared.numbers.Numbers.{Numbers}
 use Rattle.schedule.specs.declared.numbers.Numbers.TheVariants.{Absent, One, Two}
 use Rattle.schedule.specs.declared.verb.Verb.{Verb}
-use Rattle.schedule.specs.declared.verb.Verb.TheVariants.{Acquire, Cancel, Check, Close, Deadline, Delay, Disarm, Finish, GiveBack}
-use Rattle.schedule.specs.declared.verb.Verb.TheVariants.{Held, IsLocked, IsSet, Lock, Next, Permits, Poll, Receive, Release}
-use Rattle.schedule.specs.declared.verb.Verb.TheVariants.{Reset, Send, Set, Shutdown, Start, Stream, Submit}
-use Rattle.schedule.specs.declared.verb.Verb.TheVariants.{TryAcquire, TryLock, TryReceive, TrySend, Unlock, Wait}
 use Rattle.schedule.proofs.Numerals.{own, numeral_digits}
 
 -- no byte is the separator
@@ -97,49 +92,11 @@ lacks_by_test separator (x ∷ xs) e (suc k) d h same =
 
 verb_lacks : (verb : Verb) → Lacks 32 (verb_text verb)
 unfolding lacks_byte
-verb_lacks Acquire = lacks_by_test 32 (verb_text Acquire) refl
-verb_lacks Cancel = lacks_by_test 32 (verb_text Cancel) refl
-verb_lacks Check = lacks_by_test 32 (verb_text Check) refl
-verb_lacks Close = lacks_by_test 32 (verb_text Close) refl
-verb_lacks Deadline = lacks_by_test 32 (verb_text Deadline) refl
-verb_lacks Delay = lacks_by_test 32 (verb_text Delay) refl
-verb_lacks Disarm = lacks_by_test 32 (verb_text Disarm) refl
-verb_lacks Finish = lacks_by_test 32 (verb_text Finish) refl
-verb_lacks GiveBack = lacks_by_test 32 (verb_text GiveBack) refl
-verb_lacks Held = lacks_by_test 32 (verb_text Held) refl
-verb_lacks IsLocked = lacks_by_test 32 (verb_text IsLocked) refl
-verb_lacks IsSet = lacks_by_test 32 (verb_text IsSet) refl
-verb_lacks Lock = lacks_by_test 32 (verb_text Lock) refl
-verb_lacks Next = lacks_by_test 32 (verb_text Next) refl
-verb_lacks Permits = lacks_by_test 32 (verb_text Permits) refl
-verb_lacks Poll = lacks_by_test 32 (verb_text Poll) refl
-verb_lacks Receive = lacks_by_test 32 (verb_text Receive) refl
-verb_lacks Release = lacks_by_test 32 (verb_text Release) refl
-verb_lacks Reset = lacks_by_test 32 (verb_text Reset) refl
-verb_lacks Send = lacks_by_test 32 (verb_text Send) refl
-verb_lacks Set = lacks_by_test 32 (verb_text Set) refl
-verb_lacks Shutdown = lacks_by_test 32 (verb_text Shutdown) refl
-verb_lacks Start = lacks_by_test 32 (verb_text Start) refl
-verb_lacks Stream = lacks_by_test 32 (verb_text Stream) refl
-verb_lacks Submit = lacks_by_test 32 (verb_text Submit) refl
-verb_lacks TryAcquire = lacks_by_test 32 (verb_text TryAcquire) refl
-verb_lacks TryLock = lacks_by_test 32 (verb_text TryLock) refl
-verb_lacks TryReceive = lacks_by_test 32 (verb_text TryReceive) refl
-verb_lacks TrySend = lacks_by_test 32 (verb_text TrySend) refl
-verb_lacks Unlock = lacks_by_test 32 (verb_text Unlock) refl
-verb_lacks Wait = lacks_by_test 32 (verb_text Wait) refl
+verb_lacks verb = lacks_by_test 32 (verb_text verb) (grind arith)
 
-pub name_lacks : (named : Named) → Lacks 32 (name_of named)
+pub name_lacks : (named : Named) → Lacks 32 (known named).name
 unfolding lacks_byte
-name_lacks named.Channel = lacks_by_test 32 (name_of named.Channel) refl
-name_lacks named.Event = lacks_by_test 32 (name_of named.Event) refl
-name_lacks named.Oneshot = lacks_by_test 32 (name_of named.Oneshot) refl
-name_lacks named.OneshotBroadcast = lacks_by_test 32 (name_of named.OneshotBroadcast) refl
-name_lacks named.StateBroadcast = lacks_by_test 32 (name_of named.StateBroadcast) refl
-name_lacks named.Timer = lacks_by_test 32 (name_of named.Timer) refl
-name_lacks named.Mutex = lacks_by_test 32 (name_of named.Mutex) refl
-name_lacks named.Semaphore = lacks_by_test 32 (name_of named.Semaphore) refl
-name_lacks named.Pool = lacks_by_test 32 (name_of named.Pool) refl
+name_lacks named = lacks_by_test 32 (known named).name (grind arith)
 
 pub fairness_lacks : (is_fair : Bool) → Lacks 32 (fairness_text is_fair)
 unfolding lacks_byte
@@ -164,83 +121,13 @@ label_lacks word label =
 
 -- ---- each word is read in one way
 same_verb : (v w : Verb) → verb_text v ≡ verb_text w → v ≡ w
-same_verb Acquire Acquire e = refl
-same_verb Cancel Cancel e = refl
-same_verb Check Check e = refl
-same_verb Close Close e = refl
-same_verb Deadline Deadline e = refl
-same_verb Delay Delay e = refl
-same_verb Disarm Disarm e = refl
-same_verb Finish Finish e = refl
-same_verb GiveBack GiveBack e = refl
-same_verb Held Held e = refl
-same_verb IsLocked IsLocked e = refl
-same_verb IsSet IsSet e = refl
-same_verb Lock Lock e = refl
-same_verb Next Next e = refl
-same_verb Permits Permits e = refl
-same_verb Poll Poll e = refl
-same_verb Receive Receive e = refl
-same_verb Release Release e = refl
-same_verb Reset Reset e = refl
-same_verb Send Send e = refl
-same_verb Set Set e = refl
-same_verb Shutdown Shutdown e = refl
-same_verb Start Start e = refl
-same_verb Stream Stream e = refl
-same_verb Submit Submit e = refl
-same_verb TryAcquire TryAcquire e = refl
-same_verb TryLock TryLock e = refl
-same_verb TryReceive TryReceive e = refl
-same_verb TrySend TrySend e = refl
-same_verb Unlock Unlock e = refl
-same_verb Wait Wait e = refl
-same_verb v w e = absurd (omega (arith, ap code_of e))
+same_verb v w e = grind arith
 
-pub same_name : (v w : Named) → name_of v ≡ name_of w → v ≡ w
-same_name named.Channel named.Channel e = refl
-same_name named.Event named.Event e = refl
-same_name named.Oneshot named.Oneshot e = refl
-same_name named.OneshotBroadcast named.OneshotBroadcast e = refl
-same_name named.StateBroadcast named.StateBroadcast e = refl
-same_name named.Timer named.Timer e = refl
-same_name named.Mutex named.Mutex e = refl
-same_name named.Semaphore named.Semaphore e = refl
-same_name named.Pool named.Pool e = refl
-same_name v w e = absurd (omega (arith, ap code_of e))
+pub same_name : (v w : Named) → (known v).name ≡ (known w).name → v ≡ w
+same_name v w e = grind arith
 
 verb_is_no_hold : (v : Verb) → verb_text v ≡ codes "hold" → ⊥
-verb_is_no_hold Acquire e = omega (arith, ap code_of e)
-verb_is_no_hold Cancel e = omega (arith, ap code_of e)
-verb_is_no_hold Check e = omega (arith, ap code_of e)
-verb_is_no_hold Close e = omega (arith, ap code_of e)
-verb_is_no_hold Deadline e = omega (arith, ap code_of e)
-verb_is_no_hold Delay e = omega (arith, ap code_of e)
-verb_is_no_hold Disarm e = omega (arith, ap code_of e)
-verb_is_no_hold Finish e = omega (arith, ap code_of e)
-verb_is_no_hold GiveBack e = omega (arith, ap code_of e)
-verb_is_no_hold Held e = omega (arith, ap code_of e)
-verb_is_no_hold IsLocked e = omega (arith, ap code_of e)
-verb_is_no_hold IsSet e = omega (arith, ap code_of e)
-verb_is_no_hold Lock e = omega (arith, ap code_of e)
-verb_is_no_hold Next e = omega (arith, ap code_of e)
-verb_is_no_hold Permits e = omega (arith, ap code_of e)
-verb_is_no_hold Poll e = omega (arith, ap code_of e)
-verb_is_no_hold Receive e = omega (arith, ap code_of e)
-verb_is_no_hold Release e = omega (arith, ap code_of e)
-verb_is_no_hold Reset e = omega (arith, ap code_of e)
-verb_is_no_hold Send e = omega (arith, ap code_of e)
-verb_is_no_hold Set e = omega (arith, ap code_of e)
-verb_is_no_hold Shutdown e = omega (arith, ap code_of e)
-verb_is_no_hold Start e = omega (arith, ap code_of e)
-verb_is_no_hold Stream e = omega (arith, ap code_of e)
-verb_is_no_hold Submit e = omega (arith, ap code_of e)
-verb_is_no_hold TryAcquire e = omega (arith, ap code_of e)
-verb_is_no_hold TryLock e = omega (arith, ap code_of e)
-verb_is_no_hold TryReceive e = omega (arith, ap code_of e)
-verb_is_no_hold TrySend e = omega (arith, ap code_of e)
-verb_is_no_hold Unlock e = omega (arith, ap code_of e)
-verb_is_no_hold Wait e = omega (arith, ap code_of e)
+verb_is_no_hold v e = grind arith
 
 pub same_number : (n m : ℕ) → n < 2 ^ 64 → m < 2 ^ 64 → decimal n ≡ decimal m → n ≡ m
 same_number n m small small' e =

@@ -9,8 +9,8 @@ pub mod InUse
 pub mod Labels
 pub mod Language
 pub mod Lines
-pub mod Names
 pub mod Outputs
+pub mod Primitives
 pub mod Script
 pub mod Spelled
 pub mod Statuses

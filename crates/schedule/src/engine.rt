@@ -1,18 +1,19 @@
 //! Answering scripts.
 ghost use Rattle.std.specs.Prelude.{◌≡◌, ◌⊎◌, ℕ, List, [], Option, Some, true, OnOk, OnErr, IfOk, IfErr, MatchOption, drop, option_copied};
-ghost use Rattle.schedule.specs.Answered.{AnswersLine, AnswersRest, AnswersFront, RefusesLine, RunsShort, IfStopped};
+ghost use Rattle.schedule.specs.Answered.{AnswersLine, IfStopped};
 ghost use Rattle.schedule.specs.Asked.{Requests, Asks, Performs};
 ghost use Rattle.schedule.specs.Channels.{spoken_channel, capacity_of};
 ghost use Rattle.fi_parts.specs.Order.{head_or};
 ghost use Rattle.schedule.specs.Language.{spoken, AsksFor};
 ghost use Rattle.schedule.specs.Lines.{IsNoCall, IsBad, LabelsAfter, row_of};
+ghost use Rattle.schedule.specs.Primitives.{known, openings_of};
 ghost use Rattle.schedule.specs.Script.{AnswersScript, RefusesScript, StopsScript, Turns, IfFault};
 ghost use Rattle.schedule.specs.Spelled.{IsLabelOf};
 ghost use Rattle.schedule.specs.InUse.{labels_of};
 ghost use Rattle.schedule.specs.Outputs.{GoesOn, Tells, Collects, SameWriter};
 ghost use Rattle.schedule.specs.Tables.{channel_openings};
 ghost use Rattle.schedule.specs.Texts.{wakes_text};
-ghost use Rattle.schedule.specs.Unread.{lines_left};
+ghost use Rattle.schedule.specs.Unread.{lines_left, AnswersLeft};
 
 use crate::buffer::Buffer;
 use crate::fault::ScriptFault;
@@ -88,24 +89,36 @@ fn answer_script<W: Write>(
     let lines = Lines::after(rest);
     let (name, words) = split_at_first(first, b' ');
     match Named::by(name) {
-        Some(Named::Channel) => answer_channel(alloc, words, lines, output),
-        Some(Named::Event) => answer_calls::<EventState<u64>, W>(alloc, words, lines, output),
-        Some(Named::Oneshot) => {
-            answer_calls::<OneshotState<u64, u64>, W>(alloc, words, lines, output)
-        }
-        Some(Named::OneshotBroadcast) => {
+        Some(named) => answer_named(alloc, named, words, lines, output),
+        None => Err(ScriptFault::BadLine(1)),
+    }
+}
+
+/// Answers the lines after one whose words, behind this primitive's name, are these.
+fn answer_named<W: Write>(
+    alloc: Global,
+    named: Named,
+    words: Option<&[u8]>,
+    lines: Lines<'_>,
+    output: &mut Output<'_, W>,
+) -> Result<(), ScriptFault>
+    ensures { AnswersLeft (known named).spoken (AsksFor (openings_of named) (option_copied words.entry))
+        (lines_left lines.entry) W.contents output.old output.new result }
+{
+    match named {
+        Named::Channel => answer_channel(alloc, words, lines, output),
+        Named::Event => answer_calls::<EventState<u64>, W>(alloc, words, lines, output),
+        Named::Oneshot => answer_calls::<OneshotState<u64, u64>, W>(alloc, words, lines, output),
+        Named::OneshotBroadcast => {
             answer_calls::<OneshotBroadcastState<u64, u64>, W>(alloc, words, lines, output)
         }
-        Some(Named::StateBroadcast) => {
+        Named::StateBroadcast => {
             answer_calls::<StateBroadcastState<u64, u64>, W>(alloc, words, lines, output)
         }
-        Some(Named::Timer) => answer_calls::<TimerState<u64>, W>(alloc, words, lines, output),
-        Some(Named::Mutex) => answer_calls::<MutexState<u64, u64>, W>(alloc, words, lines, output),
-        Some(Named::Semaphore) => {
-            answer_calls::<SemaphoreState<u64>, W>(alloc, words, lines, output)
-        }
-        Some(Named::Pool) => answer_calls::<PoolState<u64>, W>(alloc, words, lines, output),
-        None => Err(ScriptFault::BadLine(1)),
+        Named::Timer => answer_calls::<TimerState<u64>, W>(alloc, words, lines, output),
+        Named::Mutex => answer_calls::<MutexState<u64, u64>, W>(alloc, words, lines, output),
+        Named::Semaphore => answer_calls::<SemaphoreState<u64>, W>(alloc, words, lines, output),
+        Named::Pool => answer_calls::<PoolState<u64>, W>(alloc, words, lines, output),
     }
 }
 
@@ -116,20 +129,9 @@ fn answer_calls<P: Scripted, W: Write>(
     lines: Lines<'_>,
     output: &mut Output<'_, W>,
 ) -> Result<(), ScriptFault>
-    ensures answered { OnOk result (Tells W.contents output.old output.new
-        (AnswersRest (spoken P.opens P.step P.outgoing P.Scripted.language)
+    ensures { AnswersLeft (spoken P.opens P.step P.outgoing P.Scripted.language)
         (AsksFor P.Scripted.language.openings (option_copied words.entry))
-        (lines_left lines.entry))) }
-    ensures stopped { IfErr result (IfStopped
-        (λ number. Tells W.contents output.old output.new (RefusesLine
-        (spoken P.opens P.step P.outgoing P.Scripted.language)
-        (AsksFor P.Scripted.language.openings (option_copied words.entry))
-        (lines_left lines.entry) number))
-        (Tells W.contents output.old output.new (RunsShort
-        (spoken P.opens P.step P.outgoing P.Scripted.language)
-        (AsksFor P.Scripted.language.openings (option_copied words.entry))
-        (lines_left lines.entry)))) }
-    ensures same_writer { SameWriter output.old output.new }
+        (lines_left lines.entry) W.contents output.old output.new result }
 {
     match P::opening(words) {
         Some(opening) => answer_lines::<P, W>(alloc, opening, lines, output),
@@ -144,15 +146,8 @@ fn answer_channel<W: Write>(
     lines: Lines<'_>,
     output: &mut Output<'_, W>,
 ) -> Result<(), ScriptFault>
-    ensures answered { OnOk result (Tells W.contents output.old output.new
-        (AnswersRest spoken_channel (AsksFor channel_openings (option_copied words.entry))
-        (lines_left lines.entry))) }
-    ensures stopped { IfErr result (IfStopped
-        (λ number. Tells W.contents output.old output.new (RefusesLine spoken_channel
-        (AsksFor channel_openings (option_copied words.entry)) (lines_left lines.entry) number))
-        (Tells W.contents output.old output.new (RunsShort spoken_channel
-        (AsksFor channel_openings (option_copied words.entry)) (lines_left lines.entry)))) }
-    ensures same_writer { SameWriter output.old output.new }
+    ensures { AnswersLeft spoken_channel (AsksFor channel_openings (option_copied words.entry))
+        (lines_left lines.entry) W.contents output.old output.new result }
 {
     match Buffer::named(words) {
         Some(buffer) => answer_over_named(alloc, buffer, lines, output),
@@ -167,14 +162,8 @@ fn answer_over_named<W: Write>(
     lines: Lines<'_>,
     output: &mut Output<'_, W>,
 ) -> Result<(), ScriptFault>
-    ensures answered { OnOk result (Tells W.contents output.old output.new
-        (AnswersRest spoken_channel (λ asked. asked ≡ buffer) (lines_left lines.entry))) }
-    ensures stopped { IfErr result (IfStopped
-        (λ number. Tells W.contents output.old output.new (AnswersFront spoken_channel
-        (λ asked. asked ≡ buffer) (lines_left lines.entry) number))
-        (Tells W.contents output.old output.new (RunsShort spoken_channel
-        (λ asked. asked ≡ buffer) (lines_left lines.entry)))) }
-    ensures same_writer { SameWriter output.old output.new }
+    ensures { AnswersLeft spoken_channel (λ asked. asked ≡ buffer)
+        (lines_left lines.entry) W.contents output.old output.new result }
 {
     match buffer {
         Buffer::Array0 => answer_over::<ArrayBuf<u64, 0>, W>(alloc, buffer, lines, output),
@@ -194,14 +183,8 @@ fn answer_over<B: RingBuf<Item = u64>, W: Write>(
     output: &mut Output<'_, W>,
 ) -> Result<(), ScriptFault>
     requires { B.capacity_for (capacity_of buffer) ≡ capacity_of buffer }
-    ensures answered { OnOk result (Tells W.contents output.old output.new
-        (AnswersRest spoken_channel (λ asked. asked ≡ buffer) (lines_left lines.entry))) }
-    ensures stopped { IfErr result (IfStopped
-        (λ number. Tells W.contents output.old output.new (AnswersFront spoken_channel
-        (λ asked. asked ≡ buffer) (lines_left lines.entry) number))
-        (Tells W.contents output.old output.new (RunsShort spoken_channel
-        (λ asked. asked ≡ buffer) (lines_left lines.entry)))) }
-    ensures same_writer { SameWriter output.old output.new }
+    ensures { AnswersLeft spoken_channel (λ asked. asked ≡ buffer)
+        (lines_left lines.entry) W.contents output.old output.new result }
 {
     answer_lines::<ChannelState<u64, B, u64>, W>(alloc, buffer.capacity(), lines, output)
 }
@@ -213,17 +196,8 @@ fn answer_lines<P: Scripted, W: Write>(
     mut lines: Lines<'_>,
     output: &mut Output<'_, W>,
 ) -> Result<(), ScriptFault>
-    ensures answered { OnOk result (Tells W.contents output.old output.new
-        (AnswersRest (spoken P.opens P.step P.outgoing P.Scripted.language) (λ asked. asked ≡ opening)
-        (lines_left lines.entry))) }
-    ensures stopped { IfErr result (IfStopped
-        (λ number. Tells W.contents output.old output.new (AnswersFront
-        (spoken P.opens P.step P.outgoing P.Scripted.language) (λ asked. asked ≡ opening)
-        (lines_left lines.entry) number))
-        (Tells W.contents output.old output.new (RunsShort
-        (spoken P.opens P.step P.outgoing P.Scripted.language) (λ asked. asked ≡ opening)
-        (lines_left lines.entry)))) }
-    ensures same_writer { SameWriter output.old output.new }
+    ensures { AnswersLeft (spoken P.opens P.step P.outgoing P.Scripted.language) (λ asked. asked ≡ opening)
+        (lines_left lines.entry) W.contents output.old output.new result }
 {
     let Ok(primitive) = P::open(alloc, opening) else {
         return Err(ScriptFault::NoMemory);

@@ -1,6 +1,6 @@
 //! The primitives that a script may name.
 ghost use Rattle.std.specs.Prelude.{◌≡◌, MatchOption};
-ghost use Rattle.schedule.specs.Names.{name_of, IsNoName};
+ghost use Rattle.schedule.specs.Primitives.{known, IsNoName};
 
 /// A primitive of scripts.
 #[derive(Clone, Copy, Debug, PartialEq, Eq)]
@@ -19,7 +19,7 @@ pub enum Named {
 impl Named {
     /// Parses a primitive's name.
     pub fn by(word: &[u8]) -> Option<Named>
-        ensures { MatchOption result (IsNoName word.now) (λ named. word.now ≡ name_of named) }
+        ensures { MatchOption result (IsNoName word.now) (λ named. word.now ≡ (known named).name) }
     {
         if word == b"channel".as_slice() {
             Some(Named::Channel)

@@ -36,25 +36,33 @@ loop-line-preserved g c = (
   c.answer_line.ensures.same_writer ∙ c.loop-line.invariant.2,
 )
 
-pub returns-in_err-answer_line-clause-stopped : goal.returns-in_err-answer_line-clause-stopped
-returns-in_err-answer_line-clause-stopped g c =
-    let primitive = spoken g.P.Primitive.opens g.P.Primitive.step g.P.Primitive.outgoing g.P.Scripted.language in
-    if_err_same c.from_residual.result _ c.in_err-answer_line.field-0.0 c.from_residual.ensures.1
-    (if_stopped_more _ _ _ _ c.in_err-answer_line.field-0.0 c.in_err-answer_line.ensures.stopped
-    (λ number told. rw told.0
-    (front_answered primitive g.W.Write.contents c.args.opening (option_copied c.args.lines.rest) c.args.output.now
-    c.loop-line.number (option_copied c.loop-line.lines.rest) (labels_of c.loop-line.session.futures)
-    c.loop-line.session.primitive c.loop-line.output c.answer_line.new.output c.loop-line.invariant.1 told.2
-    c.in-Some.line.now _ c.in-Some.ensures told.1))
-    (λ stays.
-    beginning_answered primitive g.W.Write.contents c.args.opening (option_copied c.args.lines.rest) c.args.output.now
-    c.loop-line.number (option_copied c.loop-line.lines.rest) (labels_of c.loop-line.session.futures)
-    c.loop-line.session.primitive c.loop-line.output c.answer_line.new.output c.loop-line.invariant.1 stays))
+pub returns-in_err-answer_line : goal.returns-in_err-answer_line
+returns-in_err-answer_line g c = record {
+  answered = search rules;
+  stopped =
+      let primitive = spoken g.P.Primitive.opens g.P.Primitive.step g.P.Primitive.outgoing g.P.Scripted.language in
+      if_err_same c.from_residual.result _ c.in_err-answer_line.field-0.0 c.from_residual.ensures.1
+      (if_stopped_more _ _ _ _ c.in_err-answer_line.field-0.0 c.in_err-answer_line.ensures.stopped
+      (λ number told. rw told.0
+      (front_answered primitive g.W.Write.contents c.args.opening (option_copied c.args.lines.rest) c.args.output.now
+      c.loop-line.number (option_copied c.loop-line.lines.rest) (labels_of c.loop-line.session.futures)
+      c.loop-line.session.primitive c.loop-line.output c.answer_line.new.output c.loop-line.invariant.1 told.2
+      c.in-Some.line.now _ c.in-Some.ensures told.1))
+      (λ stays.
+      beginning_answered primitive g.W.Write.contents c.args.opening (option_copied c.args.lines.rest) c.args.output.now
+      c.loop-line.number (option_copied c.loop-line.lines.rest) (labels_of c.loop-line.session.futures)
+      c.loop-line.session.primitive c.loop-line.output c.answer_line.new.output c.loop-line.invariant.1 stays));
+  same_writer = c.answer_line.ensures.same_writer ∙ c.loop-line.invariant.2;
+}
 
-pub returns-clause-answered : goal.returns-clause-answered
-returns-clause-answered g c =
-    rest_answered (spoken g.P.Primitive.opens g.P.Primitive.step g.P.Primitive.outgoing g.P.Scripted.language) g.W.Write.contents
-    c.args.opening (option_copied c.args.lines.rest) c.args.output.now
-    c.loop-line.number (option_copied c.loop-line.lines.rest) (labels_of c.loop-line.session.futures)
-    c.loop-line.session.primitive c.loop-line.output c.loop-line.output c.loop-line.invariant.1
-    (appends_none (on_its_way g.W.Write.contents c.loop-line.output)) _ c.in_default-line.ensures
+pub returns : goal.returns
+returns g c = record {
+  answered =
+      rest_answered (spoken g.P.Primitive.opens g.P.Primitive.step g.P.Primitive.outgoing g.P.Scripted.language)
+      g.W.Write.contents c.args.opening (option_copied c.args.lines.rest) c.args.output.now
+      c.loop-line.number (option_copied c.loop-line.lines.rest) (labels_of c.loop-line.session.futures)
+      c.loop-line.session.primitive c.loop-line.output c.loop-line.output c.loop-line.invariant.1
+      (appends_none (on_its_way g.W.Write.contents c.loop-line.output)) _ c.in_default-line.ensures;
+  stopped = tt;
+  same_writer = c.loop-line.invariant.2;
+}
