@@ -8,6 +8,7 @@ use Rattle.schedule.specs.InUse.{labels_of}
 use Rattle.schedule.specs.Labels.{IsLabel, code_of}
 use Rattle.schedule.specs.Lines.{Rebinds, LabelsAfter}
 use Rattle.schedule.specs.Spelled.{IsLabelOf}
+use Rattle.schedule.specs.Standing.{standing}
 use Rattle.schedule.specs.Stored.{Stores}
 use Rattle.schedule.specs.declared.label.Label.{Label}
 use Rattle.schedule.specs.declared.labelled.Labelled.{Labelled}
@@ -19,17 +20,17 @@ use Rattle.schedule.specs.declared.verb.Verb.{Verb}
 use Rattle.schedule.proofs.Labels.{one_word}
 
 rebinds : (word : List ℕ) (future : Option MadeFuture) (code : ℕ) (old new : Labelled MadeFuture) → IsLabel word
-    → code ≡ code_of word → Stores code future old.short.items old.long.items new.short.items new.long.items
+    → code ≡ code_of word → Stores code future (standing old) (standing new)
     → Rebinds word future (labels_of old) (labels_of new)
 rebinds word future code old new label is stores =
-    let here : Stores (code_of word) future old.short.items old.long.items new.short.items new.long.items = subst
-    (λ c. Stores c future old.short.items old.long.items new.short.items new.long.items) is stores in
+    let here : Stores (code_of word) future (standing old) (standing new) = subst
+    (λ c. Stores c future (standing old) (standing new)) is stores in
     (here.here, λ other label' apart. here.elsewhere (code_of other) (λ same. apart (one_word other word label' label same)))
 
 module _ (old new : Labelled MadeFuture) (label : Option Label) (l : Label) (is : label ≡ Some l) where
   pub bound : (slot : Slot) (row : Row) (verb : Verb) (numbers : Numbers) (answer : Answer ℕ ℕ)
       → row ≡ Make verb numbers → answer ≡ Made slot
-      → Stores l.code (Some (record { verb = verb; slot = slot })) old.short.items old.long.items new.short.items new.long.items
+      → Stores l.code (Some (record { verb = verb; slot = slot })) (standing old) (standing new)
       → (word : Option (List ℕ)) → IsLabelOf word label → LabelsAfter row word answer (labels_of old) (labels_of new)
   bound slot row verb numbers answer is_row is_answer stores None labelled =
       absurd (subst (λ (o : Option Label). IsLabelOf None o) is labelled)
@@ -38,7 +39,7 @@ module _ (old new : Labelled MadeFuture) (label : Option Label) (l : Label) (is 
       rw (is_row, is_answer) (rebinds word (Some (record { verb = verb; slot = slot })) l.code old new it.0 it.1 stores)
 
   pub unbound : (future : MadeFuture) (row : Row) (numbers : Numbers) (answer : Answer ℕ ℕ) → row ≡ Cancel future numbers
-      → Stores l.code None old.short.items old.long.items new.short.items new.long.items
+      → Stores l.code None (standing old) (standing new)
       → (word : Option (List ℕ)) → IsLabelOf word label → LabelsAfter row word answer (labels_of old) (labels_of new)
   unbound future row numbers answer is_row stores None labelled =
       absurd (subst (λ (o : Option Label). IsLabelOf None o) is labelled)

@@ -13,6 +13,7 @@ pub mod Outputs
 pub mod Primitives
 pub mod Script
 pub mod Spelled
+pub mod Standing
 pub mod Statuses
 pub mod Stored
 pub mod Tables

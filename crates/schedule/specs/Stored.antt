@@ -22,7 +22,7 @@ module _ {V : Type 0} where
   abbrev pub stored : List (BTreeMap ℕ V) → List (BTreeMap ℕ V) → ℕ → Option V
   stored short long code = cond (ltb code (2 ^ 64)) (on_shelves short code) (on_shelves long code)
 
-  -- This stands there from now on, and elsewhere what stood there.
-  pub record Stores (code : ℕ) (value : Option V) (short long new_short new_long : List (BTreeMap ℕ V)) : Type 0 where
-    pub here : stored new_short new_long code ≡ value
-    pub elsewhere : (other : ℕ) → other ≢ code → stored new_short new_long other ≡ stored short long other
+  -- This stands under the code from now on, and elsewhere what stood there.
+  pub record Stores (code : ℕ) (value : Option V) (old new : ℕ → Option V) : Type 0 where
+    pub here : new code ≡ value
+    pub elsewhere : (other : ℕ) → other ≢ code → new other ≡ old other

@@ -1,6 +1,6 @@
 //! What stands under labels.
 ghost use Rattle.std.specs.Prelude.{◌≡◌, ◌<◌, ◌%◌, ℕ, Some, None, OnOk, IfOk, slice_get, vec_len};
-ghost use Rattle.schedule.specs.Stored.{shelf_of, stored, Stores};
+ghost use Rattle.schedule.specs.Stored.{shelf_of, Stores};
 
 use crate::label::Label;
 use std::alloc::{AllocError, Global};
@@ -26,10 +26,12 @@ pub struct Labelled<V> {
 }
 
 impl<V: Copy> Labelled<V> {
+    // Not at the head of the file: the struct imports what stands there, and this speaks of the struct.
+    ghost use Rattle.schedule.specs.Standing.{standing};
+
     /// An empty one with about so many shelves of each kind.
     pub fn new(alloc: Global, shelf_count: usize) -> Result<Self, AllocError>
-        ensures empty { IfOk result (λ labelled. (code : ℕ)
-            → stored labelled.short.items labelled.long.items code ≡ None) }
+        ensures empty { IfOk result (λ labelled. (code : ℕ) → standing labelled code ≡ None) }
     {
         // An odd number, since labels are numbers in base 256.
         let count = shelf_count.min(MOST_SHELVES) / 2 * 2 + 1;
@@ -53,7 +55,7 @@ impl<V: Copy> Labelled<V> {
     /// What stands under a label.
     #[inline(always)]
     pub fn get(&self, label: Label) -> Option<V>
-        ensures { result ≡ stored self.now.short.items self.now.long.items label.code }
+        ensures { result ≡ standing self.now label.code }
     {
         let at = self.shelf_number(label);
         match label.short_code() {
@@ -64,8 +66,8 @@ impl<V: Copy> Labelled<V> {
 
     /// Puts a value under a label, in the place of what stood there.
     pub fn insert(&mut self, label: Label, value: V) -> Result<(), AllocError>
-        ensures stored { OnOk result (Stores label.code (Some value) self.old.short.items
-            self.old.long.items self.new.short.items self.new.long.items) }
+        ensures stored { OnOk result (Stores label.code (Some value) (standing self.old)
+            (standing self.new)) }
     {
         let at = self.shelf_number(label);
         let Some(code) = label.short_code() else {
@@ -82,8 +84,7 @@ impl<V: Copy> Labelled<V> {
 
     /// Takes out what stands under a label.
     pub fn remove(&mut self, label: Label)
-        ensures { Stores label.code None self.old.short.items self.old.long.items
-            self.new.short.items self.new.long.items }
+        ensures { Stores label.code None (standing self.old) (standing self.new) }
     {
         let at = self.shelf_number(label);
         let Some(code) = label.short_code() else {
