@@ -1,13 +1,15 @@
 -- What the walks share: a list of owned blocks is cut at one and glued again. Assumes `Logic`.
 use mathlib.Core.Path.{◌≡◌, refl, subst}
+use Prim.Native.Nat.{ℕ}
 use mathlib.Core.List.{List, [], ◌∷◌, ◌++◌}
 use seplogic.Ra.Ura.{Ura}
 use mir.Syntax.{Args, a_type}
 use mir.Val.{Val, vstruct, of_list}
 use base.Logic.{ent, sep, id⊢, via, fst∗, snd∗}
-use base.Fml.{Lft}
+use base.Fml.{Lft, Fml, ftrue}
 use types.Logic.{Logic, sem}
-use types.Kit.{Item, Goal, Seq, Step, step, ‵, ◌⊛◌, ◌$◌, ◌∵◌, !, qed, move, drop, use1, use2, split, fsplit, fjoin, fpick, fpack}
+use types.Kit.{Item, Goal, Seq, Step, step, ‵, ◌⊛◌, ◌$◌, ◌∵◌, !, qed, move, drop, use1, use2, split, fsplit, fsplit3}
+use types.Kit.{fjoin, fpick, fpack}
 use types.Kit.{feq_i, feq_l, done}
 use denote.RattleType.{RattleType, Valss}
 use denote.Param.{param, layouts}
@@ -16,12 +18,11 @@ use denote.Struct.Struct.{Shape, Struct, within}
 use denote.Struct.Owning.{shape}
 use denote.RawPtr.{Ptr, RawPtr, ptr_val}
 use denote.Struct.Lending.{lent_at}
-use Rattle.std.specs.Box.Ownership.{box_owns}
 use Rattle.std.proofs.RcSteps.{word}
 use Rattle.fi_parts.specs.contracts.blocks.block.Block as block
 use Rattle.fi_parts.specs.contracts.blocks.block.BlockPtr as block_ptr-type
-use Rattle.fi_parts.specs.contracts.blocks.owner.BlockOwner as owner
-use Rattle.fi_parts.specs.BlockOwner.{token, blocks_own, blocks_lent}
+use Rattle.fi_parts.specs.contracts.blocks.places.BlockPlaces as places_type
+use Rattle.fi_parts.specs.BlockOwner.{all_own, blocks_own, vacancies_own, deeds_own, IsShared, all_owns, blocks_lent}
 
 module _ (T : RattleType) where
   abbrev pub args : Args
@@ -34,10 +35,10 @@ module _ (T : RattleType) where
   P = block_ptr-type.the_row (param 0 T)
 
   abbrev pub R : RattleType
-  R = owner.the_row (param 0 T)
+  R = places_type.the_row (param 0 T)
 
   abbrev pub Mark : RattleType
-  Mark = Struct (shape (owner.the_type (param 0 T)))
+  Mark = Struct (shape (places_type.the_type (param 0 T)))
 
 abbrev one_field : Shape
 one_field = record { name = []; args = []; types = []; fields = RawPtr ∷ [] }
@@ -52,26 +53,54 @@ module _ {M : Type 1} {𝓤 : Ura M} {𝓛 : Logic 𝓤} {K : Type 0} {Γ : List
 
   pub word_made : K → (c : Ptr) → Step K 𝓛 (‵ (Word.own_val (c, tt) (word c ∷ [])) ∷ Γ) G Γ G
   word_made t c = step (λ s.
-      nothing t $ feq_i t (List Val) (ptr_val c ∷ []) (ptr_val c ∷ []) refl $ fjoin t $ feq_i t (List Val) (word c ∷ []) (word c ∷ [])
+      nothing t $ feq_i t (List Val) (ptr_val c ∷ []) (ptr_val c ∷ []) refl $ fjoin t $
+      feq_i t (List Val) (word c ∷ []) (word c ∷ [])
       refl $ fjoin t $
       fpack t (Valss (RawPtr ∷ [])) (within one_field (c, tt) (word c ∷ [])) (ptr_val c ∷ [], tt) $ s)
 
+module _ {M : Type 1} {𝓤 : Ura M} (𝓛 : Logic 𝓤) {X : Type 0} (F : X → Fml) where
+  pub own_cut : (xs : List X) (n : X) (ys : List X)
+      → ent 𝓤 (sem 𝓛 (all_own F (xs ++ n ∷ ys))) (sep 𝓤 (sem 𝓛 (F n)) (sem 𝓛 (all_own F (xs ++ ys))))
+  own_cut [] n ys = id⊢ 𝓤 _
+  own_cut (x ∷ xs) n ys = qed 𝓛 (‵ (all_own F (x ∷ xs ++ n ∷ ys)) ∷ []) ∵ fsplit ! $ move ! (1 ∷ []) $
+      use1 𝓛 (‵ (F n) ⊛ ‵ (all_own F (xs ++ ys))) (own_cut xs n ys) $ split ! $ move ! (2 ∷ 1 ∷ []) $ fjoin ! $
+      move ! (1 ∷ []) $ done !
+
+  pub own_glue : (xs : List X) (n : X) (ys : List X)
+      → ent 𝓤 (sep 𝓤 (sem 𝓛 (F n)) (sem 𝓛 (all_own F (xs ++ ys)))) (sem 𝓛 (all_own F (xs ++ n ∷ ys)))
+  own_glue [] n ys = id⊢ 𝓤 _
+  own_glue (x ∷ xs) n ys = qed 𝓛 (‵ (F n) ∷ ‵ (all_own F (x ∷ xs ++ ys)) ∷ []) ∵ move ! (1 ∷ []) $ fsplit ! $ move ! (2 ∷ 1 ∷ []) $
+      use2 𝓛 (‵ (all_own F (xs ++ n ∷ ys))) (own_glue xs n ys) $ move ! (1 ∷ 0 ∷ []) $ fjoin ! $ done !
+
+  -- two lists side by side
+  pub own_append : (xs ys : List X) → ent 𝓤 (sep 𝓤 (sem 𝓛 (all_own F xs)) (sem 𝓛 (all_own F ys))) (sem 𝓛 (all_own F (xs ++ ys)))
+  own_append [] ys = qed 𝓛 (‵ ftrue ∷ ‵ (all_own F ys) ∷ []) ∵ drop ! $ done !
+  own_append (x ∷ xs) ys = qed 𝓛 (‵ (all_own F (x ∷ xs)) ∷ ‵ (all_own F ys) ∷ []) ∵ fsplit ! $ move ! (1 ∷ 2 ∷ []) $
+      use2 𝓛 (‵ (all_own F (xs ++ ys))) (own_append xs ys) $ move ! (1 ∷ 0 ∷ []) $ fjoin ! $ done !
+
+  pub own_divide : (xs ys : List X) → ent 𝓤 (sem 𝓛 (all_own F (xs ++ ys))) (sep 𝓤 (sem 𝓛 (all_own F xs)) (sem 𝓛 (all_own F ys)))
+  own_divide [] ys = qed 𝓛 (‵ (all_own F ys) ∷ []) ∵ nothing ! $ done !
+  own_divide (x ∷ xs) ys = qed 𝓛 (‵ (all_own F (x ∷ xs ++ ys)) ∷ []) ∵ fsplit ! $ move ! (1 ∷ []) $
+      use1 𝓛 (‵ (all_own F xs) ⊛ ‵ (all_own F ys)) (own_divide xs ys) $ split ! $ move ! (2 ∷ 0 ∷ []) $ fjoin ! $ done !
+
 module _ {M : Type 1} {𝓤 : Ura M} (𝓛 : Logic 𝓤) (B : RattleType) where
-  pub blocks_cut : (xs : List (Ptr × B.Denot)) (n : Ptr × B.Denot) (ys : List (Ptr × B.Denot))
-      → ent 𝓤 (sem 𝓛 (blocks_own B (xs ++ n ∷ ys))) (sep 𝓤 (sem 𝓛 (box_owns token B n.0 n.1)) (sem 𝓛 (blocks_own B (xs ++ ys))))
-  blocks_cut [] n ys = id⊢ 𝓤 _
-  blocks_cut (x ∷ xs) n ys = qed 𝓛 (‵ (blocks_own B (x ∷ xs ++ n ∷ ys)) ∷ []) ∵ fsplit ! $ move ! (1 ∷ []) $
-      use1 𝓛 (‵ (box_owns token B n.0 n.1) ⊛ ‵ (blocks_own B (xs ++ ys))) (blocks_cut xs n ys) $ split ! $ move ! (2 ∷ 1 ∷ []) $ fjoin !
-      $ move ! (1 ∷ []) $ done !
-
-  pub blocks_glue : (xs : List (Ptr × B.Denot)) (n : Ptr × B.Denot) (ys : List (Ptr × B.Denot))
-      → ent 𝓤 (sep 𝓤 (sem 𝓛 (box_owns token B n.0 n.1)) (sem 𝓛 (blocks_own B (xs ++ ys)))) (sem 𝓛 (blocks_own B (xs ++ n ∷ ys)))
-  blocks_glue [] n ys = id⊢ 𝓤 _
-  blocks_glue (x ∷ xs) n ys = qed 𝓛 (‵ (box_owns token B n.0 n.1) ∷ ‵ (blocks_own B (x ∷ xs ++ ys)) ∷ []) ∵ move ! (1 ∷ []) $ fsplit ! $
-      move ! (2 ∷ 1 ∷ []) $
-      use2 𝓛 (‵ (blocks_own B (xs ++ n ∷ ys))) (blocks_glue xs n ys) $ move ! (1 ∷ 0 ∷ []) $ fjoin ! $ done !
-
   pub block_seen : (κ : Lft) (xs : List (Ptr × B.Denot)) (n : Ptr × B.Denot) (ys : List (Ptr × B.Denot))
       → ent 𝓤 (sem 𝓛 (blocks_lent B (xs ++ n ∷ ys) κ)) (sem 𝓛 (lent_at B n.0 n.1 κ))
   block_seen κ [] n ys = fst∗ 𝓤 _ (sem 𝓛 (blocks_lent B ys κ))
   block_seen κ (x ∷ xs) n ys = via 𝓤 _ (snd∗ 𝓤 (sem 𝓛 (lent_at B x.0 x.1 κ)) _) (block_seen κ xs n ys)
+
+-- What the owner of the places owns is [the blocks; the vacant places; the rights to free the chunks].
+module _ (B : RattleType) (bs : List (Ptr × B.Denot)) (vs : List (Ptr × Unit {0})) (cs : List
+    (Ptr × ℕ)) {M : Type 1} {𝓤 : Ura M} {𝓛 : Logic 𝓤}
+    {K : Type 0} {Γ : List (Item 𝓤)} {G : Goal 𝓤 𝓛.H} where
+  pub all_out : K → (IsShared B bs vs cs → Seq K 𝓛 (‵ (blocks_own B bs) ∷ ‵ (vacancies_own B vs) ∷ ‵ (deeds_own B cs) ∷ Γ) G)
+      → Seq K 𝓛 (‵ (all_owns B bs vs cs) ∷ Γ) G
+  all_out t k = fsplit t $ move t (1 ∷ []) $ fsplit3 t $ move t (2 ∷ []) $
+      fpick t (λ shared. drop t $ move t (2 ∷ 0 ∷ 1 ∷ []) $ k shared)
+
+  pub all_in : K → IsShared B bs vs cs
+      → Step K 𝓛 (‵ (all_owns B bs vs cs) ∷ Γ) G (‵ (blocks_own B bs) ∷ ‵ (vacancies_own B vs) ∷ ‵ (deeds_own B cs) ∷ Γ) G
+  all_in t shared = step (λ s.
+      nothing t $ fpack t (IsShared B bs vs cs) (λ _. ftrue) shared $ move t (3 ∷ 0 ∷ []) $ fjoin t $
+      move t (2 ∷ 0 ∷ []) $ fjoin t $
+      move t (1 ∷ 0 ∷ []) $ fjoin t $ s)

@@ -1,11 +1,14 @@
 pub mod Slots
 pub mod FiniteMaps
 pub mod Placed
+pub mod BlockCounts
+pub mod ChunkPlaces
+pub mod ChunkRooms
+pub mod ChunkSteps
 pub mod BlockMemory
 pub mod BlockFresh
 pub mod BlockSharing
 pub mod BlockCrosses
-pub mod RawBoxes
 pub mod BlockKeys
 pub mod Chains
 pub mod Moved
@@ -43,5 +46,4 @@ pub mod Seats
 pub mod FirstSeat
 pub mod Telling
 pub mod Results
-pub mod Vacancies
 pub mod WaiterPolls

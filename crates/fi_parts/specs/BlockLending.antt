@@ -3,12 +3,12 @@ use Rattle.std.specs.Borrow.{Fml, RattleType, MutBor, Lends}
 use denote.RawPtr.{Ptr}
 use Rattle.fi_parts.specs.Placed.{with_at}
 use Rattle.fi_parts.specs.declared.blocks.block.Block.{Block}
-use Rattle.fi_parts.specs.declared.blocks.owner.BlockOwner.{BlockOwner}
+use Rattle.fi_parts.specs.declared.blocks.places.BlockPlaces.{BlockPlaces}
 use Rattle.fi_parts.specs.contracts.blocks.block.Block as block
-use Rattle.fi_parts.specs.contracts.blocks.owner.BlockOwner.{the_row}
+use Rattle.fi_parts.specs.contracts.blocks.places.BlockPlaces.{the_row}
 
-abbrev pub with_block : {T : Type 0} → BlockOwner T → Ptr → Block T → BlockOwner T
-with_block h p w = record h { blocks = with_at h.blocks p w }
+abbrev pub with_place : {T : Type 0} → BlockPlaces T → Ptr → Block T → BlockPlaces T
+with_place h p w = record h { blocks = with_at h.blocks p w }
 
-abbrev pub LendsBlock : (T : RattleType) → MutBor (BlockOwner T.Denot) → Ptr → MutBor (Block T.Denot) → Fml
-LendsBlock T h p r = Lends (the_row T) (block.the_row T) h r (with_block h.now p)
+abbrev pub LendsPlace : (T : RattleType) → MutBor (BlockPlaces T.Denot) → Ptr → MutBor (Block T.Denot) → Fml
+LendsPlace T h p r = Lends (the_row T) (block.the_row T) h r (with_place h.now p)

@@ -8,7 +8,7 @@ use Rattle.fi_parts.specs.declared.blocks.counted.CountedBlocks.{CountedBlocks}
 use Rattle.fi_parts.specs.contracts.blocks.counted.CountedBlocks as counted
 use Rattle.fi_parts.specs.contracts.blocks.block.Links as links
 use Rattle.fi_parts.specs.Placed.{at_ptr}
-use Rattle.fi_parts.specs.BlockLending.{with_block}
+use Rattle.fi_parts.specs.OwnerLending.{with_block}
 use Rattle.fi_parts.specs.Links.{loose}
 
 module _ {T : Type 0} where

@@ -6,6 +6,9 @@ pub mod Placed
 pub mod Neighbour
 pub mod BlockOwner
 pub mod BlockLending
+pub mod OwnedBlocks
+pub mod OwnerLending
+pub mod Chunks
 pub mod CountedBlocks
 pub mod LinkedBlocks
 pub mod ListModel

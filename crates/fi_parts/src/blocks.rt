@@ -7,11 +7,11 @@ ghost use Rattle.fi_parts.specs.Order.{holds, without, youngest, oldest};
 ghost use Rattle.fi_parts.specs.ListModel.{item, item_of, IsLive, with_live, IsListed};
 
 mod block;
+mod chunk;
 mod counted;
 mod linked;
 mod owner;
-mod raw_box;
-mod vacancies;
+mod places;
 
 use crate::errors::NoRoom;
 use block::BlockPtr;
@@ -24,7 +24,6 @@ use std::marker::Model;
 pub struct Blocks<T> {
     slab: Slab<BlockPtr<T>>,
     linked: LinkedBlocks<T>,
-    alloc: Global,
 }
 
 impl<T> Model for Blocks<T> {
@@ -51,7 +50,6 @@ impl<T> Blocks<T> {
         Blocks {
             slab: Slab::new(alloc),
             linked: LinkedBlocks::new(alloc),
-            alloc,
         }
     }
 
@@ -173,10 +171,7 @@ impl<T> Blocks<T> {
             return Err(NoRoom(value));
         }
         let slot = self.slab.vacant_key();
-        match self
-            .linked
-            .claim(self.alloc, value, slot, self.slab.capacity())
-        {
+        match self.linked.claim(value, slot, self.slab.capacity()) {
             Ok(at) => Ok(self.slab.insert_reserved(at)),
             Err(refused) => Err(refused),
         }
@@ -192,7 +187,7 @@ impl<T> Blocks<T> {
         ensures freed { self.new ≡ with_live self.old (map.remove self.old.live slot) }
     {
         let at = self.slab.remove(slot);
-        self.linked.free(self.alloc, at)
+        self.linked.free(at)
     }
 
     /// Takes a live slot out of the list, if it is linked, and gives its value back; the slot is not live afterwards. As `unlink`
@@ -209,7 +204,7 @@ impl<T> Blocks<T> {
     {
         let block = self.slab.remove(slot);
         self.linked.unlink(block);
-        self.linked.free(self.alloc, block)
+        self.linked.free(block)
     }
 
     /// The next younger linked slot; none for the youngest.
@@ -276,14 +271,9 @@ impl<T> Blocks<T> {
 // Each live block is freed once, linked or not: `linked` is not `Drop`, and ends only where no block is left.
 impl<T: Drop> Drop for Blocks<T> {
     fn drop(self) {
-        let Blocks {
-            slab,
-            mut linked,
-            alloc,
-        } = self;
-        linked.close(alloc);
+        let Blocks { slab, mut linked } = self;
         for (_slot, at) in slab {
-            drop(linked.free(alloc, at));
+            drop(linked.free(at));
         }
         linked.end();
     }

@@ -1,7 +1,10 @@
 //! One node of a list, in a block of its own.
-ghost use Rattle.std.specs.Prelude.{◌≡◌, ⊤, Some, None};
+ghost use Rattle.std.specs.Prelude.{◌≡◌, ◌+◌, ⊤, Some, None};
 ghost use Rattle.fi_parts.specs.Placed.{IsAddress};
+ghost use denote.RawPtr.{InBlock};
+ghost use Rattle.std.specs.Vec.Ownership.{FitsInBlock};
 ghost use Rattle.fi_parts.specs.Links.{loose};
+ghost use Rattle.fi_parts.specs.BlockOwner.{block_row, block_further};
 
 use std::alloc::AllocError;
 use std::marker::{Model, Send, Sync};
@@ -59,6 +62,19 @@ impl<T> Clone for BlockPtr<T> {
 }
 
 impl<T> Copy for BlockPtr<T> {}
+
+impl<T> BlockPtr<T> {
+    /// Where the block lies, in a row of blocks, that is so many further on.
+    pub(crate) fn further(self, count: usize) -> BlockPtr<T>
+        requires place { InBlock self.ptr }
+        requires fits { FitsInBlock (block_row T.row) (count + 1) }
+        ensures { result.ptr ≡ block_further T.row count self.ptr }
+    {
+        BlockPtr {
+            ptr: unsafe { self.ptr.add(count) },
+        }
+    }
+}
 
 unsafe impl<T> Send for BlockPtr<T> {}
 

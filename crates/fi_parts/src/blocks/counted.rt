@@ -7,8 +7,6 @@ ghost use Rattle.fi_parts.specs.CountedBlocks.{block_in, links_in, data_in, item
 
 use crate::blocks::block::{Block, BlockPtr, Links};
 use crate::blocks::owner::BlockOwner;
-use crate::blocks::raw_box::RawBox;
-use crate::blocks::vacancies::Vacancies;
 use crate::errors::NoRoom;
 use crate::visits::Visits;
 use std::alloc::Global;
@@ -17,7 +15,6 @@ use std::alloc::Global;
 pub struct CountedBlocks<T> {
     owner: BlockOwner<T>,
     visits: Visits,
-    vacancies: Vacancies<T>,
 }
 
 impl<T> CountedBlocks<T> {
@@ -27,9 +24,8 @@ impl<T> CountedBlocks<T> {
         ensures visits { result.visits.count ≡ 0 }
     {
         CountedBlocks {
-            owner: BlockOwner::new(),
+            owner: BlockOwner::new(alloc),
             visits: Visits::new(),
-            vacancies: Vacancies::new(alloc),
         }
     }
 
@@ -70,13 +66,7 @@ impl<T> CountedBlocks<T> {
     }
 
     /// A new block that is not in the list, one of at most so many. Where there is no memory the item comes back.
-    pub fn claim(
-        &mut self,
-        alloc: Global,
-        item: T,
-        slot: usize,
-        most: usize,
-    ) -> Result<BlockPtr<T>, NoRoom<T>>
+    pub fn claim(&mut self, item: T, slot: usize, most: usize) -> Result<BlockPtr<T>, NoRoom<T>>
     where
         T: Drop,
         ensures fresh { IfOk result (λ p. block_in self.old p ≡ None) }
@@ -85,19 +75,11 @@ impl<T> CountedBlocks<T> {
         ensures refused { OnErr result (self.new ≡ self.old) }
         ensures handed_back { IfErr result (λ failed. failed.0 ≡ item) }
     {
-        let Some(room) = self.vacancies.take(alloc, most) else {
-            return Err(NoRoom(item));
-        };
-        let block = Block {
-            item,
-            links: Links::loose(),
-            slot,
-        };
-        Ok(self.owner.put(RawBox::fill(room, block)))
+        self.owner.put(item, slot, most)
     }
 
     /// Frees a block and gives its item back. Its memory is kept for the next one.
-    pub fn free(&mut self, alloc: Global, at: BlockPtr<T>) -> T
+    pub fn free(&mut self, at: BlockPtr<T>) -> T
     where
         T: Drop,
         requires { IsSome (block_in self.old at) }
@@ -106,32 +88,19 @@ impl<T> CountedBlocks<T> {
         ensures gone { block_in self.new at ≡ None }
         ensures visits { self.new.visits ≡ self.old.visits }
     {
-        let (block, room) = self.owner.take(alloc, at).vacate();
-        self.vacancies.keep(room);
         let Block {
             item,
             links: _,
             slot: _,
-        } = block;
+        } = self.owner.take(at);
         item
-    }
-
-    /// Keeps no memory of freed blocks from here on.
-    pub fn close(&mut self, alloc: Global)
-        ensures { self.new ≡ self.old }
-    {
-        self.vacancies.close(alloc);
     }
 
     /// Ends where no block is left.
     pub fn end(self)
         requires { self.owner.blocks ≡ [] }
     {
-        let CountedBlocks {
-            owner,
-            visits: _,
-            vacancies: _,
-        } = self;
+        let CountedBlocks { owner, visits: _ } = self;
         owner.end();
     }
 }

@@ -76,13 +76,7 @@ impl<T> LinkedBlocks<T> {
     }
 
     /// A new block that is not in the list, one of at most so many. Where there is no memory the item comes back.
-    pub fn claim(
-        &mut self,
-        alloc: Global,
-        item: T,
-        slot: usize,
-        most: usize,
-    ) -> Result<BlockPtr<T>, NoRoom<T>>
+    pub fn claim(&mut self, item: T, slot: usize, most: usize) -> Result<BlockPtr<T>, NoRoom<T>>
     where
         T: Drop,
         ensures fresh { IfOk result (λ p. block_at self.old p ≡ None) }
@@ -91,11 +85,11 @@ impl<T> LinkedBlocks<T> {
         ensures refused { OnErr result (self.new ≡ self.old) }
         ensures handed_back { IfErr result (λ failed. failed.0 ≡ item) }
     {
-        self.blocks.claim(alloc, item, slot, most)
+        self.blocks.claim(item, slot, most)
     }
 
     /// Frees a block and gives its item back. Links that name it are the caller's care.
-    pub fn free(&mut self, alloc: Global, at: BlockPtr<T>) -> T
+    pub fn free(&mut self, at: BlockPtr<T>) -> T
     where
         T: Drop,
         requires { IsSome (block_at self.old at) }
@@ -104,14 +98,7 @@ impl<T> LinkedBlocks<T> {
         ensures gone { block_at self.new at ≡ None }
         ensures rest { SameList self.old self.new }
     {
-        self.blocks.free(alloc, at)
-    }
-
-    /// Keeps no memory of freed blocks from here on.
-    pub fn close(&mut self, alloc: Global)
-        ensures { self.new ≡ self.old }
-    {
-        self.blocks.close(alloc);
+        self.blocks.free(at)
     }
 
     /// Ends where no block is left.

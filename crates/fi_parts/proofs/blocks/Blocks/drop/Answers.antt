@@ -4,7 +4,7 @@ use Rattle.fi_parts.proofs.blocks.Blocks.drop.Goals as goal
 
 pub loop-slot-init : goal.loop-slot-init
 loop-slot-init g c =
-    rw (c.into_iter-slot-iterator.ensures.into_iter_gives, c.close.ensures)
+    rw (c.into_iter-slot-iterator.ensures.into_iter_gives)
     (drains-all c.self.inside.slab c.self.inside.linked c.self.invariant)
 
 pub free-requires : goal.free-requires

@@ -1,0 +1,158 @@
+-- The places of a chunk, and the stack of the pointers to them.
+use Rattle.std.proofs.Common.{◌≡◌, ℕ, zero, suc, ◌+◌, ◌≤◌, List, [], ◌∷◌, ◌++◌, refl, sym, ap, ◌∙◌, subst, arith}
+use Rattle.std.proofs.Common.{map as each, length, get_or, drop}
+use Rattle.std.proofs.lemmas.List.{map-append, append_assoc, append-nil, length-append, drop-append-le}
+use Rattle.std.proofs.lemmas.List.{get_or_append_left}
+use Rattle.std.proofs.Math.Seq.{drop-append_seam, get_or-append_seam}
+use native.Mathlib.Nat.{zero-mul, suc-mul}
+use denote.RattleType.{RattleType}
+use denote.RawPtr.{Ptr, ◌+ₚ◌, block_ptr, null_ptr}
+use Rattle.std.specs.Prelude.{Some, IsSome}
+use Rattle.std.specs.Mem.{type_size}
+use Rattle.std.specs.Vec.Ownership.{FitsInBlock}
+use Rattle.fi_parts.specs.declared.blocks.block.BlockPtr.{BlockPtr}
+use Rattle.fi_parts.specs.declared.blocks.places.BlockPlaces.{BlockPlaces}
+use Rattle.fi_parts.specs.Placed.{at_ptr, without_at}
+use Rattle.fi_parts.specs.BlockOwner.{times, block_row, block_places, block_further}
+use Rattle.fi_parts.specs.Chunks.{chunk_len, pointed, nowhere, chunks_of, IsKept}
+use Rattle.fi_parts.proofs.BlockCounts.{once, once_same, times_cons, times_append, times_nil, times_found}
+use Rattle.fi_parts.proofs.BlockCounts.{times_without}
+
+-- the pointers that a loop has pushed on the stack `old`, to the last places of the chunk at p
+pub record Pushed (T : RattleType) (old : List (BlockPtr T.Denot)) (p : Ptr) (len left : ℕ) (new : List (BlockPtr T.Denot)) : Type 0 where
+  pub made : ℕ
+  pub whole : left + made ≡ len
+  pub pushed : List (BlockPtr T.Denot)
+  pub items : new ≡ old ++ pushed
+  pub same : (q : Ptr) → times q (each pointed pushed) ≡ times q (block_places T (block_further T left p) made)
+
+module _ (T : RattleType) where
+  abbrev size : ℕ
+  size = type_size (block_row T)
+
+  further_none : (p : Ptr) → block_further T 0 p ≡ p
+  further_none (block_ptr b o) = let none = zero-mul size in ap (block_ptr b) (omega (arith, none))
+  further_none null_ptr = refl
+
+  further_next : (n : ℕ) (p : Ptr) → block_further T n p +ₚ size ≡ block_further T (suc n) p
+  further_next n (block_ptr b o) = let more = suc-mul n size in ap (block_ptr b) (omega (arith, more))
+  further_next n null_ptr = refl
+
+  -- a part of a run of blocks fits where the whole does
+  pub fits_within : (n made len : ℕ) → suc n + made ≡ len → FitsInBlock (block_row T) len → FitsInBlock (block_row T) (n + 1)
+  fits_within n zero len e fits = subst (FitsInBlock (block_row T)) (omega (arith, e)) fits
+  fits_within n (suc made) zero e fits = absurd (omega (arith, e))
+  fits_within n (suc made) (suc len) e fits =
+      let more = suc-mul len size in
+      fits_within n made len (omega (arith, e)) (omega (arith, more, fits.0), omega (arith, fits.1))
+
+  module _ (old : List (BlockPtr T.Denot)) (p : Ptr) (len : ℕ) where
+    pub pushed_none : Pushed T old p len len old
+    pushed_none = record { made = 0; whole = omega arith; pushed = []; items = sym (append-nil old); same = λ q. refl }
+
+    pub pushed_one : (left : ℕ) (new new' : List (BlockPtr T.Denot)) (x : BlockPtr T.Denot) → Pushed T old p len (suc left) new
+        → new' ≡ new ++ x ∷ [] → x.ptr ≡ block_further T left p → Pushed T old p len left new'
+    pushed_one left new new' x so e at = record {
+      made = suc so.made;
+      whole = let all = so.whole in omega (arith, all);
+      pushed = so.pushed ++ x ∷ [];
+      items = e ∙ ap (λ l. l ++ x ∷ []) so.items ∙ append_assoc old so.pushed (x ∷ []);
+      same = λ q.
+          let here = block_further T left p in
+          let parts = ap (times q) (map-append pointed so.pushed (x ∷ [])) ∙ times_append q (each pointed so.pushed) (pointed x ∷ []) in
+          let one = times_cons q (pointed x) [] in let none = times_nil (Unit {0}) q in
+          let first = times_cons q (here, tt) (block_places T (here +ₚ size) so.made) in
+          let there = ap (λ t. once t q) at in
+          let rest = ap (λ t. times q (block_places T t so.made)) (further_next left p) in
+          let before = so.same q in omega (arith, parts, one, none, first, there, rest, before);
+    }
+
+    pub pushed_all : (left : ℕ) (new : List (BlockPtr T.Denot)) → Pushed T old p len left new → left ≤ 0
+        → (vs : List (BlockPtr T.Denot)) × (new ≡ old ++ vs) × ((q : Ptr) → times q (each pointed vs) ≡ times q (block_places T p len))
+    pushed_all zero new so le =
+        let all : so.made ≡ len = let whole = so.whole in omega (arith, whole) in
+        (so.pushed, so.items, λ q. so.same q ∙ (λ i. times q (block_places T (further_none p i) (all i))))
+    pushed_all (suc left) new so le = absurd (omega (arith, le))
+
+module _ {T : Type 0} where
+  chunks_append : (xs ys : List (BlockPtr T)) (k : ℕ) → k ≤ length xs → chunks_of (xs ++ ys) k ≡ chunks_of xs k
+  chunks_append xs ys zero le = refl
+  chunks_append xs ys (suc k) le =
+      λ i. ((get_or_append_left xs ys nowhere k (omega (arith, le)) i).ptr, chunk_len k) ∷ chunks_append xs ys k (omega (arith, le)) i
+
+  -- how often a pointer stands above the chunks' in the stack, where one is pushed
+  above_pushed : (q : Ptr) (xs : List (BlockPtr T)) (x : BlockPtr T) (k : ℕ) → k ≤ length xs
+      → times q (each pointed (drop k (xs ++ x ∷ []))) ≡ times q (each pointed (drop k xs)) + once x.ptr q
+  above_pushed q xs x k le =
+      let parts = ap (λ l. times q (each pointed l)) (drop-append-le k xs (x ∷ []) le)
+      ∙ ap (times q) (map-append pointed (drop k xs) (x ∷ [])) ∙ times_append q (each pointed (drop k xs)) (pointed x ∷ []) in
+      let one = times_cons q (pointed x) [] in let none = times_nil (Unit {0}) q in omega (arith, parts, one, none)
+
+  -- a place is vacated, and its pointer is pushed or lost
+  pub kept_freed : (h h' : BlockPlaces T) (xs xs' : List (BlockPtr T)) (k : ℕ) (x : BlockPtr T) → IsKept h xs k → xs' ≡ xs ++ x ∷ []
+      → h'.vacant ≡ (x.ptr, tt) ∷ h.vacant → h'.chunks ≡ h.chunks → IsKept h' xs' k
+  kept_freed h h' xs xs' k x kept e vacant chunks = record {
+    within = let long = ap length e ∙ length-append xs (x ∷ []) in let le = kept.within in omega (arith, long, le);
+    chunks = chunks ∙ kept.chunks ∙ sym (ap (λ l. chunks_of l k) e ∙ chunks_append xs (x ∷ []) k kept.within);
+    vacant = λ q.
+        let stack = ap (λ l. times q (each pointed (drop k l))) e ∙ above_pushed q xs x k kept.within in
+        let more = ap (times q) vacant ∙ times_cons q (x.ptr, tt) h.vacant in
+        let le = kept.vacant q in omega (arith, stack, more, le);
+  }
+
+  pub kept_lost : (h h' : BlockPlaces T) (xs : List (BlockPtr T)) (k : ℕ) (x : BlockPtr T) → IsKept h xs k
+      → h'.vacant ≡ (x.ptr, tt) ∷ h.vacant → h'.chunks ≡ h.chunks → IsKept h' xs k
+  kept_lost h h' xs k x kept vacant chunks = record {
+    within = kept.within;
+    chunks = chunks ∙ kept.chunks;
+    vacant = λ q. let more = ap (times q) vacant ∙ times_cons q (x.ptr, tt) h.vacant in
+        let le = kept.vacant q in omega (arith, more, le);
+  }
+
+  -- a pointer is popped that is above the chunks'
+  module _ (h : BlockPlaces T) (xs xs' : List (BlockPtr T)) (k : ℕ) (x : BlockPtr T) (kept : IsKept h xs k) (e : xs ≡ xs' ++ x ∷ [])
+      (more : ¬ (length xs ≡ k)) where
+    still : k ≤ length xs'
+    still = let long = ap length e ∙ length-append xs' (x ∷ []) in let le = kept.within in omega (arith, long, le, more)
+
+    above : (q : Ptr) → times q (each pointed (drop k xs)) ≡ times q (each pointed (drop k xs')) + once x.ptr q
+    above q = ap (λ l. times q (each pointed (drop k l))) e ∙ above_pushed q xs' x k still
+
+    found : (u : Unit {0}) × (at_ptr h.vacant x.ptr ≡ Some u)
+    found =
+        let here = above x.ptr in let one = once_same x.ptr in let le = kept.vacant x.ptr in
+        times_found x.ptr h.vacant (omega (arith, here, one, le))
+
+    pub popped_vacant : IsSome (at_ptr h.vacant x.ptr)
+    popped_vacant = subst IsSome (sym found.1) refl
+
+    pub kept_popped : (h' : BlockPlaces T) → h'.vacant ≡ without_at h.vacant x.ptr → h'.chunks ≡ h.chunks → IsKept h' xs' k
+    kept_popped h' vacant chunks = record {
+      within = still;
+      chunks = chunks ∙ kept.chunks ∙ ap (λ l. chunks_of l k) e ∙ chunks_append xs' (x ∷ []) k still;
+      vacant = λ q.
+          let here = above q in let le = kept.vacant q in let less = times_without q x.ptr h.vacant found.0 found.1 in
+          let now = ap (times q) vacant in omega (arith, here, le, less, now);
+    }
+
+  -- a chunk is added where no pointer is above the chunks', and the pointers to its places are pushed
+  pub kept_grown : (h h' : BlockPlaces T) (xs ys zs vs : List (BlockPtr T)) (k n : ℕ) (x : BlockPtr T) (run : List (Ptr × Unit {0}))
+      → IsKept h xs k → length xs ≡ k → n ≡ chunk_len k → ys ≡ xs ++ x ∷ [] → zs ≡ ys ++ vs
+      → ((q : Ptr) → times q (each pointed vs) ≡ times q run)
+      → h'.vacant ≡ run ++ h.vacant → h'.chunks ≡ (x.ptr, n) ∷ h.chunks → IsKept h' zs (k + 1)
+  kept_grown h h' xs ys zs vs k n x run kept long size e e' same vacant chunks =
+      let all : zs ≡ xs ++ x ∷ vs = e' ∙ ap (λ l. l ++ vs) e ∙ append_assoc xs (x ∷ []) vs in
+      let next : suc k ≡ k + 1 = omega arith in
+      let ylong : length ys ≡ suc k = ap length e ∙ length-append xs (x ∷ []) ∙ omega (arith, long) in
+      subst (IsKept h' zs) next (record {
+        within = let zlong = ap length e' ∙ length-append ys vs in omega (arith, zlong, ylong);
+        chunks = chunks ∙ (λ i. (x.ptr, size i) ∷ kept.chunks i)
+            ∙ sym (ap (λ l. chunks_of l (suc k)) all
+            ∙ (λ i. ((subst (λ j. get_or (xs ++ x ∷ vs) j nowhere ≡ x) long (get_or-append_seam xs x vs nowhere) i).ptr, chunk_len k)
+            ∷ chunks_append xs (x ∷ vs) k (omega (arith, long)) i));
+        vacant = λ q.
+            let stack : times q (each pointed (drop (suc k) zs)) ≡ times q (each pointed vs) =
+            ap (λ l. times q (each pointed l)) (ap (drop (suc k)) e' ∙ subst (λ j. drop j (ys ++ vs) ≡ vs) ylong
+            (drop-append_seam ys vs)) in
+            let run_is = same q in let now = ap (times q) vacant ∙ times_append q run h.vacant in omega (arith, stack, run_is, now);
+      })

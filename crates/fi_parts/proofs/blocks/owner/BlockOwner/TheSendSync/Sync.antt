@@ -1,7 +1,0 @@
-use denote.RattleType.{RattleType}
-use denote.Param.Send.{IsSync}
-use Rattle.fi_parts.proofs.BlockCrosses.{BlockOwner-sync}
-use Rattle.fi_parts.specs.contracts.blocks.owner.BlockOwner.{the_row}
-
-pub sync : (T : RattleType) → IsSync T → IsSync (the_row T)
-sync = BlockOwner-sync
