@@ -11,15 +11,17 @@ use Rattle.fi_parts.specs.declared.phase.Notice.TheVariants.{Renew}
 use Rattle.fi_parts.specs.declared.phase.Phase.{Phase}
 use Rattle.fi_parts.specs.declared.phase.Phase.TheVariants.{Fresh, Registered, Told, Complete, Ended}
 use Rattle.fi_parts.specs.Buffer.{Bounded, Fits}
-use Rattle.fi_parts.specs.Effects.{completes_first, keeps_asks}
+use Rattle.fi_parts.specs.Effects.{completes_first}
+use Rattle.fi_parts.specs.MachineTable.{keeps_asks}
 use Rattle.fi_parts.specs.Effects.WaiterEffect.{NoChange, Inserts, Registers, KeepsWaiting, Ends, Removes, NotifiesAll}
-use Rattle.fi_parts.specs.Machine.{AllowsEffect, waker_effect, poll_effect}
+use Rattle.fi_parts.specs.MachineTable.{AllowsEffect, waker_change, poll_change}
 use Rattle.fi_parts.specs.Oldest.{complete_first, complete_oldest, pop_oldest, asks_of_first, asks_of_oldest}
 use Rattle.fi_parts.specs.Order.{without}
 use Rattle.fi_parts.specs.Pairs.{without_pair}
-use Rattle.fi_parts.specs.Places.{registered_rule, is_told}
-use Rattle.fi_parts.specs.WakerHistory.{WakerEffect, gives}
-use Rattle.fi_parts.specs.WakerHistory.WakerEffect.{Pends, Leaves, NoEffect}
+use Rattle.fi_parts.specs.PlaceRules.{registered_rule}
+use Rattle.fi_parts.specs.Places.{is_told}
+use Rattle.fi_parts.specs.WakerHistory.{WakerChange, gives}
+use Rattle.fi_parts.specs.WakerHistory.WakerChange.{Pends, Leaves, NoEffect}
 use Rattle.fi_parts.specs.Waiting.{asks_in}
 use Rattle.fi_parts.proofs.FiniteMaps.{get-insert_same}
 use Rattle.fi_parts.specs.Waiting.{Waiters, Waiting, phase_of, phase_in, asks_of, is_registered, insert_fresh, registered, stays, ended}
@@ -37,10 +39,12 @@ use Rattle.fi_channels.specs.declared.channel_errors.TrySendError.{TrySendError}
 use Rattle.fi_channels.specs.declared.channel_errors.TrySendError.TheVariants as not_sent
 use Rattle.fi_channels.specs.declared.channel_fields.ReceiveKind.{ReceiveKind}
 use Rattle.fi_channels.specs.declared.channel_fields.ReceiveKind.TheVariants.{Single, Stream}
-use Rattle.fi_channels.specs.Channel.{ChannelMachine, Buffered, AreTold, rules, is_send_phase, is_receive_phase, owns_value}
+use Rattle.fi_channels.specs.Channel.{ChannelMachine, Buffered, AreTold, rules, is_send_phase, is_receive_phase}
+use Rattle.fi_channels.specs.Channel.{owns_value}
 use Rattle.fi_channels.specs.Channel.{has_room, Stores}
 use Rattle.fi_channels.specs.Channel.{next_of, value_count, send_phase, receive_phase, value_of, kind_of, opened}
-use Rattle.fi_channels.specs.Channel.{finishes, is_given, tells_oldest, completes_oldest, MakesSend, MakesReceive, FreshSends}
+use Rattle.fi_channels.specs.Channel.{finishes, is_given, tells_oldest, completes_oldest, MakesSend, MakesReceive}
+use Rattle.fi_channels.specs.Channel.{FreshSends}
 use Rattle.fi_channels.specs.Channel.{SendsAs, PollsSend}
 use Rattle.fi_channels.specs.Channel.{can_send, can_stream}
 use Rattle.fi_channels.specs.Channel.{CancelsSend, TakesNext, ReceivesAs, PollsReceive, StreamsAs, PollsNext}
@@ -48,10 +52,12 @@ use Rattle.fi_channels.specs.Channel.{CancelsReceiveAs, CancelsReceive}
 use Rattle.fi_channels.specs.Channel.{TriesSend, TriesNext, TriesReceive, ClosesAt, Closes, Wakes, IsSound, OwesNoWake}
 use Rattle.fi_channels.specs.declared.two_sides.Waiter.{Waiter}
 use Rattle.fi_channels.specs.declared.two_sides.Waiter.TheVariants.{Send, Receive}
-use Rattle.fi_channels.specs.TwoSidedEffects.{TwoSidedEffect, TakesOn, AllowsTwoSided, KeepsKinds, on_sends, on_receives}
+use Rattle.fi_channels.specs.TwoSidedEffects.{TwoSidedEffect, TakesOn}
+use Rattle.fi_channels.specs.TwoSidedTable.{AllowsTwoSided, KeepsKinds, on_sends, on_receives}
 use Rattle.fi_channels.specs.TwoSidedEffects.TwoSidedEffect.{OnSends, OnReceives, PopsFirst, Then}
 use Rattle.fi_channels.specs.ChannelFields.{ChannelWaiters}
-use Rattle.fi_channels.specs.TwoSidedMachine.{TwoSidedLine, TwoSidedStep}
+use Rattle.fi_channels.specs.TwoSidedTable.{TwoSidedLine}
+use Rattle.fi_channels.specs.TwoSidedMachine.{TwoSidedStep}
 use Rattle.fi_channels.specs.Waiter.{same_waiter, sends_in, receives_in}
 use Rattle.std.specs.Ordering.{nat_cmp}
 use Rattle.std.specs.FinMap as map
@@ -68,10 +74,10 @@ given_keeps W (Some Single) name = refl
 given_keeps W None name = refl
 
 -- what a poll of a send with this answer is to the wakers of sends: a refusal leaves them as they are
-abbrev pub sent_effect : {T W : Type 0} → ℕ → W → Poll (Result (Unit {0}) (SendFault T)) → WakerEffect W
-sent_effect name waker Pending = Pends name waker
-sent_effect name waker (Ready (Err (send_fault.Fault fault))) = NoEffect
-sent_effect name waker (Ready answer) = Leaves name
+abbrev pub sent_change : {T W : Type 0} → ℕ → W → Poll (Result (Unit {0}) (SendFault T)) → WakerChange W
+sent_change name waker Pending = Pends name waker
+sent_change name waker (Ready (Err (send_fault.Fault fault))) = NoEffect
+sent_change name waker (Ready answer) = Leaves name
 
 -- Whoever sends and waits finds the channel open and its buffer full.
 abbrev Waits : {T W : Type 0} → Buffered T → Waiters (Option T) W → Type 0
@@ -110,7 +116,7 @@ module _ {W : Type 0} where
   given_allowed waiting (Some Stream) name = tt
 
   given_leaves : (kind : Option ReceiveKind) (name : ℕ) →
-      waker_effect {D = ReceiveKind} {W = W} (is_given kind name) ≡ Leaves name
+      waker_change {D = ReceiveKind} {W = W} (is_given kind name) ≡ Leaves name
   given_leaves None name = refl
   given_leaves (Some Single) name = refl
   given_leaves (Some Stream) name = refl
@@ -178,7 +184,7 @@ module _ {D W : Type 0} where
   ]
 
 completing_quiet : (T W : Type 0) (queue : List ℕ) →
-    ◌≡◌ {A = WakerEffect W} (waker_effect (completes_first {D = Option T} None queue)) NoEffect
+    ◌≡◌ {A = WakerChange W} (waker_change (completes_first {D = Option T} None queue)) NoEffect
 completing_quiet T W [] = refl
 completing_quiet T W (name ∷ others) = refl
 
@@ -247,7 +253,7 @@ module _ {T W : Type 0} where
         (subst (λ (r : Waiters ReceiveKind W). Keeps own sending r) (sym received) keeps))
 
     -- The call is a line of the table, and what held holds afterwards.
-    abbrev pub Goes : (on_send on_receive : WakerEffect W) → Type 0
+    abbrev pub Goes : (on_send on_receive : WakerChange W) → Type 0
     Goes on_send on_receive = TwoSidedLine rules on_send on_receive old new × Holds new
 
     goes : (own : Buffered T) (effect : TwoSidedEffect (Option T) ReceiveKind W) → TwoSidedStep old own effect new → KeepsKinds effect →
@@ -437,7 +443,7 @@ module _ {T W : Type 0} where
     line_tries (Some next) is_open answer is did was =
         let step = did.1 in
         let queue = old.waiting.sends.queue in
-        subst (λ (e : WakerEffect W). Goes e NoEffect) (completing_quiet T W queue)
+        subst (λ (e : WakerChange W). Goes e NoEffect) (completing_quiet T W queue)
         (goes (record old.own { buffer = next.1 }) (completes_oldest old) step tt (completing_allowed _ queue) was
         (keeps_at (record old.own { buffer = next.1 }) completed_side old.waiting.receives step.0
         (completes queue old.waiting.sends new.waiting.sends old.waiting.out new.waiting.out refl step.1.0) step.1.1
@@ -485,11 +491,11 @@ module _ {T W : Type 0} where
   module _ (old new : ChannelMachine T W) (name : ℕ) (waker : W) where
     -- A poll is a line, keeps what held, and its receive, or send, still lives; a receive is of the kind that it was.
     abbrev pub Receives : Poll (Option T) → Type 0
-    Receives answer = Goes old new NoEffect (poll_effect name waker answer)
+    Receives answer = Goes old new NoEffect (poll_change name waker answer)
         × ((is_some (receive_phase new name) ≡ true) × (kind_of new name ≡ kind_of old name))
 
     abbrev pub Sends : Poll (Result (Unit {0}) (SendFault T)) → Type 0
-    Sends answer = Goes old new (sent_effect name waker answer) NoEffect × (is_some (send_phase new name) ≡ true)
+    Sends answer = Goes old new (sent_change name waker answer) NoEffect × (is_some (send_phase new name) ≡ true)
 
     -- nothing is there, so nobody need be told
     nobody_owed : (receiving : Waiters ReceiveKind W) → next_of old ≡ None → Holds old → Enough receiving (value_count old)
@@ -525,7 +531,7 @@ module _ {T W : Type 0} where
         (Option T) W). s.queue) step.1.1.1) step.1.2.0
         ∙ ap (λ (s : Waiters (Option T) W). complete_first None s queue) step.1.1.1 in
         subst Receives (sym did.0) (
-          subst (λ (e : WakerEffect W). Goes old new NoEffect e) (given_leaves kind name)
+          subst (λ (e : WakerChange W). Goes old new NoEffect e) (given_leaves kind name)
               (goes old new (record old.own { buffer = next.1 }) (Then (OnReceives (is_given kind name))
               (completes_oldest old)) step (given_keeps W kind name, tt)
               (given_allowed _ kind name, λ m did2. completing_allowed _ queue, completing_quiet T W queue, refl) was

@@ -6,18 +6,19 @@ use Rattle.futures.specs.Poll.{OnPending}
 use Rattle.futures.specs.declared.task.Poll.{Poll}
 use Rattle.futures.specs.declared.task.Poll.TheVariants.{Ready, Pending}
 use Rattle.fi_parts.specs.declared.phase.Phase.{Phase}
-use Rattle.fi_parts.specs.Machine.{poll_effect}
-use Rattle.fi_parts.specs.WakerHistory.{WakerEffect, gives}
-use Rattle.fi_parts.specs.WakerHistory.WakerEffect.{Leaves, NoEffect}
+use Rattle.fi_parts.specs.MachineTable.{poll_change}
+use Rattle.fi_parts.specs.WakerHistory.{WakerChange, gives}
+use Rattle.fi_parts.specs.WakerHistory.WakerChange.{Leaves, NoEffect}
 use Rattle.fi_parts.proofs.Effects.{AreFit, SparedBy, are_live}
 use Rattle.fi_channels.specs.declared.channel_errors.SendFault.{SendFault}
 use Rattle.fi_channels.specs.declared.channel_errors.SendFault.TheVariants as send_fault
 use Rattle.fi_channels.specs.declared.channel_fields.ReceiveKind.{ReceiveKind}
 use Rattle.fi_channels.specs.declared.channel_fields.ReceiveKind.TheVariants.{Single, Stream}
-use Rattle.fi_channels.specs.Channel.{ChannelMachine, rules, is_send_phase, is_receive_phase, can_send, can_take, can_receive, can_stream}
+use Rattle.fi_channels.specs.Channel.{ChannelMachine, rules, is_send_phase, is_receive_phase, can_send, can_take}
+use Rattle.fi_channels.specs.Channel.{can_receive, can_stream}
 use Rattle.fi_channels.specs.Channel.{send_phase, receive_phase, kind_of, MakesSend, MakesReceive}
 use Rattle.fi_channels.specs.ChannelStays.{TheseStay, AllStay, OtherSendsStay, OtherReceivesStay, IsApartFromSends, IsApartFromReceives}
-use Rattle.fi_channels.proofs.ChannelLaws.{Holds, Goes, sent_effect, makes_send, makes_receive, unchanged}
+use Rattle.fi_channels.proofs.ChannelLaws.{Holds, Goes, sent_change, makes_send, makes_receive, unchanged}
 use Rattle.fi_channels.proofs.Results.{either, of_made}
 use Rattle.fi_channels.proofs.TwoSidedStays.{line_sends_fit, line_receives_fit, line_kinds_stay, line_send_pends, line_receive_pends}
 
@@ -56,7 +57,7 @@ module _ {W : Type 0} where
   still_streamed None before after stays can = absurd (both_ways false refl can)
 
 module _ {T W : Type 0} (old new : ChannelMachine T W) (was : Holds old) where
-  module _ {on_send on_receive : WakerEffect W} (did : Goes old new on_send on_receive) (sends receives : ℕ → Type 0)
+  module _ {on_send on_receive : WakerChange W} (did : Goes old new on_send on_receive) (sends receives : ℕ → Type 0)
       (send_spared : (q : ℕ) → sends q → is_some (send_phase old q) ≡ true → SparedBy on_send q)
       (receive_spared : (q : ℕ) → receives q → is_some (receive_phase old q) ≡ true → SparedBy on_receive q) where
     these_stay : TheseStay sends receives old new
@@ -133,16 +134,16 @@ module _ {T W : Type 0} (old new : ChannelMachine T W) (was : Holds old) where
       (λ x did q lives. made_apart (name x) q (receive_phase old) did.1.0.0 lives)
 
   -- a poll of a receive
-  receive_poll_spares : {A : Type 0} (name : ℕ) (waker : W) (answer : Poll A) (q : ℕ) → q ≢ name → SparedBy (poll_effect name waker answer) q
+  receive_poll_spares : {A : Type 0} (name : ℕ) (waker : W) (answer : Poll A) (q : ℕ) → q ≢ name → SparedBy (poll_change name waker answer) q
   receive_poll_spares name waker Pending q ne = tt
   receive_poll_spares name waker (Ready x) q ne = ne
 
-  pub polled_receive_stays : {A : Type 0} (name : ℕ) (waker : W) (answer : Poll A) → Goes old new NoEffect (poll_effect name waker answer) →
+  pub polled_receive_stays : {A : Type 0} (name : ℕ) (waker : W) (answer : Poll A) → Goes old new NoEffect (poll_change name waker answer) →
       OtherReceivesStay name old new
   polled_receive_stays name waker answer did =
       these_stay did (λ q. ⊤) (λ q. q ≢ name) (λ q of lives. tt) (λ q ne lives. receive_poll_spares name waker answer q ne)
 
-  pub pending_receive : {A : Type 0} (name : ℕ) (waker : W) (answer : Poll A) → Goes old new NoEffect (poll_effect name waker answer) →
+  pub pending_receive : {A : Type 0} (name : ℕ) (waker : W) (answer : Poll A) → Goes old new NoEffect (poll_change name waker answer) →
       kind_of new name ≡ kind_of old name → can_receive (kind_of old name) (receive_phase old name) ≡ true →
       OnPending answer (can_receive (kind_of new name) (receive_phase new name) ≡ true)
   pending_receive name waker (Ready x) did same can = tt
@@ -152,18 +153,18 @@ module _ {T W : Type 0} (old new : ChannelMachine T W) (was : Holds old) where
 
   -- a poll of a send
   send_poll_spares : (name : ℕ) (waker : W) (answer : Poll (Result (Unit {0}) (SendFault T))) (q : ℕ) → q ≢ name →
-      SparedBy (sent_effect name waker answer) q
+      SparedBy (sent_change name waker answer) q
   send_poll_spares name waker Pending q ne = tt
   send_poll_spares name waker (Ready (Ok x)) q ne = ne
   send_poll_spares name waker (Ready (Err (send_fault.Closed value))) q ne = ne
   send_poll_spares name waker (Ready (Err (send_fault.Fault fault))) q ne = tt
 
   pub polled_send_stays : (name : ℕ) (waker : W) (answer : Poll (Result (Unit {0}) (SendFault T))) →
-      Goes old new (sent_effect name waker answer) NoEffect → OtherSendsStay name old new
+      Goes old new (sent_change name waker answer) NoEffect → OtherSendsStay name old new
   polled_send_stays name waker answer did =
       these_stay did (λ q. q ≢ name) (λ q. ⊤) (λ q ne lives. send_poll_spares name waker answer q ne) (λ q of lives. tt)
 
   pub pending_send : (name : ℕ) (waker : W) (answer : Poll (Result (Unit {0}) (SendFault T))) →
-      Goes old new (sent_effect name waker answer) NoEffect → OnPending answer (can_send (send_phase new name) ≡ true)
+      Goes old new (sent_change name waker answer) NoEffect → OnPending answer (can_send (send_phase new name) ≡ true)
   pending_send name waker (Ready x) did = tt
   pending_send name waker Pending did = line_send_pends rules old new did.0 was.0.waiters can_send sends_are_fit

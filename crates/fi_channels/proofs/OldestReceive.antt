@@ -9,7 +9,7 @@ use Rattle.fi_parts.specs.declared.phase.Phase.{Phase}
 use Rattle.fi_channels.specs.declared.two_sides.Waiter.TheVariants.{Receive}
 use Rattle.fi_parts.proofs.Oldest.{emptied-step, emptied-none, marked-step, marked-none}
 use Rattle.fi_channels.proofs.Sides.{has-receives, receives-and_receives}
-use Rattle.fi_parts.specs.Places.{registered_rule}
+use Rattle.fi_parts.specs.PlaceRules.{registered_rule}
 use Rattle.fi_parts.proofs.Waiting.{first_registered, ordered-next, no_pair}
 
 module _ {D E W : Type 0} where

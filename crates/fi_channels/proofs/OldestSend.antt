@@ -10,7 +10,7 @@ use Rattle.fi_parts.specs.declared.phase.Phase.TheVariants.{Complete}
 use Rattle.fi_channels.specs.declared.two_sides.Waiter.TheVariants.{Send}
 use Rattle.fi_parts.proofs.Oldest.{phase-with_asks, emptied-step, emptied-none, marked-step, marked-none}
 use Rattle.fi_channels.proofs.Sides.{has-sends, sends-and_sends}
-use Rattle.fi_parts.specs.Places.{registered_rule}
+use Rattle.fi_parts.specs.PlaceRules.{registered_rule}
 use Rattle.fi_parts.proofs.Waiting.{first_registered, ordered-next, no_pair}
 
 module _ {D E W : Type 0} where

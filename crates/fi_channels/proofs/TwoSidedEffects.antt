@@ -14,15 +14,16 @@ use Rattle.fi_parts.specs.NamedPairs.{without_by, first_waker}
 use Rattle.fi_parts.specs.Noticed.{phase_after}
 use Rattle.fi_parts.specs.Oldest.{pop_first, pair_of_first, pair_of_oldest, complete_first, complete_oldest}
 use Rattle.fi_parts.specs.Pairs.{without_pair}
-use Rattle.fi_parts.specs.Places.{registered_rule}
-use Rattle.fi_channels.specs.TwoSidedEffects.{marked, TakesOn, TwoSidedEffect, waiting_sends, waiting_receives, TakesTwoSided}
-use Rattle.fi_channels.specs.TwoSidedEffects.{on_sends, on_receives, AllowsTwoSided}
+use Rattle.fi_parts.specs.PlaceRules.{registered_rule}
+use Rattle.fi_channels.specs.TwoSidedEffects.{marked, TakesOn, TwoSidedEffect, waiting_sends, waiting_receives}
+use Rattle.fi_channels.specs.TwoSidedEffects.{TakesTwoSided}
+use Rattle.fi_channels.specs.TwoSidedTable.{on_sends, on_receives, AllowsTwoSided}
 use Rattle.fi_channels.specs.TwoSidedEffects.TwoSidedEffect.{OnSends, OnReceives, PopsFirst, Then}
 use Rattle.fi_channels.specs.TwoSidesModel.{TwoSidesModel, AreBothSound}
 use Rattle.fi_channels.specs.Waiter.{same_waiter, sends_in, receives_in}
 use Rattle.fi_parts.specs.Waiting.{Waiters, Waiting, pair, named, named_all, AreSound}
-use Rattle.fi_parts.specs.WakerHistory.{WakerEffect, HasWaker, gives}
-use Rattle.fi_parts.specs.WakerHistory.WakerEffect.{NoEffect}
+use Rattle.fi_parts.specs.WakerHistory.{WakerChange, HasWaker, gives}
+use Rattle.fi_parts.specs.WakerHistory.WakerChange.{NoEffect}
 use Rattle.fi_channels.proofs.BothSound.{both_sound-next_wake}
 use Rattle.fi_parts.proofs.Effects.{effect_after, effect_sound}
 use Rattle.fi_channels.proofs.Sides.{sends-without, sends-without_receive, receives-without, receives-without_send}
@@ -219,7 +220,7 @@ module _ {D E W : Type 0} {sending receiving : Option (Phase W) → Bool} (knows
   sends_carry (PopsFirst waker) old new is was did = rw (did.1, did.0) (sends_popped old.sends old.out)
   sends_carry (Then one other) old new is was did =
       and_then (on_sends one) (waiting_sends old) (waiting_sends did.0) (waiting_sends new) (sends_carry one old did.0 is.0 was did.1)
-      (subst (λ (d : WakerEffect W). CarriesOn d (waiting_sends did.0) (waiting_sends new)) is.2
+      (subst (λ (d : WakerChange W). CarriesOn d (waiting_sends did.0) (waiting_sends new)) is.2
       (sends_carry other did.0 new (is.1 did.0 did.1) (two_sided_sound one old did.0 is.0 was did.1) did.2))
 
   pub receives_carry : (effect : TwoSidedEffect D E W) (old new : TwoSidesModel D E W) → AllowsTwoSided sending receiving old effect →
@@ -234,5 +235,5 @@ module _ {D E W : Type 0} {sending receiving : Option (Phase W) → Bool} (knows
   receives_carry (Then one other) old new is was did =
       and_then (on_receives one) (waiting_receives old) (waiting_receives did.0) (waiting_receives new)
       (receives_carry one old did.0 is.0 was did.1)
-      (subst (λ (d : WakerEffect W). CarriesOn d (waiting_receives did.0) (waiting_receives new)) is.3
+      (subst (λ (d : WakerChange W). CarriesOn d (waiting_receives did.0) (waiting_receives new)) is.3
       (receives_carry other did.0 new (is.1 did.0 did.1) (two_sided_sound one old did.0 is.0 was did.1) did.2))

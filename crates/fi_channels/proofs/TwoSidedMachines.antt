@@ -1,9 +1,12 @@
 -- What each line of a two-sided machine's table keeps.
 use Rattle.std.specs.Prelude.{List, ◌∷◌, refl}
 use Rattle.std.proofs.Common.{subst}
-use Rattle.fi_channels.specs.TwoSidedEffects.{TwoSidedEffect, AllowsTwoSided, KeepsKinds, on_sends, on_receives, waiting_sends, waiting_receives}
-use Rattle.fi_channels.specs.TwoSidedMachine.{TwoSidedMachine, TwoSidedRules, TwoSidedLine, TwoSidedStep, HasSoundSides, initial_two_sided}
-use Rattle.fi_parts.specs.WakerHistory.{WakerEffect, KeepsWakers}
+use Rattle.fi_channels.specs.TwoSidedEffects.{TwoSidedEffect, waiting_sends, waiting_receives}
+use Rattle.fi_channels.specs.TwoSidedTable.{AllowsTwoSided, KeepsKinds, on_sends, on_receives}
+use Rattle.fi_channels.specs.TwoSidedMachine.{TwoSidedMachine, TwoSidedRules, TwoSidedStep, HasSoundSides}
+use Rattle.fi_channels.specs.TwoSidedMachine.{initial_two_sided}
+use Rattle.fi_channels.specs.TwoSidedTable.{TwoSidedLine}
+use Rattle.fi_parts.specs.WakerHistory.{WakerChange, KeepsWakers}
 use Rattle.fi_parts.specs.Waiting.{Waiting}
 use Rattle.fi_channels.proofs.BothSound.{both_sound-new}
 use Rattle.fi_channels.proofs.TwoSidedEffects.{two_sided_sound, sends_carry, receives_carry}
@@ -27,7 +30,7 @@ module _ {S D E W : Type 0} (rules : TwoSidedRules W) where
     on_receives_is = refl;
   }
 
-  module _ {send_wakers receive_wakers : WakerEffect W} (old new : TwoSidedMachine S D E W)
+  module _ {send_wakers receive_wakers : WakerChange W} (old new : TwoSidedMachine S D E W)
       (line : TwoSidedLine rules send_wakers receive_wakers old new) (was : HasSoundSides rules old) where
     pub two_sided_line_sound : HasSoundSides rules new
     two_sided_line_sound =
@@ -35,16 +38,16 @@ module _ {S D E W : Type 0} (rules : TwoSidedRules W) where
 
     send_wakers_carry : CarriesOn send_wakers (waiting_sends old.waiting) (waiting_sends new.waiting)
     send_wakers_carry =
-        subst (λ (d : WakerEffect W). CarriesOn d (waiting_sends old.waiting) (waiting_sends new.waiting)) line.on_sends_is
+        subst (λ (d : WakerChange W). CarriesOn d (waiting_sends old.waiting) (waiting_sends new.waiting)) line.on_sends_is
         (sends_carry rules.known_send rules.known_receive line.effect old.waiting new.waiting line.allows was line.steps.1)
 
     receive_wakers_carry : CarriesOn receive_wakers (waiting_receives old.waiting) (waiting_receives new.waiting)
     receive_wakers_carry =
-        subst (λ (d : WakerEffect W). CarriesOn d (waiting_receives old.waiting) (waiting_receives new.waiting)) line.on_receives_is
+        subst (λ (d : WakerChange W). CarriesOn d (waiting_receives old.waiting) (waiting_receives new.waiting)) line.on_receives_is
         (receives_carry rules.known_send rules.known_receive line.effect old.waiting new.waiting line.allows was line.steps.1)
 
   -- A line keeps the wakers of the pending sends, and of the pending receives.
-  module _ {X : Type 0} (entry_on_sends entry_on_receives : X → WakerEffect W) (history : List X) (entry : X)
+  module _ {X : Type 0} (entry_on_sends entry_on_receives : X → WakerChange W) (history : List X) (entry : X)
       (old new : TwoSidedMachine S D E W) (line : TwoSidedLine rules (entry_on_sends entry) (entry_on_receives entry) old new)
       (was : HasSoundSides rules old) where
     pub line_keeps_send_wakers : (first : Waiting D W) → KeepsWakers entry_on_sends first history (waiting_sends old.waiting) →

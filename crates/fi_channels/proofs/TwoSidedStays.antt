@@ -3,17 +3,19 @@ use Rattle.std.specs.Prelude.{◌≡◌, ℕ, Bool, true, Option}
 use Rattle.std.proofs.Common.{ap, subst, sym, ◌∙◌}
 use Rattle.fi_parts.specs.declared.phase.Phase.{Phase}
 use Rattle.fi_parts.specs.Machine.{AllowsBasics}
-use Rattle.fi_parts.specs.Places.{registered_rule}
+use Rattle.fi_parts.specs.PlaceRules.{registered_rule}
 use Rattle.fi_parts.specs.Waiting.{Waiting, phase_of, asks_of}
-use Rattle.fi_parts.specs.WakerHistory.{WakerEffect}
+use Rattle.fi_parts.specs.WakerHistory.{WakerChange}
 use Rattle.fi_parts.proofs.Effects.{AreFit, SparedBy, IsFitIfPending, effect_after, stays_fit, still_pending, given_away}
 use Rattle.fi_parts.proofs.Effects.{pending_is_fit}
 use Rattle.fi_parts.proofs.Machines.{asks_stay}
-use Rattle.fi_channels.specs.TwoSidedEffects.{TwoSidedEffect, TakesTwoSided, AllowsTwoSided, KeepsKinds, on_sends, on_receives}
+use Rattle.fi_channels.specs.TwoSidedEffects.{TwoSidedEffect, TakesTwoSided}
+use Rattle.fi_channels.specs.TwoSidedTable.{AllowsTwoSided, KeepsKinds, on_sends, on_receives}
 use Rattle.fi_channels.specs.TwoSidedEffects.{waiting_sends, waiting_receives}
 use Rattle.fi_channels.specs.TwoSidedEffects.TwoSidedEffect.{OnSends, OnReceives, PopsFirst, Then}
 use Rattle.fi_channels.specs.TwoSidesModel.{TwoSidesModel, AreBothSound}
-use Rattle.fi_channels.specs.TwoSidedMachine.{TwoSidedMachine, TwoSidedRules, TwoSidedLine, HasSoundSides}
+use Rattle.fi_channels.specs.TwoSidedMachine.{TwoSidedMachine, TwoSidedRules, HasSoundSides}
+use Rattle.fi_channels.specs.TwoSidedTable.{TwoSidedLine}
 use Rattle.fi_channels.proofs.TwoSidedEffects.{two_sided_sound, sends_take, sends_stay, receives_take, receives_stay}
 
 module _ {D E W : Type 0} {sending receiving : Option (Phase W) → Bool} (knows_send : AllowsBasics sending)
@@ -39,7 +41,7 @@ module _ {D E W : Type 0} {sending receiving : Option (Phase W) → Bool} (knows
     sends_fit can (Then one other) old new is was did q spared has =
         let mid = did.0 in
         sends_fit can other mid new (is.1 mid did.1) (two_sided_sound knows_send knows_receive one old mid is.0 was did.1) did.2 q
-        (subst (λ (e : WakerEffect W). SparedBy e q) (sym is.2) tt) (sends_fit can one old mid is.0 was did.1 q spared has)
+        (subst (λ (e : WakerChange W). SparedBy e q) (sym is.2) tt) (sends_fit can one old mid is.0 was did.1 q spared has)
 
     receives_fit : (can : AreFit receiving fit) (effect : TwoSidedEffect D E W) (old new : TwoSidesModel D E W) → Allows old effect →
         AreSoundBoth old → TakesTwoSided effect old new → (q : ℕ) → SparedBy (on_receives effect) q →
@@ -56,12 +58,12 @@ module _ {D E W : Type 0} {sending receiving : Option (Phase W) → Bool} (knows
     receives_fit can (Then one other) old new is was did q spared has =
         let mid = did.0 in
         receives_fit can other mid new (is.1 mid did.1) (two_sided_sound knows_send knows_receive one old mid is.0 was did.1) did.2 q
-        (subst (λ (e : WakerEffect W). SparedBy e q) (sym is.3) tt) (receives_fit can one old mid is.0 was did.1 q spared has)
+        (subst (λ (e : WakerChange W). SparedBy e q) (sym is.3) tt) (receives_fit can one old mid is.0 was did.1 q spared has)
 
-    abbrev SendFitIfPending : AreFit sending fit → WakerEffect W → TwoSidesModel D E W → Type 0
+    abbrev SendFitIfPending : AreFit sending fit → WakerChange W → TwoSidesModel D E W → Type 0
     SendFitIfPending can on_wakers new = IsFitIfPending registered_rule sending knows_send fit can on_wakers (waiting_sends new)
 
-    abbrev ReceiveFitIfPending : AreFit receiving fit → WakerEffect W → TwoSidesModel D E W → Type 0
+    abbrev ReceiveFitIfPending : AreFit receiving fit → WakerChange W → TwoSidesModel D E W → Type 0
     ReceiveFitIfPending can on_wakers new =
         IsFitIfPending registered_rule receiving knows_receive fit can on_wakers (waiting_receives new)
 
@@ -79,7 +81,7 @@ module _ {D E W : Type 0} {sending receiving : Option (Phase W) → Bool} (knows
         still_pending registered_rule sending knows_send fit can (on_sends one) (waiting_sends mid) (waiting_sends new)
         (send_pends can one old mid is.0 was did.1)
         (λ q. sends_fit can other mid new (is.1 mid did.1) (two_sided_sound knows_send knows_receive one old mid is.0 was did.1) did.2 q
-        (subst (λ (e : WakerEffect W). SparedBy e q) (sym is.2) tt))
+        (subst (λ (e : WakerChange W). SparedBy e q) (sym is.2) tt))
 
     receive_pends : (can : AreFit receiving fit) (effect : TwoSidedEffect D E W) (old new : TwoSidesModel D E W) → Allows old effect →
         AreSoundBoth old → TakesTwoSided effect old new → ReceiveFitIfPending can (on_receives effect) new
@@ -96,7 +98,7 @@ module _ {D E W : Type 0} {sending receiving : Option (Phase W) → Bool} (knows
         still_pending registered_rule receiving knows_receive fit can (on_receives one) (waiting_receives mid) (waiting_receives new)
         (receive_pends can one old mid is.0 was did.1)
         (λ q. receives_fit can other mid new (is.1 mid did.1) (two_sided_sound knows_send knows_receive one old mid is.0 was did.1) did.2 q
-        (subst (λ (e : WakerEffect W). SparedBy e q) (sym is.3) tt))
+        (subst (λ (e : WakerChange W). SparedBy e q) (sym is.3) tt))
 
   -- whoever receives is of the kind that it was
   kinds_stay : (effect : TwoSidedEffect D E W) (old new : TwoSidesModel D E W) → KeepsKinds effect → Allows old effect →
@@ -110,35 +112,35 @@ module _ {D E W : Type 0} {sending receiving : Option (Phase W) → Bool} (knows
   kinds_stay (Then one other) old new keeps is was did q spared =
       let mid = did.0 in
       kinds_stay other mid new keeps.1 (is.1 mid did.1) (two_sided_sound knows_send knows_receive one old mid is.0 was did.1) did.2 q
-      (subst (λ (e : WakerEffect W). SparedBy e q) (sym is.3) tt) ∙ kinds_stay one old mid keeps.0 is.0 was did.1 q spared
+      (subst (λ (e : WakerChange W). SparedBy e q) (sym is.3) tt) ∙ kinds_stay one old mid keeps.0 is.0 was did.1 q spared
 
-module _ {S D E W : Type 0} (rules : TwoSidedRules W) {send_wakers receive_wakers : WakerEffect W} (old new : TwoSidedMachine S D E W)
+module _ {S D E W : Type 0} (rules : TwoSidedRules W) {send_wakers receive_wakers : WakerChange W} (old new : TwoSidedMachine S D E W)
     (line : TwoSidedLine rules send_wakers receive_wakers old new) (was : HasSoundSides rules old) where
   pub line_sends_fit : (fit : Option (Phase W) → Bool) → AreFit rules.sending fit → (q : ℕ) → SparedBy send_wakers q →
       fit (phase_of old.waiting.sends q) ≡ true → fit (phase_of new.waiting.sends q) ≡ true
   line_sends_fit fit can q spared =
       sends_fit rules.known_send rules.known_receive fit can line.effect old.waiting new.waiting line.allows was line.steps.1 q
-      (subst (λ (e : WakerEffect W). SparedBy e q) (sym line.on_sends_is) spared)
+      (subst (λ (e : WakerChange W). SparedBy e q) (sym line.on_sends_is) spared)
 
   pub line_receives_fit : (fit : Option (Phase W) → Bool) → AreFit rules.receiving fit → (q : ℕ) → SparedBy receive_wakers q →
       fit (phase_of old.waiting.receives q) ≡ true → fit (phase_of new.waiting.receives q) ≡ true
   line_receives_fit fit can q spared =
       receives_fit rules.known_send rules.known_receive fit can line.effect old.waiting new.waiting line.allows was line.steps.1 q
-      (subst (λ (e : WakerEffect W). SparedBy e q) (sym line.on_receives_is) spared)
+      (subst (λ (e : WakerChange W). SparedBy e q) (sym line.on_receives_is) spared)
 
   pub line_kinds_stay : (q : ℕ) → SparedBy receive_wakers q → asks_of new.waiting.receives q ≡ asks_of old.waiting.receives q
   line_kinds_stay q spared =
       kinds_stay rules.known_send rules.known_receive line.effect old.waiting new.waiting line.kinds line.allows was line.steps.1 q
-      (subst (λ (e : WakerEffect W). SparedBy e q) (sym line.on_receives_is) spared)
+      (subst (λ (e : WakerChange W). SparedBy e q) (sym line.on_receives_is) spared)
 
   pub line_send_pends : (fit : Option (Phase W) → Bool) (can : AreFit rules.sending fit) →
       IsFitIfPending registered_rule rules.sending rules.known_send fit can send_wakers (waiting_sends new.waiting)
   line_send_pends fit can =
-      subst (λ (e : WakerEffect W). SendFitIfPending rules.known_send rules.known_receive fit can e new.waiting) line.on_sends_is
+      subst (λ (e : WakerChange W). SendFitIfPending rules.known_send rules.known_receive fit can e new.waiting) line.on_sends_is
       (send_pends rules.known_send rules.known_receive fit can line.effect old.waiting new.waiting line.allows was line.steps.1)
 
   pub line_receive_pends : (fit : Option (Phase W) → Bool) (can : AreFit rules.receiving fit) →
       IsFitIfPending registered_rule rules.receiving rules.known_receive fit can receive_wakers (waiting_receives new.waiting)
   line_receive_pends fit can =
-      subst (λ (e : WakerEffect W). ReceiveFitIfPending rules.known_send rules.known_receive fit can e new.waiting) line.on_receives_is
+      subst (λ (e : WakerChange W). ReceiveFitIfPending rules.known_send rules.known_receive fit can e new.waiting) line.on_receives_is
       (receive_pends rules.known_send rules.known_receive fit can line.effect old.waiting new.waiting line.allows was line.steps.1)

@@ -2,7 +2,6 @@
 use Rattle.std.specs.Prelude.{◌≡◌, ◌<◌, ◌≤◌, ◌+◌, nat_lt, ℕ, Bool, true, false, refl}
 use Rattle.std.specs.Prelude.{Option, Some, None, is_some, Result, Ok, Err, List, [], ◌∷◌, length}
 use Rattle.std.specs.Option.{option_flatten}
-use Rattle.std.specs.Coded.{Coded, code_by, coded×, coded_bool, coded_option}
 use Rattle.futures.specs.declared.task.Poll.{Poll}
 use Rattle.futures.specs.declared.task.Poll.TheVariants.{Ready, Pending}
 use Rattle.fi_parts.specs.declared.errors.CloseStatus.{CloseStatus}
@@ -11,7 +10,7 @@ use Rattle.fi_parts.specs.declared.errors.Fault.TheVariants.{NoMemory}
 use Rattle.fi_parts.specs.declared.phase.Notice.TheVariants.{Tell, Renew}
 use Rattle.fi_parts.specs.declared.phase.Phase.{Phase}
 use Rattle.fi_parts.specs.declared.phase.Phase.TheVariants.{Fresh, Registered, Told, Complete, Ended}
-use Rattle.fi_parts.specs.Buffer.{Bounded, bounded_code, Fits, pushed, popped}
+use Rattle.fi_parts.specs.Buffer.{Bounded, Fits, pushed, popped}
 use Rattle.fi_parts.specs.Effects.{WaiterEffect, completes_first}
 use Rattle.fi_parts.specs.Effects.WaiterEffect.{Inserts, Registers, KeepsWaiting, Ends, Renews, Asks, Removes, NotifiesOldest}
 use Rattle.fi_parts.specs.Effects.WaiterEffect.{NotifiesAll, AndThen}
@@ -31,7 +30,7 @@ use Rattle.fi_channels.specs.declared.channel_fields.ReceiveKind.TheVariants.{Si
 use Rattle.fi_channels.specs.declared.two_sides.Waiter.TheVariants.{Send, Receive}
 use Rattle.fi_channels.specs.TwoSidedEffects.{TwoSidedEffect}
 use Rattle.fi_channels.specs.TwoSidedEffects.TwoSidedEffect.{OnSends, OnReceives, PopsFirst, Then}
-use Rattle.fi_channels.specs.TwoSidedMachine.{TwoSidedMachine, TwoSidedRules, two_sided_code, initial_two_sided, TwoSidedStep}
+use Rattle.fi_channels.specs.TwoSidedMachine.{TwoSidedMachine, TwoSidedRules, initial_two_sided, TwoSidedStep}
 use Rattle.fi_channels.specs.TwoSidedMachine.{HasSoundSides}
 use Rattle.fi_channels.specs.Waiter.{same_waiter}
 
@@ -40,32 +39,9 @@ pub record Buffered (T : Type 0) : Type 0 where
   pub is_open : Bool
   pub buffer : Bounded T
 
-abbrev pub buffered_code : {T : Type 0} → Coded T → Coded (Buffered T)
-buffered_code {T} t =
-    code_by (Bool × Bounded T) (coded× coded_bool (bounded_code t)) (λ s. (s.is_open, s.buffer))
-    (λ p. record { is_open = p.0; buffer = p.1 }) (λ _. refl)
-
-abbrev is_stream : ReceiveKind → Bool
-is_stream Single = false
-is_stream Stream = true
-
-abbrev kind_from : Bool → ReceiveKind
-kind_from false = Single
-kind_from true = Stream
-
-pub kind_back : (kind : ReceiveKind) → kind_from (is_stream kind) ≡ kind
-kind_back Single = refl
-kind_back Stream = refl
-
-abbrev pub kind_code : Coded ReceiveKind
-kind_code = code_by Bool coded_bool is_stream kind_from kind_back
-
 -- A send has the value that it still owns; a receive is a single one or a stream.
 abbrev pub ChannelMachine : Type 0 → Type 0 → Type 0
 ChannelMachine T W = TwoSidedMachine (Buffered T) (Option T) ReceiveKind W
-
-abbrev pub channel_code : {T W : Type 0} → Coded T → Coded W → Coded (ChannelMachine T W)
-channel_code t w = two_sided_code (buffered_code t) (coded_option t) kind_code w
 
 module _ {W : Type 0} where
   -- a send may be polled: it is live and has not ended

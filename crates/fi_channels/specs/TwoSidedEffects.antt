@@ -1,20 +1,15 @@
 -- What a call does to the sends and receives that wait over one outbox: a waiter effect on either side.
 use Rattle.std.specs.Prelude.{◌≡◌, ℕ, Bool, true, Option, None, List, ◌∷◌, ◌++◌, drop, map, if◌then◌else◌}
-use Rattle.fi_parts.specs.declared.phase.Phase.{Phase}
 use Rattle.fi_parts.specs.declared.phase.Phase.TheVariants.{Complete, Ended, Told}
 use Rattle.fi_channels.specs.declared.two_sides.Waiter.TheVariants.{Send, Receive}
-use Rattle.fi_parts.specs.Effects.{WaiterEffect, AreRegistered, renewed, keeps_asks}
+use Rattle.fi_parts.specs.Effects.{WaiterEffect, AreRegistered, renewed}
 use Rattle.fi_parts.specs.Effects.WaiterEffect.{NoChange, Inserts, Registers, RegistersApart, KeepsWaiting, Ends, EndsPlaced, Renews, Asks}
 use Rattle.fi_parts.specs.Effects.WaiterEffect.{Removes, NotifiesOldest, NotifiesAll, NotifiesListed, NotifiesFront, CompletesOldest}
 use Rattle.fi_parts.specs.Effects.WaiterEffect.{PopsOldest, AndThen}
-use Rattle.fi_parts.specs.Machine.{AllowsEffect, waker_effect}
 use Rattle.fi_parts.specs.NamedPairs.{without_by, first_waker}
 use Rattle.fi_parts.specs.Noticed.{phase_after}
 use Rattle.fi_parts.specs.Oldest.{pop_oldest, pair_of_oldest}
-use Rattle.fi_parts.specs.Places.{registered_rule}
 use Rattle.fi_channels.specs.TwoSidesModel.{TwoSidesModel}
-use Rattle.fi_parts.specs.WakerHistory.{WakerEffect, gives}
-use Rattle.fi_parts.specs.WakerHistory.WakerEffect.{NoEffect}
 use Rattle.fi_channels.specs.Waiter.{same_waiter, sends_in, receives_in}
 use Rattle.fi_parts.specs.Waiting.{Waiters, Waiting, phase_of, is_registered, may_be_named}
 use Rattle.fi_parts.specs.Waiting.{IsLive, insert_fresh, registered, stays, ended, without_future}
@@ -85,32 +80,3 @@ module _ {D E W : Type 0} where
   TakesTwoSided (PopsFirst waker) old new =
       (waker ≡ first_waker old.out) × (new ≡ record old { out = drop 1 old.out })
   TakesTwoSided (Then one other) old new = (mid : TwoSidesModel D E W) × TakesTwoSided one old mid × TakesTwoSided other mid new
-
-  -- what an effect is to the wakers of sends, and of receives; of two, the second only names futures
-  abbrev pub on_sends : TwoSidedEffect D E W → WakerEffect W
-  on_sends (OnSends effect) = waker_effect effect
-  on_sends (OnReceives effect) = NoEffect
-  on_sends (PopsFirst waker) = gives waker
-  on_sends (Then one other) = on_sends one
-
-  abbrev pub on_receives : TwoSidedEffect D E W → WakerEffect W
-  on_receives (OnSends effect) = NoEffect
-  on_receives (OnReceives effect) = waker_effect effect
-  on_receives (PopsFirst waker) = gives waker
-  on_receives (Then one other) = on_receives one
-
-  -- This effect leaves only phases that its side knows.
-  abbrev pub AllowsTwoSided : (sending receiving : Option (Phase W) → Bool) → TwoSidesModel D E W → TwoSidedEffect D E W → Type 0
-  AllowsTwoSided sending receiving old (OnSends effect) = AllowsEffect registered_rule sending (waiting_sends old) effect
-  AllowsTwoSided sending receiving old (OnReceives effect) = AllowsEffect registered_rule receiving (waiting_receives old) effect
-  AllowsTwoSided sending receiving old (PopsFirst waker) = Unit {0}
-  AllowsTwoSided sending receiving old (Then one other) = AllowsTwoSided sending receiving old one
-      × ((mid : TwoSidesModel D E W) → TakesTwoSided one old mid → AllowsTwoSided sending receiving mid other)
-      × (on_sends other ≡ NoEffect) × (on_receives other ≡ NoEffect)
-
--- Whoever receives is of the kind that it was.
-abbrev pub KeepsKinds : {D E W : Type 0} → TwoSidedEffect D E W → Type 0
-KeepsKinds (OnSends effect) = Unit {0}
-KeepsKinds (OnReceives effect) = keeps_asks effect ≡ true
-KeepsKinds (PopsFirst waker) = Unit {0}
-KeepsKinds (Then one other) = KeepsKinds one × KeepsKinds other

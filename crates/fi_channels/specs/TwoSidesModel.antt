@@ -1,11 +1,9 @@
 -- Sends and receives that wait, over one outbox.
-use Rattle.std.specs.Prelude.{Bool, Option, List, [], ◌++◌, refl}
-use Rattle.std.specs.Coded.{Coded, code_by, coded×, coded_list}
-use Rattle.fi_parts.specs.Codes.{waiters_code}
+use Rattle.std.specs.Prelude.{Bool, Option, List, [], ◌++◌}
 use Rattle.fi_parts.specs.LineModel.{LineModel}
 use Rattle.fi_parts.specs.Pairs.{OutboxModel}
 use Rattle.fi_parts.specs.Tied.{out_of, IsTied}
-use Rattle.fi_channels.specs.Waiter.{waiter_code, ticket_of_waiter, of_sends, of_receives, sends_in, receives_in}
+use Rattle.fi_channels.specs.Waiter.{ticket_of_waiter, of_sends, of_receives, sends_in, receives_in}
 use Rattle.fi_parts.specs.Waiting.{Waiters, no_futures, clear_queue, named_all, AreSound}
 use Rattle.fi_parts.specs.declared.phase.Phase.{Phase}
 use Rattle.fi_channels.specs.declared.two_sides.Waiter.{Waiter}
@@ -17,12 +15,6 @@ pub record TwoSidesModel (D E W : Type 0) : Type 0 where
   pub out : List (Waiter × W)
 
 module _ {D E W : Type 0} where
-  abbrev pub two_sides_code : Coded D → Coded E → Coded W → Coded (TwoSidesModel D E W)
-  two_sides_code d e w =
-      code_by (Waiters D W × (Waiters E W × List (Waiter × W)))
-      (coded× (waiters_code d w) (coded× (waiters_code e w) (coded_list (coded× waiter_code w))))
-      (λ s. (s.sends, (s.receives, s.out))) (λ p. record { sends = p.0; receives = p.1.0; out = p.1.1 }) (λ _. refl)
-
   abbrev pub two_sides_of : LineModel D W → LineModel E W → OutboxModel (Waiter × W) → TwoSidesModel D E W
   two_sides_of sends receives box = record { sends = sends.side; receives = receives.side; out = out_of box.pairs }
 

@@ -4,9 +4,11 @@ ghost use Rattle.futures.specs.Poll.{OnPending};
 ghost use Rattle.fi_parts.specs.Buffer.{Fits, empty};
 ghost use Rattle.fi_channels.specs.Polled.{unused_after, Answered, displaced_by, WouldBeReady};
 ghost use Rattle.fi_channels.specs.Channel as channel;
-ghost use Rattle.fi_channels.specs.Channel.{opened, send_phase, receive_phase, kind_of, displaced_send, displaced_receive};
+ghost use Rattle.fi_channels.specs.Channel.{opened, send_phase, receive_phase, kind_of, displaced_send};
+ghost use Rattle.fi_channels.specs.Channel.{displaced_receive};
 ghost use Rattle.fi_channels.specs.Channel.{displaced_by_send, MakesSend, MakesReceive, PollsSend};
-ghost use Rattle.fi_channels.specs.Channel.{PollsReceive, PollsNext, CancelsSend, CancelsReceive, TriesSend, TriesReceive};
+ghost use Rattle.fi_channels.specs.Channel.{PollsReceive, PollsNext, CancelsSend, CancelsReceive, TriesSend};
+ghost use Rattle.fi_channels.specs.Channel.{TriesReceive};
 ghost use Rattle.fi_channels.specs.Channel.{Closes, Wakes, IsSound, OwesNoWake, has_room};
 ghost use Rattle.fi_channels.specs.ChannelStays.{AllStay, OtherSendsStay, OtherReceivesStay, IsApartFromSends, IsApartFromReceives};
 ghost use Rattle.fi_channels.specs.Cleared.{ClosesAndClears, NoSendWaits};
@@ -87,7 +89,8 @@ pub type LocalChannel<T, const N: usize, W> = ChannelState<T, ArrayBuf<T, N>, W>
 pub type LocalUnbufferedChannel<T, W> = LocalChannel<T, 0, W>;
 
 impl<T: Drop, B: RingBuf<Item = T>, W> Model for ChannelState<T, B, W> {
-    ghost use Rattle.fi_channels.specs.Channel.{ChannelMachine, channel_code, IsSound, OwesNoWake};
+    ghost use Rattle.fi_channels.specs.Channel.{ChannelMachine, IsSound, OwesNoWake};
+    ghost use Rattle.fi_channels.specs.ChannelCode.{channel_code};
     ghost use Rattle.fi_channels.specs.ChannelFields.{machine_of};
 
     ghost Value = { ChannelMachine T W };

@@ -36,7 +36,8 @@ pub struct TwoSides<D, E, W> {
 }
 
 impl<D, E, W> Model for TwoSides<D, E, W> {
-    ghost use Rattle.fi_channels.specs.TwoSidesModel.{TwoSidesModel, two_sides_code, two_sides_of, AreBothTied};
+    ghost use Rattle.fi_channels.specs.TwoSidesModel.{TwoSidesModel, two_sides_of, AreBothTied};
+    ghost use Rattle.fi_channels.specs.TwoSidedCode.{two_sides_code};
 
     ghost Value = { TwoSidesModel D E W };
 

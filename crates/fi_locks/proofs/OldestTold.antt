@@ -2,7 +2,7 @@
 use Rattle.std.proofs.Common.{◌≡◌, ℕ, Bool, List, [], ◌∷◌, ◌++◌, ap, sym, ◌∙◌}
 use Rattle.fi_parts.specs.Effects.{TakesEffect, first_of}
 use Rattle.fi_parts.specs.Effects.WaiterEffect.{NotifiesFront}
-use Rattle.fi_parts.specs.Places.{queued_rule}
+use Rattle.fi_parts.specs.PlaceRules.{queued_rule}
 use Rattle.fi_parts.specs.Waiting.{Waiting, IsOrderedBy, is_queued, told_one, front_told}
 use Rattle.fi_parts.proofs.Told.{front_told-step, front_told-none}
 

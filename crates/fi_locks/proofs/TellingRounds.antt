@@ -13,7 +13,8 @@ use Rattle.fi_parts.specs.declared.phase.Future.{Future}
 use Rattle.fi_parts.specs.declared.phase.Phase.{Phase}
 use Rattle.fi_parts.specs.declared.phase.Phase.TheVariants.{Told}
 use Rattle.fi_parts.specs.Order.{holds, Apart}
-use Rattle.fi_parts.specs.Places.{is_told, queued_rule}
+use Rattle.fi_parts.specs.Places.{is_told}
+use Rattle.fi_parts.specs.PlaceRules.{queued_rule}
 use Rattle.fi_parts.specs.Waiting.{Waiting, phase_in, phase_of, is_queued}
 use Rattle.fi_parts.specs.Waiting.{with_phases, pair_of, named, IsOrderedBy, told_one, front_told}
 use Rattle.fi_parts.proofs.Slots.{eqb_same, holds-append}

@@ -1,16 +1,15 @@
 -- The machine of a mutex.
 use Rattle.std.specs.Prelude.{◌≡◌, ◌&&◌, not, ℕ, Bool, true, false, if◌then◌else◌, Option, Some, None, is_some, Result, Ok}
-use Rattle.std.specs.Prelude.{Err, List, [], ◌∷◌, refl}
-use Rattle.std.specs.Coded.{Coded, code_by, coded×, coded_bool, coded_option}
-use base.Stored.{coded_unit}
+use Rattle.std.specs.Prelude.{Err, List, [], ◌∷◌}
 use Rattle.futures.specs.declared.task.Poll.{Poll}
 use Rattle.futures.specs.declared.task.Poll.TheVariants.{Ready, Pending}
 use Rattle.fi_parts.specs.declared.phase.Phase.{Phase}
 use Rattle.fi_parts.specs.declared.phase.Phase.TheVariants.{Fresh, Registered, Told}
 use Rattle.fi_parts.specs.Effects.{WaiterEffect, first_of}
 use Rattle.fi_parts.specs.Effects.WaiterEffect.{NoChange, Inserts, Registers, KeepsWaiting, EndsPlaced, Removes}
-use Rattle.fi_parts.specs.Effects.WaiterEffect.{NotifiesFront, PopsOldest, AndThen}
-use Rattle.fi_parts.specs.Machine.{Machine, machine_code, phase_at, initial, StepsTo, HasSoundWaitersBy}
+use Rattle.fi_parts.specs.Effects.WaiterEffect.{NotifiesFront, AndThen}
+use Rattle.fi_parts.specs.Machine.{Machine, phase_at, initial, StepsTo, HasSoundWaitersBy}
+pub use Rattle.fi_parts.specs.Machine.{Wakes}
 use Rattle.fi_parts.specs.Order.{holds, without}
 use Rattle.fi_parts.specs.Places.{is_told}
 use Rattle.fi_parts.specs.Waiting.{is_queued}
@@ -21,17 +20,9 @@ pub record MutexData (T : Type 0) : Type 0 where
   pub is_fair : Bool
   pub value : Option T
 
-abbrev pub mutex_data_code : {T : Type 0} → Coded T → Coded (MutexData T)
-mutex_data_code {T} t =
-    code_by (Bool × Option T) (coded× coded_bool (coded_option t)) (λ d. (d.is_fair, d.value))
-    (λ p. record { is_fair = p.0; value = p.1 }) (λ _. refl)
-
 -- Its futures ask for nothing but the mutex.
 abbrev pub MutexMachine : Type 0 → Type 0 → Type 0
 MutexMachine T W = Machine (MutexData T) (Unit {0}) W
-
-abbrev pub mutex_code : {T W : Type 0} → Coded T → Coded W → Coded (MutexMachine T W)
-mutex_code t w = machine_code (mutex_data_code t) coded_unit w
 
 module _ {T : Type 0} where
   -- held, by whoever got its value
@@ -135,10 +126,6 @@ module _ {T W : Type 0} where
 
   abbrev pub Unlocks : MutexMachine T W → T → Result (Unit {0}) T → MutexMachine T W → Type 0
   Unlocks old value answer new = UnlocksFrom old.own.value old value answer new
-
-  -- The front pair is taken out, and its waker answered.
-  abbrev pub Wakes : MutexMachine T W → Option W → MutexMachine T W → Type 0
-  Wakes old answer new = StepsTo old old.own (PopsOldest answer) new
 
   -- The queue holds the registered futures, and in a fair mutex the told ones; out is in order; no future is complete.
   abbrev pub IsSound : MutexMachine T W → Type 0

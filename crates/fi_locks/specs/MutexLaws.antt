@@ -14,22 +14,27 @@ use Rattle.fi_parts.specs.declared.phase.Phase.TheVariants.{Fresh, Registered, T
 use Rattle.fi_parts.specs.Effects.{WaiterEffect, TakesEffect, first_of}
 use Rattle.fi_parts.specs.Effects.WaiterEffect.{NoChange, Inserts, Registers, KeepsWaiting, EndsPlaced, Removes}
 use Rattle.fi_parts.specs.Effects.WaiterEffect.{NotifiesFront, PopsOldest, AndThen}
-use Rattle.fi_parts.specs.Machine.{phase_at, StepsTo, HasSoundWaitersBy, WaiterRules, Line, PollLine, poll_effect}
+use Rattle.fi_parts.specs.Machine.{phase_at, StepsTo, HasSoundWaitersBy}
+use Rattle.fi_parts.specs.MachineTable.{WaiterRules, TableLine, PollLine, poll_change}
 use Rattle.fi_parts.specs.Order.{holds, without}
-use Rattle.fi_parts.specs.Places.{is_told, queued_rule}
-use Rattle.fi_parts.specs.WakerHistory.{WakerEffect, gives}
-use Rattle.fi_parts.specs.WakerHistory.WakerEffect.{Leaves, NoEffect}
+use Rattle.fi_parts.specs.Places.{is_told}
+use Rattle.fi_parts.specs.PlaceRules.{queued_rule}
+use Rattle.fi_parts.specs.WakerHistory.{WakerChange, gives}
+use Rattle.fi_parts.specs.WakerHistory.WakerChange.{Leaves, NoEffect}
 use Rattle.fi_parts.specs.Waiting.{Waiters, Waiting, phase_in, phase_of, is_queued}
 use Rattle.fi_parts.proofs.Effects.{waits_known, untold, untold_if_leaving, effect_after, effect_sound}
 use Rattle.fi_parts.proofs.Machines.{initial_holds, line_preserves, line, unchanged, inserts, removes, pops, ends_placed}
 use Rattle.fi_parts.proofs.Machines.{registers, stays, added, phases_after}
 use Rattle.fi_parts.proofs.Notified.{AllBecome}
 use Rattle.fi_parts.proofs.Waiting.{Becomes}
-use Rattle.fi_locks.specs.Mutex.{MutexMachine, MutexData, held, freed, is_empty, can_be_polled, is_wait_phase, tells_oldest}
+use Rattle.fi_locks.specs.Mutex.{MutexMachine, MutexData, held, freed, is_empty, can_be_polled, is_wait_phase}
+use Rattle.fi_locks.specs.Mutex.{tells_oldest}
 use Rattle.fi_locks.specs.Mutex.{is_free, queue_of, opened}
-use Rattle.fi_locks.specs.Mutex.{for_newcomer, for_registered, Makes, GrantsOr, PollsAs, Polls, CancelsAs, Cancels, TriesFor}
+use Rattle.fi_locks.specs.Mutex.{for_newcomer, for_registered, Makes, GrantsOr, PollsAs, Polls, CancelsAs, Cancels}
+use Rattle.fi_locks.specs.Mutex.{TriesFor}
 use Rattle.fi_locks.specs.Mutex.{TriesLock}
-use Rattle.fi_locks.specs.Mutex.{with_value, UnlocksFrom, Unlocks, Wakes, IsSound, OwesNoWakeAs, OwesNoWake, IsLockedIfReady}
+use Rattle.fi_locks.specs.Mutex.{with_value, UnlocksFrom, Unlocks, Wakes, IsSound, OwesNoWakeAs, OwesNoWake}
+use Rattle.fi_locks.specs.Mutex.{IsLockedIfReady}
 use Rattle.fi_locks.specs.Mutex.{IsLockedIfGiven}
 
 -- The oldest of a queue.
@@ -138,12 +143,12 @@ module _ {T W : Type 0} where
   IsWell mutex = IsSound mutex × OwesNoWake mutex
 
   -- What a call leads to: a line of the table, the same fairness, and no wake owed.
-  pub record MutexLine (on_wakers : WakerEffect W) (old new : MutexMachine T W) : Type 0 where
-    pub line : Line (rules old.own.is_fair) on_wakers old new
+  pub record MutexLine (on_wakers : WakerChange W) (old new : MutexMachine T W) : Type 0 where
+    pub line : TableLine (rules old.own.is_fair) on_wakers old new
     pub is_fair : new.own.is_fair ≡ old.own.is_fair
     pub owes : OwesNoWakeAs old.own.is_fair new
 
-  pub stays_well : {on_wakers : WakerEffect W} (old new : MutexMachine T W) → MutexLine on_wakers old new → IsWell old →
+  pub stays_well : {on_wakers : WakerChange W} (old new : MutexMachine T W) → MutexLine on_wakers old new → IsWell old →
       IsWell new
   stays_well old new did was =
       let sound : HasSoundWaitersBy (is_queued old.own.is_fair) is_wait_phase new =
@@ -266,7 +271,7 @@ module _ {T W : Type 0} where
 
   module _ (old : MutexMachine T W) (name : ℕ) (waker : W) (answer : Poll T) (new : MutexMachine T W) where
     abbrev Polled : Type 0
-    Polled = PollLine (rules old.own.is_fair) name (poll_effect name waker answer) old new
+    Polled = PollLine (rules old.own.is_fair) name (poll_change name waker answer) old new
 
     granted_line : (value : T) → (answer ≡ Ready value) × StepsTo old (held old.own) (EndsPlaced name) new → Polled
     granted_line value did = ends_placed (rules old.own.is_fair) (held old.own) name waker old new did (λ asks lack. tt)
@@ -373,7 +378,7 @@ module _ {T W : Type 0} where
       fairness_as (Some Told) did = same_fairness (Registers name waker) old.own.value did.1
       fairness_as phase did = absurd did
 
-      pub polled : Polls old name waker answer new → MutexLine (poll_effect name waker answer) old new
+      pub polled : Polls old name waker answer new → MutexLine (poll_change name waker answer) old new
       polled did = record {
         line = (poll_line did).line;
         is_fair = fairness_as (phase_at old name) did;
@@ -421,7 +426,7 @@ module _ {T W : Type 0} where
       fairness own same is = fair_if new _ is ∙ same
 
       -- where nothing that matters to who is told has changed
-      same_line : {on_wakers : WakerEffect W} → Line (rules old.own.is_fair) on_wakers old new → new.own ≡ old.own →
+      same_line : {on_wakers : WakerChange W} → TableLine (rules old.own.is_fair) on_wakers old new → new.own ≡ old.own →
           ((q : ℕ) → is_told (phase_at new q) ≡ is_told (phase_at old q)) → queue_of new ≡ queue_of old →
           MutexLine on_wakers old new
       same_line is own told queue = record {

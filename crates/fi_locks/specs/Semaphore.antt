@@ -7,8 +7,9 @@ use Rattle.fi_parts.specs.declared.phase.Phase.{Phase}
 use Rattle.fi_parts.specs.declared.phase.Phase.TheVariants.{Fresh, Registered, Told}
 use Rattle.fi_parts.specs.Effects.{WaiterEffect, TakesEffect}
 use Rattle.fi_parts.specs.Effects.WaiterEffect.{NoChange, Inserts, Registers, KeepsWaiting, Ends}
-use Rattle.fi_parts.specs.Effects.WaiterEffect.{EndsPlaced, Removes, NotifiesFront, PopsOldest}
+use Rattle.fi_parts.specs.Effects.WaiterEffect.{EndsPlaced, Removes, NotifiesFront}
 use Rattle.fi_parts.specs.Machine.{Machine, phase_at, initial, StepsTo, HasSoundWaitersBy}
+pub use Rattle.fi_parts.specs.Machine.{Wakes}
 use Rattle.fi_parts.specs.Places.{is_told}
 use Rattle.fi_parts.specs.Waiting.{Waiters, Waiting, phase_of, asks_of, is_queued, is_registered}
 use Rattle.fi_locks.specs.declared.asked.Asked.{Asked}
@@ -149,10 +150,6 @@ module _ {W : Type 0} where
   -- n of the held permits are there no longer.
   abbrev pub Disarms : SemaphoreMachine W → ℕ → SemaphoreMachine W → Type 0
   Disarms old n new = (n ≤ old.own.held) × StepsTo old (record old.own { held = old.own.held - n }) NoChange new
-
-  -- The front pair is taken out, and its waker answered.
-  abbrev pub Wakes : SemaphoreMachine W → Option W → SemaphoreMachine W → Type 0
-  Wakes old answer new = StepsTo old old.own (PopsOldest answer) new
 
   -- The queue holds the registered futures, and in a fair semaphore the told ones; no future is complete. All permits can be counted.
   -- Each need is among those asked for so far, and one who was registered or told and has not been polled since needs more than 0.

@@ -15,12 +15,14 @@ use Rattle.fi_parts.specs.Effects.{WaiterEffect, TakesEffect}
 use Rattle.fi_parts.specs.Effects.WaiterEffect.{NoChange, Inserts, Registers, KeepsWaiting, Ends}
 use Rattle.fi_parts.specs.Effects.WaiterEffect.{EndsPlaced, Removes, NotifiesFront, PopsOldest}
 use Rattle.fi_parts.specs.Effects.WaiterEffect.{AndThen}
-use Rattle.fi_parts.specs.Machine.{phase_at, AllowsEffect, LacksAfter, StepsTo, Line, PollLine, poll_effect, waker_effect}
+use Rattle.fi_parts.specs.Machine.{phase_at, StepsTo}
+use Rattle.fi_parts.specs.MachineTable.{AllowsEffect, LacksAfter, TableLine, PollLine, poll_change, waker_change}
 use Rattle.fi_parts.specs.Order.{holds, without}
-use Rattle.fi_parts.specs.Places.{is_told, queued_rule}
+use Rattle.fi_parts.specs.Places.{is_told}
+use Rattle.fi_parts.specs.PlaceRules.{queued_rule}
 use Rattle.fi_parts.specs.Waiting.{Waiters, Waiting, phase_in, phase_of, is_queued, is_registered}
 use Rattle.fi_parts.specs.WakerHistory.{gives}
-use Rattle.fi_parts.specs.WakerHistory.WakerEffect.{Leaves, NoEffect}
+use Rattle.fi_parts.specs.WakerHistory.WakerChange.{Leaves, NoEffect}
 use Rattle.fi_parts.proofs.Effects.{untold, untold_if_leaving}
 use Rattle.fi_parts.proofs.Machines.{line, ends, ends_placed, registers, stays, polls_and_then, pops, added}
 use Rattle.fi_parts.proofs.Slots.{without_absent}
@@ -133,41 +135,41 @@ module _ {W : Type 0} where
   telling_line : (tells : Bool) (permits : Permits) (effect : WaiterEffect ℕ W) (old new : SemaphoreMachine W) →
       permits.is_fair ≡ old.own.is_fair → AllowsEffect (queued_rule old.own.is_fair) is_wait_phase old.waiting effect →
       LacksAfter no_lack old.own permits old.waiting.side effect → StepsTelling tells old permits effect new →
-      Line (rules old.own.is_fair) (waker_effect effect) old new
+      TableLine (rules old.own.is_fair) (waker_change effect) old new
   telling_line true permits effect old new fair allows lack did =
       line (rules old.own.is_fair) permits (AndThen effect (NotifiesFront permits.is_fair did.2.0)) old new
       (did.2.2.0, (did.0, did.1, did.2.2.1)) (allows, λ mid taken. (refl, sym fair), refl) (λ asks. tt)
   telling_line false permits effect old new fair allows lack did = line (rules old.own.is_fair) permits effect old new did allows lack
 
   pub inserted : (old new : SemaphoreMachine W) (name need : ℕ) → Makes old need name new →
-      Line (rules old.own.is_fair) (Leaves name) old new
+      TableLine (rules old.own.is_fair) (Leaves name) old new
   inserted old new name need did =
       line (rules old.own.is_fair) (record old.own { asked = asked_after old.own.asked need }) (Inserts name need) old new did tt
       (λ asks lack. tt)
 
-  pub cancelled : (old new : SemaphoreMachine W) (name : ℕ) → Cancels old name new → Line (rules old.own.is_fair) (Leaves name) old new
+  pub cancelled : (old new : SemaphoreMachine W) (name : ℕ) → Cancels old name new → TableLine (rules old.own.is_fair) (Leaves name) old new
   cancelled old new name did =
       telling_line (cancel_tells old.own.is_fair (phase_at old name)) old.own (Removes name) old new refl tt (λ asks lack. tt) did
 
   pub tried : (old new : SemaphoreMachine W) (n : ℕ) (granting : Bool) → TriesAcquire old n granting new →
-      Line (rules old.own.is_fair) NoEffect old new
+      TableLine (rules old.own.is_fair) NoEffect old new
   tried old new n granting did =
       line (rules old.own.is_fair) (if granting then granted old.own n else old.own) NoChange old new did.1 tt (λ asks lack. tt)
 
-  pub released : (old new : SemaphoreMachine W) (n : ℕ) → Releases old n new → Line (rules old.own.is_fair) NoEffect old new
+  pub released : (old new : SemaphoreMachine W) (n : ℕ) → Releases old n new → TableLine (rules old.own.is_fair) NoEffect old new
   released old new n did =
       telling_line (nat_lt 0 n) (record old.own { free = old.own.free + n }) NoChange old new refl tt (λ asks lack. tt) did.1
 
-  pub given_back : (old new : SemaphoreMachine W) (n : ℕ) → GivesBack old n new → Line (rules old.own.is_fair) NoEffect old new
+  pub given_back : (old new : SemaphoreMachine W) (n : ℕ) → GivesBack old n new → TableLine (rules old.own.is_fair) NoEffect old new
   given_back old new n did =
       telling_line (nat_lt 0 n) (record old.own { free = old.own.free + n; held = old.own.held - n }) NoChange old new refl tt
       (λ asks lack. tt) did.1
 
-  pub disarmed : (old new : SemaphoreMachine W) (n : ℕ) → Disarms old n new → Line (rules old.own.is_fair) NoEffect old new
+  pub disarmed : (old new : SemaphoreMachine W) (n : ℕ) → Disarms old n new → TableLine (rules old.own.is_fair) NoEffect old new
   disarmed old new n did =
       line (rules old.own.is_fair) (record old.own { held = old.own.held - n }) NoChange old new did.1 tt (λ asks lack. tt)
 
-  pub popped : (old new : SemaphoreMachine W) (waker : Option W) → Wakes old waker new → Line (rules old.own.is_fair) (gives waker) old new
+  pub popped : (old new : SemaphoreMachine W) (waker : Option W) → Wakes old waker new → TableLine (rules old.own.is_fair) (gives waker) old new
   popped old new waker did = pops (rules old.own.is_fair) waker old new did
 
   pub makes_pollable : (old : SemaphoreMachine W) (name need : ℕ) (new : SemaphoreMachine W) → Makes old need name new →
@@ -177,16 +179,16 @@ module _ {W : Type 0} where
 
   module _ (old : SemaphoreMachine W) (name need : ℕ) (waker : W) (answer : Poll ℕ) (new : SemaphoreMachine W) where
     told_line : (tells : Bool) → (answer ≡ Ready need) × StepsTelling tells old (granted old.own need) (EndsPlaced name) new →
-        IsSound old → PollLine (rules old.own.is_fair) name (poll_effect name waker answer) old new
+        IsSound old → PollLine (rules old.own.is_fair) name (poll_change name waker answer) old new
     told_line true did was =
         polls_and_then (rules old.own.is_fair) (granted old.own need) (EndsPlaced name) (NotifiesFront old.own.is_fair did.1.2.0) name
         old new was.waiters (did.1.2.2.0, (did.1.0, did.1.1, did.1.2.2.1)) (tt, λ mid taken. (refl, refl), refl) (λ asks. tt) refl
-        (ap (poll_effect name waker) (sym did.0)) (λ q. refl)
+        (ap (poll_change name waker) (sym did.0)) (λ q. refl)
     told_line false did was = ends_placed (rules old.own.is_fair) (granted old.own need) name waker old new did (λ asks lack. tt)
 
     line_as : (phase : Option (Phase W)) (granting : Bool) → phase_at old name ≡ phase → IsSound old →
         PollsAs phase granting need old name waker answer new →
-        PollLine (rules old.own.is_fair) name (poll_effect name waker answer) old new
+        PollLine (rules old.own.is_fair) name (poll_change name waker answer) old new
     line_as (Some Fresh) true is was did =
         ends (rules old.own.is_fair) (granted old.own need) name waker old new did
         (untold old.own.is_fair (phase_at old name) (ap is_told is)) (λ asks lack. tt)
@@ -203,7 +205,7 @@ module _ {W : Type 0} where
     line_as phase granting is was did = absurd did
 
   pub polled : (old : SemaphoreMachine W) (name : ℕ) (waker : W) (answer : Poll ℕ) (new : SemaphoreMachine W) → IsSound old →
-      Polls old name waker answer new → PollLine (rules old.own.is_fair) name (poll_effect name waker answer) old new
+      Polls old name waker answer new → PollLine (rules old.own.is_fair) name (poll_change name waker answer) old new
   polled old name waker answer new was did =
       line_as old name (need_of old.waiting.side name) waker answer new (phase_at old name)
       (is_granted (phase_at old name) old (need_of old.waiting.side name)) refl was did

@@ -9,9 +9,11 @@ use Rattle.fi_parts.specs.declared.phase.Phase.{Phase}
 use Rattle.fi_parts.specs.declared.phase.Phase.TheVariants.{Fresh, Registered, Told, Complete, Ended}
 use Rattle.fi_parts.specs.Effects.{WaiterEffect, TakesEffect}
 use Rattle.fi_parts.specs.Effects.WaiterEffect.{Inserts, EndsPlaced, Removes, NotifiesFront}
-use Rattle.fi_parts.specs.Machine.{phase_at, AllowsEffect, WaiterRules, HasSoundWaitersBy}
+use Rattle.fi_parts.specs.Machine.{phase_at, HasSoundWaitersBy}
+use Rattle.fi_parts.specs.MachineTable.{AllowsEffect, WaiterRules}
 use Rattle.fi_parts.specs.Order.{holds}
-use Rattle.fi_parts.specs.Places.{is_told, queued_rule}
+use Rattle.fi_parts.specs.Places.{is_told}
+use Rattle.fi_parts.specs.PlaceRules.{queued_rule}
 use Rattle.fi_parts.specs.Waiting.{Waiters, Waiting, phase_in, phase_of, asks_in, asks_of, is_queued, is_registered}
 use Rattle.fi_parts.proofs.Effects.{waits_known, After, effect_sound, effect_after}
 use Rattle.fi_parts.proofs.Machines.{asks_step, asks_after, phases_after, initial_holds}

@@ -1,6 +1,5 @@
 -- The machine of a timer.
 use Rattle.std.specs.Prelude.{◌≡◌, ◌<◌, ◌+◌, ◌-◌, ◌^◌, ℕ, Bool, true, false, nat_le, min, max, Option, Some, None, List}
-use Rattle.std.specs.Coded.{Coded, coded_ℕ}
 use Rattle.futures.specs.declared.task.Poll.{Poll}
 use Rattle.futures.specs.declared.task.Poll.TheVariants.{Ready, Pending}
 use Rattle.fi_parts.specs.declared.phase.Notice.TheVariants.{Tell}
@@ -8,17 +7,15 @@ use Rattle.fi_parts.specs.declared.phase.Phase.{Phase}
 use Rattle.fi_parts.specs.declared.phase.Phase.TheVariants.{Fresh, Registered, Told}
 use Rattle.fi_parts.specs.Clocks.{whole_millis_in}
 use Rattle.fi_parts.specs.Deadlines.{expiry_of, AreDue}
-use Rattle.fi_parts.specs.Effects.WaiterEffect.{Inserts, RegistersApart, KeepsWaiting, Ends, Removes, NotifiesListed, PopsOldest}
-use Rattle.fi_parts.specs.Machine.{Machine, machine_code, phase_at, initial, StepsTo, HasSoundWaitersBy, AllLack}
+use Rattle.fi_parts.specs.Effects.WaiterEffect.{Inserts, RegistersApart, KeepsWaiting, Ends, NotifiesListed}
+use Rattle.fi_parts.specs.Machine.{Machine, phase_at, initial, StepsTo, HasSoundWaitersBy, AllLack}
+pub use Rattle.fi_parts.specs.Machine.{Cancels, Wakes}
 use Rattle.fi_parts.specs.Places.{never_queued}
 pub use Rattle.fi_parts.specs.Polled.{can_be_polled, is_wait_phase}
 
 -- Its own data are the floor, a moment that is before the expiry of each future that waits; a future asks for its expiry.
 abbrev pub TimerMachine : Type 0 → Type 0
 TimerMachine W = Machine ℕ ℕ W
-
-abbrev pub timer_code : {W : Type 0} → Coded W → Coded (TimerMachine W)
-timer_code w = machine_code coded_ℕ coded_ℕ w
 
 -- a future lacks what it waits for while its expiry is after the floor
 abbrev pub lacks : ℕ → Option ℕ → Type 0
@@ -55,17 +52,9 @@ module _ {W : Type 0} where
   Polls old name now waker answer new = PollsAs (phase_at old name) (nat_le (expiry_of old.waiting.side name) now) old name now waker
       answer new
 
-  -- The future leaves the timer.
-  abbrev pub Cancels : TimerMachine W → ℕ → TimerMachine W → Type 0
-  Cancels old name new = StepsTo old old.own (Removes name) new
-
   -- A check at this moment tells exactly those that are due, in rising order of expiry; the floor is then not before the moment.
   abbrev pub Checks : TimerMachine W → ℕ → TimerMachine W → Type 0
   Checks old now new = (due : List ℕ) × AreDue now old.waiting.side due × StepsTo old (max old.own now) (NotifiesListed Tell due) new
-
-  -- The front pair is taken out, and its waker answered.
-  abbrev pub Wakes : TimerMachine W → Option W → TimerMachine W → Type 0
-  Wakes old answer new = StepsTo old old.own (PopsOldest answer) new
 
   -- A pair is of a live future that is not registered, none has two; no future is complete. There is no queue.
   abbrev pub IsSound : TimerMachine W → Type 0

@@ -7,10 +7,12 @@ use Rattle.fi_parts.specs.declared.phase.Phase.{Phase}
 use Rattle.fi_parts.specs.declared.phase.Phase.TheVariants.{Fresh, Registered, Told}
 use Rattle.fi_parts.specs.declared.phase.Notice.TheVariants.{Tell}
 use Rattle.fi_parts.specs.Deadlines.{expiry_of, is_due}
-use Rattle.fi_parts.specs.WakerHistory.WakerEffect.{NoEffect}
+use Rattle.fi_parts.specs.WakerHistory.WakerChange.{NoEffect}
 use Rattle.fi_parts.specs.Effects.WaiterEffect.{NotifiesListed}
-use Rattle.fi_parts.specs.Machine.{phase_at, WaiterRules, Line, PollLine, poll_effect}
-use Rattle.fi_parts.specs.Places.{never_queued, never_rule}
+use Rattle.fi_parts.specs.Machine.{phase_at}
+use Rattle.fi_parts.specs.MachineTable.{WaiterRules, TableLine, PollLine, poll_change}
+use Rattle.fi_parts.specs.Places.{never_queued}
+use Rattle.fi_parts.specs.PlaceRules.{never_rule}
 use Rattle.fi_parts.specs.Waiting.{asks_of, is_registered}
 use Rattle.fi_parts.proofs.Effects.{waits_known}
 use Rattle.fi_parts.proofs.Machines.{initial_holds, line, ends, registers_apart, stays, added}
@@ -42,7 +44,7 @@ module _ {W : Type 0} where
 
   module _ (old : TimerMachine W) (name now : ℕ) (waker : W) (answer : Poll (Unit {0})) (new : TimerMachine W) where
     polls_as : (phase : Option (Phase W)) (come : Bool) → nat_le (expiry_of old.waiting.side name) now ≡ come →
-        PollsAs phase come old name now waker answer new → PollLine rules name (poll_effect name waker answer) old new
+        PollsAs phase come old name now waker answer new → PollLine rules name (poll_change name waker answer) old new
     polls_as (Some Fresh) true is did = ends rules old.own name waker old new did tt (λ asks lack. lack)
     polls_as (Some Fresh) false is did =
         registers_apart rules (min old.own now) name waker old new did tt (late_lacks old.own now (asks_of old.waiting.side name) is)
@@ -51,7 +53,7 @@ module _ {W : Type 0} where
     polls_as (Some Told) come is did = ends rules old.own name waker old new did tt (λ asks lack. lack)
     polls_as phase come is did = absurd did
 
-    pub polled : Polls old name now waker answer new → PollLine rules name (poll_effect name waker answer) old new
+    pub polled : Polls old name now waker answer new → PollLine rules name (poll_change name waker answer) old new
     polled did = polls_as (phase_at old name) (nat_le (expiry_of old.waiting.side name) now) refl did
 
   module _ (old new : TimerMachine W) where
@@ -60,7 +62,7 @@ module _ {W : Type 0} where
         nat_le (expiry_of old.waiting.side name) now ≡ false
     not_come now name waits none = ap (λ b. b && nat_le (expiry_of old.waiting.side name) now) (sym waits) ∙ none
 
-    pub was_checked : (now : ℕ) → Checks old now new → Line rules NoEffect old new
+    pub was_checked : (now : ℕ) → Checks old now new → TableLine rules NoEffect old new
     was_checked now did = line rules (max old.own now) (NotifiesListed Tell did.0) old new did.2 refl
         (λ name waits apart lack. higher_lacks old.own now (asks_of old.waiting.side name)
         (not_come now name waits (sym (did.1.exactly name) ∙ apart)) lack)

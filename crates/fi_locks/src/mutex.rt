@@ -66,7 +66,8 @@ pub struct MutexState<T, W> {
 pub type LocalMutex<T, W> = MutexState<T, W>;
 
 impl<T, W> Model for MutexState<T, W> {
-    ghost use Rattle.fi_locks.specs.Mutex.{MutexMachine, mutex_code, IsSound, OwesNoWake};
+    ghost use Rattle.fi_locks.specs.Mutex.{MutexMachine, IsSound, OwesNoWake};
+    ghost use Rattle.fi_locks.specs.MutexCode.{mutex_code};
     ghost use Rattle.fi_locks.specs.MutexFields.{machine_of};
 
     ghost Value = { MutexMachine T W };

@@ -7,7 +7,8 @@ ghost use Rattle.fi_parts.specs.Deadlines.{IsNextExpiry};
 ghost use Rattle.fi_parts.specs.Polled.{unused_after, WouldBeReady, LeavesWhere};
 ghost use Rattle.futures.specs.Poll.{OnPending};
 ghost use Rattle.fi_parts.specs.Stays.{AllStay, OthersStay, IsApart};
-ghost use Rattle.fi_locks.specs.Timer.{opened, expiry_after, can_be_polled, Makes, Polls, Cancels, Checks, Wakes, IsSound, OwesNoWake};
+ghost use Rattle.fi_locks.specs.Timer.{opened, expiry_after, can_be_polled, Makes, Polls, Cancels, Checks, Wakes};
+ghost use Rattle.fi_locks.specs.Timer.{IsSound, OwesNoWake};
 
 use crate::timer_future::LocalTimerFuture;
 use fi_parts::{Deadlines, Fault, Leftover, Phase, Slot, whole_millis};
@@ -66,7 +67,8 @@ pub struct TimerState<W> {
 pub type LocalTimerService<W> = TimerState<W>;
 
 impl<W> Model for TimerState<W> {
-    ghost use Rattle.fi_locks.specs.Timer.{TimerMachine, timer_code, IsSound, OwesNoWake};
+    ghost use Rattle.fi_locks.specs.Timer.{TimerMachine, IsSound, OwesNoWake};
+    ghost use Rattle.fi_locks.specs.TimerCode.{timer_code};
     ghost use Rattle.fi_locks.specs.TimerFields.{machine_of};
 
     ghost Value = { TimerMachine W };

@@ -11,7 +11,8 @@ use Rattle.fi_parts.specs.declared.phase.Notice.{Notice}
 use Rattle.fi_parts.specs.declared.phase.Notice.TheVariants.{Tell, Renew}
 use Rattle.fi_parts.specs.Noticed.{phase_after}
 use Rattle.fi_parts.specs.Order.{holds}
-use Rattle.fi_parts.specs.Places.{IsPlaceRule, IsUntold, is_told}
+use Rattle.fi_parts.specs.PlaceRules.{IsPlaceRule, IsUntold}
+use Rattle.fi_parts.specs.Places.{is_told}
 use Rattle.fi_parts.specs.Waiting.{Waiters, Waiting, phase_of, is_registered, may_be_named, exchange, noticed, pair, pair_of, IsOrderedBy}
 use Rattle.fi_parts.specs.Waiting.{AreSoundBy}
 use Rattle.fi_parts.proofs.Waiting.{Becomes, becomes-made, becomes-with_phase, becomes-forgotten, noticed_phase, lives_as, notices}
@@ -24,10 +25,11 @@ use Rattle.fi_parts.specs.Effects.{WaiterEffect, TakesEffect, first_of, oldest_n
 use Rattle.fi_parts.specs.Effects.WaiterEffect.{NoChange, Inserts, Registers, RegistersApart, KeepsWaiting, Ends, EndsPlaced, Renews}
 use Rattle.fi_parts.specs.Effects.WaiterEffect.{NotifiesOldest, NotifiesAll, NotifiesListed, NotifiesFront, PopsOldest, AndThen}
 use Rattle.fi_parts.specs.Effects.WaiterEffect.{Asks, Removes, CompletesOldest}
-use Rattle.fi_parts.specs.Machine.{AllowsBasics, AllowsEffect, Given, waker_effect}
+use Rattle.fi_parts.specs.Machine.{AllowsBasics}
+use Rattle.fi_parts.specs.MachineTable.{AllowsEffect, Given, waker_change}
 use Rattle.fi_parts.specs.Polled.{can_be_polled, is_wait_phase}
-use Rattle.fi_parts.specs.WakerHistory.{WakerEffect, gives}
-use Rattle.fi_parts.specs.WakerHistory.WakerEffect.{Pends, Leaves, Gives, NoEffect}
+use Rattle.fi_parts.specs.WakerHistory.{WakerChange, gives}
+use Rattle.fi_parts.specs.WakerHistory.WakerChange.{Pends, Leaves, Gives, NoEffect}
 
 module _ {W : Type 0} where
   pub some_phase : (p : Option (Phase W)) → may_be_named p ≡ true → (phase : Phase W) × (p ≡ Some phase)
@@ -408,7 +410,7 @@ pub waits_are_fit : {W : Type 0} → AreFit (is_wait_phase {W = W}) can_be_polle
 waits_are_fit = record { fresh = refl; registered = λ waker. refl; told = λ is. refl; complete = λ is. absurd (both_ways false refl is) }
 
 -- this name is not the one that such a call ends or removes
-abbrev pub SparedBy : {W : Type 0} → WakerEffect W → ℕ → Type 0
+abbrev pub SparedBy : {W : Type 0} → WakerChange W → ℕ → Type 0
 SparedBy (Leaves name) q = q ≢ name
 SparedBy on_wakers q = ⊤
 
@@ -446,7 +448,7 @@ module _ {D W : Type 0} {place : Option (Phase W) → Bool} (rule : IsPlaceRule 
   -- Whoever is fit before an effect is fit after it, but for the one that it ends or removes.
   pub stays_fit : (effect : WaiterEffect D W) (old new : Waiting D W) → AllowsEffect rule known old effect →
       AreSoundBy place known old.side old.out → TakesEffect effect old new → After effect old new → (q : ℕ) →
-      SparedBy (waker_effect effect) q → fit (phase_of old.side q) ≡ true → fit (phase_of new.side q) ≡ true
+      SparedBy (waker_change effect) q → fit (phase_of old.side q) ≡ true → fit (phase_of new.side q) ≡ true
   stays_fit NoChange old new is sound taken now q spared was = ap fit (now q) ∙ was
   stays_fit (Inserts name asks) old new is sound taken now q spared was = fit_one fit old.side new.side q name Fresh can.fresh now was
   stays_fit (Registers name waker) old new is sound taken now q spared was =
@@ -479,15 +481,15 @@ module _ {D W : Type 0} {place : Option (Phase W) → Bool} (rule : IsPlaceRule 
       let sound_then = effect_sound rule known knows one old mid is.0 sound taken.1 in
       let allows = is.1 mid taken.1 in
       stays_fit other mid new allows sound_then taken.2 (effect_after rule known knows other mid new allows sound_then taken.2) q
-      (subst (λ (e : WakerEffect W). SparedBy e q) (sym is.2) tt)
+      (subst (λ (e : WakerChange W). SparedBy e q) (sym is.2) tt)
       (stays_fit one old mid is.0 sound taken.1 (effect_after rule known knows one old mid is.0 sound taken.1) q spared was)
 
   -- whoever pends by such a call is fit now
-  abbrev pub IsFitIfPending : WakerEffect W → Waiting D W → Type 0
+  abbrev pub IsFitIfPending : WakerChange W → Waiting D W → Type 0
   IsFitIfPending (Pends name waker) new = fit (phase_of new.side name) ≡ true
   IsFitIfPending on_wakers new = ⊤
 
-  pub still_pending : (on_wakers : WakerEffect W) (mid new : Waiting D W) → IsFitIfPending on_wakers mid →
+  pub still_pending : (on_wakers : WakerChange W) (mid new : Waiting D W) → IsFitIfPending on_wakers mid →
       ((q : ℕ) → fit (phase_of mid.side q) ≡ true → fit (phase_of new.side q) ≡ true) → IsFitIfPending on_wakers new
   still_pending (Pends name waker) mid new was stays = stays name was
   still_pending (Leaves name) mid new was stays = tt
@@ -501,7 +503,7 @@ module _ {D W : Type 0} {place : Option (Phase W) → Bool} (rule : IsPlaceRule 
   -- Who was polled and pends is fit.
   pub pending_is_fit : (effect : WaiterEffect D W) (old new : Waiting D W) → AllowsEffect rule known old effect →
       AreSoundBy place known old.side old.out → TakesEffect effect old new → After effect old new →
-      IsFitIfPending (waker_effect effect) new
+      IsFitIfPending (waker_change effect) new
   pending_is_fit NoChange old new is sound taken now = tt
   pending_is_fit (Inserts name asks) old new is sound taken now = tt
   pending_is_fit (Registers name waker) old new is sound taken now = ap fit now.here ∙ can.registered waker
@@ -522,7 +524,7 @@ module _ {D W : Type 0} {place : Option (Phase W) → Bool} (rule : IsPlaceRule 
       let mid = taken.0 in
       let sound_then = effect_sound rule known knows one old mid is.0 sound taken.1 in
       let allows = is.1 mid taken.1 in
-      still_pending (waker_effect one) mid new
+      still_pending (waker_change one) mid new
       (pending_is_fit one old mid is.0 sound taken.1 (effect_after rule known knows one old mid is.0 sound taken.1))
       (λ q. stays_fit other mid new allows sound_then taken.2 (effect_after rule known knows other mid new allows sound_then taken.2) q
-      (subst (λ (e : WakerEffect W). SparedBy e q) (sym is.2) tt))
+      (subst (λ (e : WakerChange W). SparedBy e q) (sym is.2) tt))

@@ -19,16 +19,18 @@ use Rattle.fi_parts.proofs.Waiting.{Becomes, noticed_phase, placed, unregistered
 use Rattle.fi_parts.proofs.Sound.{sound_by-empty}
 use Rattle.fi_parts.proofs.Oldest.{asks-with_asks, asks-with_asks_other}
 use Rattle.fi_parts.proofs.FiniteMaps.{get-insert_same, get-insert_other, get-remove_same, get-remove_other}
-use Rattle.fi_parts.specs.WakerHistory.{WakerEffect, gives}
-use Rattle.fi_parts.specs.WakerHistory.WakerEffect.{Leaves, NoEffect}
+use Rattle.fi_parts.specs.WakerHistory.{WakerChange, gives}
+use Rattle.fi_parts.specs.WakerHistory.WakerChange.{Leaves, NoEffect}
 use Rattle.fi_parts.proofs.PairsWithin.{if_true, if_false}
 use Rattle.fi_parts.proofs.Results.{either, of_made}
-use Rattle.fi_parts.specs.Effects.{WaiterEffect, TakesEffect, oldest_notified, keeps_asks}
+use Rattle.fi_parts.specs.Effects.{WaiterEffect, TakesEffect, oldest_notified}
+use Rattle.fi_parts.specs.MachineTable.{keeps_asks}
 use Rattle.fi_parts.specs.Effects.WaiterEffect.{NoChange, Inserts, Registers, RegistersApart, KeepsWaiting, Ends, EndsPlaced, Renews}
 use Rattle.fi_parts.specs.Effects.WaiterEffect.{NotifiesOldest, NotifiesAll, NotifiesListed, NotifiesFront, PopsOldest, AndThen}
 use Rattle.fi_parts.specs.Effects.WaiterEffect.{Asks, Removes, CompletesOldest}
-use Rattle.fi_parts.specs.Machine.{Machine, phase_at, initial, StepsTo, HasSoundWaitersBy, AllLack, AllowsEffect, LacksAfter, StillLacks}
-use Rattle.fi_parts.specs.Machine.{waker_effect, WaiterRules, Line, poll_effect, answered_effect, PollLine}
+use Rattle.fi_parts.specs.Machine.{Machine, phase_at, initial, StepsTo, HasSoundWaitersBy, AllLack}
+use Rattle.fi_parts.specs.MachineTable.{AllowsEffect, LacksAfter, StillLacks}
+use Rattle.fi_parts.specs.MachineTable.{waker_change, WaiterRules, TableLine, poll_change, answered_change, PollLine}
 use Rattle.fi_parts.specs.Stays.{AllStay, OthersStay, IsApart}
 use Rattle.fi_parts.specs.declared.errors.Fault.{Fault}
 use Rattle.fi_parts.proofs.Effects.{After, AreNotified, IsOf, effect_after, effect_sound, notified_after, queues, oldest_are, all_are}
@@ -110,7 +112,7 @@ module _ {D W : Type 0} where
 
   -- Whoever is not made or removed asks for the same after an effect that keeps what is asked for.
   pub asks_stay : (effect : WaiterEffect D W) (old new : Waiting D W) → keeps_asks effect ≡ true → TakesEffect effect old new → (q : ℕ) →
-      SparedBy (waker_effect effect) q → asks_of new.side q ≡ asks_of old.side q
+      SparedBy (waker_change effect) q → asks_of new.side q ≡ asks_of old.side q
   asks_stay (Inserts name asks) old new keeps did q spared = asks_to new _ q did.1 ∙ asks_made old.side name asks q spared
   asks_stay (Removes name) old new keeps did q spared = asks_to new _ q did.1 ∙ asks_forgotten old.side name q spared
   asks_stay NoChange old new keeps did q spared = asks_after NoChange old new did q
@@ -237,7 +239,7 @@ module _ {S D W : Type 0} (rules : WaiterRules S D W) where
   Holds machine = HasSoundWaitersBy rules.place rules.phases machine × AllLack rules.lacks machine
 
   -- A machine's line keeps it sound, and no wake is owed after it.
-  pub line_preserves : {on_wakers : WakerEffect W} (old new : Machine S D W) → Line rules on_wakers old new → Holds old → Holds new
+  pub line_preserves : {on_wakers : WakerChange W} (old new : Machine S D W) → TableLine rules on_wakers old new → Holds old → Holds new
   line_preserves old new line was =
       let now = effect_after rules.places rules.phases rules.known line.effect old.waiting new.waiting line.allows was.0 line.steps.1 in
       let lack : Lack line.own new.waiting =
@@ -255,40 +257,40 @@ module _ {S D W : Type 0} (rules : WaiterRules S D W) where
   -- The lines of a table.
   pub line : (own : S) (effect : WaiterEffect D W) (old new : Machine S D W) → StepsTo old own effect new →
       AllowsEffect rules.places rules.phases old.waiting effect → LacksAfter rules.lacks old.own own old.waiting.side effect →
-      Line rules (waker_effect effect) old new
+      TableLine rules (waker_change effect) old new
   line own effect old new steps allows lack =
       record { own = own; effect = effect; steps = steps; allows = allows; lack = lack; effect_is = refl }
 
   -- a call that changed nothing
-  pub unchanged : (old new : Machine S D W) → new ≡ old → Line rules NoEffect old new
+  pub unchanged : (old new : Machine S D W) → new ≡ old → TableLine rules NoEffect old new
   unchanged old new same =
       line old.own NoChange old new (ap (λ (m : Machine S D W). m.own) same, ap (λ (m : Machine S D W). m.waiting) same) tt
       (λ asks lack. lack)
 
   -- a making, a cancel, and the taking out of the oldest waker: the machine's own data stay
   pub inserts : (name : ℕ) (asks : D) (old new : Machine S D W) → StepsTo old old.own (Inserts name asks) new →
-      Line rules (Leaves name) old new
+      TableLine rules (Leaves name) old new
   inserts name asks old new did = line old.own (Inserts name asks) old new did tt (λ asks lack. lack)
 
-  pub removes : (name : ℕ) (old new : Machine S D W) → StepsTo old old.own (Removes name) new → Line rules (Leaves name) old new
+  pub removes : (name : ℕ) (old new : Machine S D W) → StepsTo old old.own (Removes name) new → TableLine rules (Leaves name) old new
   removes name old new did = line old.own (Removes name) old new did tt (λ asks lack. lack)
 
-  pub pops : (waker : Option W) (old new : Machine S D W) → StepsTo old old.own (PopsOldest waker) new → Line rules (gives waker) old new
+  pub pops : (waker : Option W) (old new : Machine S D W) → StepsTo old old.own (PopsOldest waker) new → TableLine rules (gives waker) old new
   pops waker old new did = line old.own (PopsOldest waker) old new did tt (λ asks lack. lack)
 
   -- Who was fit before a line is fit after it, but for the one that it ends or removes.
-  line_keeps_fit : {on_wakers : WakerEffect W} (fit : Option (Phase W) → Bool) → AreFit rules.phases fit → (old new : Machine S D W) →
-      Line rules on_wakers old new → HasSoundWaitersBy rules.place rules.phases old → (q : ℕ) → SparedBy on_wakers q →
+  line_keeps_fit : {on_wakers : WakerChange W} (fit : Option (Phase W) → Bool) → AreFit rules.phases fit → (old new : Machine S D W) →
+      TableLine rules on_wakers old new → HasSoundWaitersBy rules.place rules.phases old → (q : ℕ) → SparedBy on_wakers q →
       fit (phase_at old q) ≡ true → fit (phase_at new q) ≡ true
   line_keeps_fit fit can old new did sound q spared =
       stays_fit rules.places rules.phases rules.known fit can did.effect old.waiting new.waiting did.allows sound did.steps.1
       (effect_after rules.places rules.phases rules.known did.effect old.waiting new.waiting did.allows sound did.steps.1) q
-      (subst (λ (e : WakerEffect W). SparedBy e q) (sym did.effect_is) spared)
+      (subst (λ (e : WakerChange W). SparedBy e q) (sym did.effect_is) spared)
 
   -- A poll by one effect on the name that was polled.
-  pub polls : {on_wakers : WakerEffect W} (own : S) (effect : WaiterEffect D W) (name : ℕ) (old new : Machine S D W) →
+  pub polls : {on_wakers : WakerChange W} (own : S) (effect : WaiterEffect D W) (name : ℕ) (old new : Machine S D W) →
       StepsTo old own effect new → AllowsEffect rules.places rules.phases old.waiting effect →
-      LacksAfter rules.lacks old.own own old.waiting.side effect → IsOf name effect → waker_effect effect ≡ on_wakers →
+      LacksAfter rules.lacks old.own own old.waiting.side effect → IsOf name effect → waker_change effect ≡ on_wakers →
       ((q : ℕ) → asks_step effect q (asks_of old.waiting.side q) ≡ asks_of old.waiting.side q) → PollLine rules name on_wakers old new
   polls own effect name old new steps allows lack of is same = record {
     line = record { own = own; effect = effect; steps = steps; allows = allows; lack = lack; effect_is = is };
@@ -297,10 +299,10 @@ module _ {S D W : Type 0} (rules : WaiterRules S D W) where
   }
 
   -- A poll by two effects, the first on the name that was polled; the second only names futures.
-  pub polls_and_then : {on_wakers : WakerEffect W} (own : S) (one other : WaiterEffect D W) (name : ℕ) (old new : Machine S D W) →
+  pub polls_and_then : {on_wakers : WakerChange W} (own : S) (one other : WaiterEffect D W) (name : ℕ) (old new : Machine S D W) →
       HasSoundWaitersBy rules.place rules.phases old → StepsTo old own (AndThen one other) new →
       AllowsEffect rules.places rules.phases old.waiting (AndThen one other) → ((asks : Option D) → rules.lacks own asks) →
-      IsOf name one → waker_effect one ≡ on_wakers →
+      IsOf name one → waker_change one ≡ on_wakers →
       ((q : ℕ) → asks_step (AndThen one other) q (asks_of old.waiting.side q) ≡ asks_of old.waiting.side q) →
       PollLine rules name on_wakers old new
   polls_and_then own one other name old new was steps allows lack of is same =
@@ -311,7 +313,7 @@ module _ {S D W : Type 0} (rules : WaiterRules S D W) where
       record {
         line = record { own = own; effect = AndThen one other; steps = steps; allows = allows; lack = lack; effect_is = is };
         lives = stays_fit rules.places rules.phases rules.known is_some (are_live rules.phases) other mid new.waiting allowed sound
-            steps.1.2 now name (subst (λ (e : WakerEffect W). SparedBy e name) (sym allows.2) tt)
+            steps.1.2 now name (subst (λ (e : WakerChange W). SparedBy e name) (sym allows.2) tt)
             (polled_lives one old.waiting mid name of steps.1.1);
         asks = λ q. asks_after (AndThen one other) old.waiting new.waiting steps.1 q ∙ same q;
       }
@@ -319,40 +321,40 @@ module _ {S D W : Type 0} (rules : WaiterRules S D W) where
   -- a poll that ended the future
   pub ends : {A : Type 0} {x : A} {answer : Poll A} (own : S) (name : ℕ) (waker : W) (old new : Machine S D W) →
       (answer ≡ Ready x) × StepsTo old own (Ends name) new → AllowsEffect rules.places rules.phases old.waiting (Ends name) →
-      StillLacks rules.lacks old.own own → PollLine rules name (poll_effect name waker answer) old new
+      StillLacks rules.lacks old.own own → PollLine rules name (poll_change name waker answer) old new
   ends own name waker old new did allows still =
-      polls own (Ends name) name old new did.1 allows still refl (ap (poll_effect name waker) (sym did.0)) (λ q. refl)
+      polls own (Ends name) name old new did.1 allows still refl (ap (poll_change name waker) (sym did.0)) (λ q. refl)
 
   -- the same of one that may have a place in the queue, which it leaves
   pub ends_placed : {A : Type 0} {x : A} {answer : Poll A} (own : S) (name : ℕ) (waker : W) (old new : Machine S D W) →
       (answer ≡ Ready x) × StepsTo old own (EndsPlaced name) new → StillLacks rules.lacks old.own own →
-      PollLine rules name (poll_effect name waker answer) old new
+      PollLine rules name (poll_change name waker answer) old new
   ends_placed own name waker old new did still =
-      polls own (EndsPlaced name) name old new did.1 tt still refl (ap (poll_effect name waker) (sym did.0)) (λ q. refl)
+      polls own (EndsPlaced name) name old new did.1 tt still refl (ap (poll_change name waker) (sym did.0)) (λ q. refl)
 
   -- a poll that registered it
   pub registers : {A : Type 0} {answer : Poll A} (own : S) (name : ℕ) (waker : W) (old new : Machine S D W) →
       (answer ≡ Pending) × StepsTo old own (Registers name waker) new →
       AllowsEffect rules.places rules.phases old.waiting (Registers name waker) → rules.lacks own (asks_of old.waiting.side name) →
-      StillLacks rules.lacks old.own own → PollLine rules name (poll_effect name waker answer) old new
+      StillLacks rules.lacks old.own own → PollLine rules name (poll_change name waker answer) old new
   registers own name waker old new did allows lack still =
-      polls own (Registers name waker) name old new did.1 allows (lack, still) refl (ap (poll_effect name waker) (sym did.0)) (λ q. refl)
+      polls own (Registers name waker) name old new did.1 allows (lack, still) refl (ap (poll_change name waker) (sym did.0)) (λ q. refl)
 
   -- a poll that registered it, without a place in the queue
   pub registers_apart : {A : Type 0} {answer : Poll A} (own : S) (name : ℕ) (waker : W) (old new : Machine S D W) →
       (answer ≡ Pending) × StepsTo old own (RegistersApart name waker) new →
       AllowsEffect rules.places rules.phases old.waiting (RegistersApart name waker) → rules.lacks own (asks_of old.waiting.side name) →
-      StillLacks rules.lacks old.own own → PollLine rules name (poll_effect name waker answer) old new
+      StillLacks rules.lacks old.own own → PollLine rules name (poll_change name waker answer) old new
   registers_apart own name waker old new did allows lack still =
-      polls own (RegistersApart name waker) name old new did.1 allows (lack, still) refl (ap (poll_effect name waker) (sym did.0))
+      polls own (RegistersApart name waker) name old new did.1 allows (lack, still) refl (ap (poll_change name waker) (sym did.0))
       (λ q. refl)
 
   -- a poll that left it registered
   pub stays : {A : Type 0} {answer : Poll A} (own : S) (name : ℕ) (waker : W) (old new : Machine S D W) →
       (answer ≡ Pending) × StepsTo old own (KeepsWaiting name waker) new → StillLacks rules.lacks old.own own →
-      PollLine rules name (poll_effect name waker answer) old new
+      PollLine rules name (poll_change name waker answer) old new
   stays own name waker old new did still =
-      polls own (KeepsWaiting name waker) name old new did.1 tt still refl (ap (poll_effect name waker) (sym did.0)) (λ q. refl)
+      polls own (KeepsWaiting name waker) name old new did.1 tt still refl (ap (poll_change name waker) (sym did.0)) (λ q. refl)
 
   -- a poll that was refused
   pub refused_poll : (name : ℕ) (old new : Machine S D W) → new ≡ old → is_some (phase_at old name) ≡ true →
@@ -377,18 +379,18 @@ module _ {S D W : Type 0} (rules : WaiterRules S D W) where
 -- Who lives or can be polled before a call does so after it, but for the one that it ends or removes.
 module _ {S D W : Type 0} (rules : WaiterRules S D W) (can_poll : Option (Phase W) → Bool) (can : AreFit rules.phases can_poll)
     (old new : Machine S D W) (sound : HasSoundWaitersBy rules.place rules.phases old) where
-  keep_fit : {on_wakers : WakerEffect W} → Line rules on_wakers old new → (fit : Option (Phase W) → Bool) → AreFit rules.phases fit →
+  keep_fit : {on_wakers : WakerChange W} → TableLine rules on_wakers old new → (fit : Option (Phase W) → Bool) → AreFit rules.phases fit →
       (q : ℕ) → SparedBy on_wakers q → fit (phase_at old q) ≡ true → fit (phase_at new q) ≡ true
   keep_fit did fit may q spared = line_keeps_fit rules fit may old new did sound q spared
 
   -- a call that is nothing to the wakers
-  pub all_stay : Line rules NoEffect old new → AllStay can_poll old new
+  pub all_stay : TableLine rules NoEffect old new → AllStay can_poll old new
   all_stay did = record {
     live = λ q. keep_fit did is_some (are_live rules.phases) q tt;
     pollable = λ q. keep_fit did can_poll can q tt;
   }
 
-  apart_stay : {on_wakers : WakerEffect W} (name : ℕ) → Line rules on_wakers old new → ((q : ℕ) → q ≢ name → SparedBy on_wakers q) →
+  apart_stay : {on_wakers : WakerChange W} (name : ℕ) → TableLine rules on_wakers old new → ((q : ℕ) → q ≢ name → SparedBy on_wakers q) →
       OthersStay can_poll name old new
   apart_stay name did spared = record {
     live = λ q ne. keep_fit did is_some (are_live rules.phases) q (spared q ne);
@@ -396,18 +398,18 @@ module _ {S D W : Type 0} (rules : WaiterRules S D W) (can_poll : Option (Phase 
   }
 
   -- a cancel
-  pub others_stay : (name : ℕ) → Line rules (Leaves name) old new → OthersStay can_poll name old new
+  pub others_stay : (name : ℕ) → TableLine rules (Leaves name) old new → OthersStay can_poll name old new
   others_stay name did = apart_stay name did (λ q ne. ne)
 
   -- a poll
-  pub polling_stays : {A : Type 0} (name : ℕ) (waker : W) (answer : Poll A) → Line rules (poll_effect name waker answer) old new →
+  pub polling_stays : {A : Type 0} (name : ℕ) (waker : W) (answer : Poll A) → TableLine rules (poll_change name waker answer) old new →
       OthersStay can_poll name old new
   polling_stays name waker Pending did = apart_stay name did (λ q ne. tt)
   polling_stays name waker (Ready x) did = apart_stay name did (λ q ne. ne)
 
   -- a poll that may be refused
   pub answering_stays : {A : Type 0} (name : ℕ) (waker : W) (answer : Poll (Result A Fault)) →
-      Line rules (answered_effect name waker answer) old new → OthersStay can_poll name old new
+      TableLine rules (answered_change name waker answer) old new → OthersStay can_poll name old new
   answering_stays name waker Pending did = apart_stay name did (λ q ne. tt)
   answering_stays name waker (Ready (Ok x)) did = apart_stay name did (λ q ne. ne)
   answering_stays name waker (Ready (Err fault)) did = apart_stay name did (λ q ne. tt)
@@ -429,20 +431,20 @@ module _ {S D W : Type 0} (rules : WaiterRules S D W) (can_poll : Option (Phase 
       (λ same. all_stay (unchanged rules old new same))
 
   -- a poll that is pending leaves its future fit to be polled
-  is_fit : {on_wakers : WakerEffect W} → Line rules on_wakers old new →
+  is_fit : {on_wakers : WakerChange W} → TableLine rules on_wakers old new →
       IsFitIfPending rules.places rules.phases rules.known can_poll can on_wakers new.waiting
   is_fit did =
-      subst (λ (e : WakerEffect W). IsFitIfPending rules.places rules.phases rules.known can_poll can e new.waiting) did.effect_is
+      subst (λ (e : WakerChange W). IsFitIfPending rules.places rules.phases rules.known can_poll can e new.waiting) did.effect_is
       (pending_is_fit rules.places rules.phases rules.known can_poll can did.effect old.waiting new.waiting did.allows sound did.steps.1
       (effect_after rules.places rules.phases rules.known did.effect old.waiting new.waiting did.allows sound did.steps.1))
 
-  pub pending_stays : {A : Type 0} (name : ℕ) (waker : W) (answer : Poll A) → Line rules (poll_effect name waker answer) old new →
+  pub pending_stays : {A : Type 0} (name : ℕ) (waker : W) (answer : Poll A) → TableLine rules (poll_change name waker answer) old new →
       OnPending answer (can_poll (phase_at new name) ≡ true)
   pending_stays name waker Pending did = is_fit did
   pending_stays name waker (Ready x) did = tt
 
   pub pending_answer_stays : {A : Type 0} (name : ℕ) (waker : W) (answer : Poll (Result A Fault)) →
-      Line rules (answered_effect name waker answer) old new → OnPending answer (can_poll (phase_at new name) ≡ true)
+      TableLine rules (answered_change name waker answer) old new → OnPending answer (can_poll (phase_at new name) ≡ true)
   pending_answer_stays name waker Pending did = is_fit did
   pending_answer_stays name waker (Ready x) did = tt
 

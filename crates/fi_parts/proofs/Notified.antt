@@ -12,7 +12,7 @@ use Rattle.fi_parts.specs.declared.phase.Future.{Future}
 use Rattle.fi_parts.specs.Effects.{oldest_notified, notified, AreRegistered}
 use Rattle.fi_parts.specs.Order.{holds, Apart}
 use Rattle.fi_parts.specs.Pairs.{has, PairsApart}
-use Rattle.fi_parts.specs.Places.{IsPlaceRule}
+use Rattle.fi_parts.specs.PlaceRules.{IsPlaceRule}
 use Rattle.fi_parts.specs.Waiting.{Waiters, Waiting, phase_in, phase_of, is_registered, may_be_named, with_phase, pair_of, pair, IsLive}
 use Rattle.fi_parts.specs.Waiting.{IsOrderedBy, named, with_phases}
 use Rattle.fi_parts.proofs.Slots.{eqb_same, holds-append, Apart-front, Apart-back, Apart-disjoint}

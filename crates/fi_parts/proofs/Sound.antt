@@ -13,7 +13,7 @@ use Rattle.fi_parts.specs.Waiting.{ended, without_future, clear_queue, named_all
 use Rattle.fi_parts.proofs.Queues.{has-without_same}
 use Rattle.fi_parts.specs.Effects.{notified}
 use Rattle.fi_parts.proofs.Notified.{MayNotify, phases-notified, ordered-notified}
-use Rattle.fi_parts.specs.Places.{IsPlaceRule, registered_rule}
+use Rattle.fi_parts.specs.PlaceRules.{IsPlaceRule, registered_rule}
 use Rattle.fi_parts.proofs.Waiting.{ordered-without_place, Becomes, becomes-made, becomes-with_phase, becomes-forgotten, phase-emptied}
 use Rattle.fi_parts.proofs.Waiting.{noticed_phase, lives_as, ordered-empty, ordered-made, ordered-set_phase, ordered-registered}
 use Rattle.fi_parts.proofs.Waiting.{ordered-registered_apart, ordered-stays, ordered-forgotten, ordered-without_pair, ordered-drop}

@@ -17,7 +17,7 @@ use Rattle.fi_parts.specs.Waiting.{pair_of, rephased}
 use Rattle.fi_parts.specs.Waiting.{IsOrderedBy, named, with_phases, told_one, front_told}
 use Rattle.fi_parts.proofs.FiniteMaps.{get-insert_same, get-insert_other}
 use Rattle.fi_parts.proofs.Slots.{Apart-back, apart_middle, in_neither, without_first}
-use Rattle.fi_parts.specs.Places.{IsPlaceRule, queued_rule}
+use Rattle.fi_parts.specs.PlaceRules.{IsPlaceRule, queued_rule}
 use Rattle.fi_parts.proofs.Waiting.{no_pair, phase-with_phases}
 
 module _ {D W : Type 0} where

@@ -8,7 +8,7 @@ use Rattle.fi_parts.specs.declared.phase.Future.{Future}
 use Rattle.fi_parts.specs.declared.phase.Phase.{Phase}
 use Rattle.fi_parts.specs.declared.phase.Phase.TheVariants.{Fresh, Registered, Told, Complete, Ended}
 use Rattle.fi_parts.specs.declared.phase.PollStep.TheVariants.{Stays, Joins}
-use Rattle.fi_parts.specs.Places.{registered_rule}
+use Rattle.fi_parts.specs.PlaceRules.{registered_rule}
 use Rattle.fi_parts.specs.Waiting.{Waiters, Waiting, with_phase, phase_of, is_registered, registered, stays, IsLive, IsOrdered}
 use Rattle.fi_parts.specs.WaiterPolls.{phase_after_poll, poll_step, waiters_after_poll, PollsWaiter}
 use Rattle.fi_parts.proofs.Pairs.{without_no_pair}

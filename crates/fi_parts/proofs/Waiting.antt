@@ -13,7 +13,7 @@ use Rattle.fi_parts.specs.declared.phase.Future.{Future}
 use Rattle.fi_parts.specs.declared.phase.Notice.{Notice}
 use Rattle.fi_parts.specs.declared.phase.Notice.TheVariants.{Tell, Renew}
 use Rattle.fi_parts.specs.Noticed.{phase_after}
-use Rattle.fi_parts.specs.Places.{IsPlaceRule, registered_rule}
+use Rattle.fi_parts.specs.PlaceRules.{IsPlaceRule, registered_rule}
 use Rattle.fi_parts.specs.Order.{holds, Apart}
 use Rattle.fi_parts.specs.Pairs.{has, without_pair, PairsApart}
 use Rattle.fi_parts.specs.Waiting.{Waiters, Waiting, phase_in, phase_of, asks_in, is_registered, may_be_named, rephased, with_phase}

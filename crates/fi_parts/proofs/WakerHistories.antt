@@ -6,18 +6,19 @@ use Rattle.fi_parts.specs.declared.phase.Phase.{Phase}
 use Rattle.fi_parts.specs.declared.phase.Phase.TheVariants.{Fresh, Registered, Told, Complete, Ended}
 use Rattle.fi_parts.specs.Order.{holds}
 use Rattle.fi_parts.specs.Pairs.{without_pair, waker_of, oldest}
-use Rattle.fi_parts.specs.Places.{IsPlaceRule}
+use Rattle.fi_parts.specs.PlaceRules.{IsPlaceRule}
 use Rattle.fi_parts.specs.Waiting.{Waiting, phase_of, named, displaced_from, AreSoundBy}
 use Rattle.fi_parts.proofs.Waiting.{Becomes}
 use Rattle.fi_parts.proofs.Notified.{phases-notified}
-use Rattle.fi_parts.specs.WakerHistory.{WakerEffect, IsIn, gives, last_waker, last_waker_step, handed_since, handed_step, HasWaker}
+use Rattle.fi_parts.specs.WakerHistory.{WakerChange, IsIn, gives, last_waker, last_waker_step, handed_since, handed_step, HasWaker}
 use Rattle.fi_parts.specs.WakerHistory.{KeepsWakers}
-use Rattle.fi_parts.specs.WakerHistory.WakerEffect.{Pends, Leaves, Gives, NoEffect}
+use Rattle.fi_parts.specs.WakerHistory.WakerChange.{Pends, Leaves, Gives, NoEffect}
 use Rattle.fi_parts.specs.Effects.{WaiterEffect, TakesEffect}
 use Rattle.fi_parts.specs.Effects.WaiterEffect.{NoChange, Inserts, Registers, RegistersApart, KeepsWaiting, Ends, EndsPlaced, Renews}
 use Rattle.fi_parts.specs.Effects.WaiterEffect.{NotifiesOldest, NotifiesAll, NotifiesListed, NotifiesFront, PopsOldest, AndThen}
 use Rattle.fi_parts.specs.Effects.WaiterEffect.{Asks, Removes, CompletesOldest}
-use Rattle.fi_parts.specs.Machine.{Machine, HasSoundWaitersBy, AllowsBasics, AllowsEffect, waker_effect, WaiterRules, Line}
+use Rattle.fi_parts.specs.Machine.{Machine, HasSoundWaitersBy, AllowsBasics}
+use Rattle.fi_parts.specs.MachineTable.{AllowsEffect, waker_change, WaiterRules, TableLine}
 use Rattle.fi_parts.proofs.PairsWithin.{none_some, some_same, if_true, if_false, in_append_left, in_append_right, in_without, in_waker_of}
 use Rattle.fi_parts.proofs.PairsWithin.{in_named, oldest_or_rest}
 use Rattle.fi_parts.proofs.Oldest.{phase-with_asks, sound_by-exchange}
@@ -30,13 +31,13 @@ module _ {D W : Type 0} where
   OthersStay name old new = (q : ℕ) (waker : W) → name ≢ q → HasWaker old q waker → HasWaker new q waker
 
   -- what a step with this effect on the wakers keeps
-  abbrev pub CarriesOn : WakerEffect W → Waiting D W → Waiting D W → Type 0
+  abbrev pub CarriesOn : WakerChange W → Waiting D W → Waiting D W → Type 0
   CarriesOn (Pends name waker) old new = HasWaker new name waker × OthersStay name old new
   CarriesOn (Leaves name) old new = OthersStay name old new
   CarriesOn (Gives waker) old new = (q : ℕ) (v : W) → HasWaker old q v → HasWaker new q v ⊎ (waker ≡ v)
   CarriesOn NoEffect old new = (q : ℕ) (v : W) → HasWaker old q v → HasWaker new q v
 
-  kept_by : (on_wakers : WakerEffect W) (old new : Waiting D W) (last : ℕ → Option W) (handed : ℕ → List W) →
+  kept_by : (on_wakers : WakerChange W) (old new : Waiting D W) (last : ℕ → Option W) (handed : ℕ → List W) →
       ((q : ℕ) (w : W) → last q ≡ Some w → HasWaker old q w ⊎ IsIn w (handed q)) → CarriesOn on_wakers old new →
       (q : ℕ) (w : W) → last_waker_step q on_wakers (last q) ≡ Some w → HasWaker new q w ⊎ IsIn w (handed_step q on_wakers (handed q))
   kept_by (Pends name waker) old new last handed kept on q w is = elim (cases_eq name q) [
@@ -103,7 +104,7 @@ module _ {D W : Type 0} where
   ]
 
   -- a second effect that names futures alone
-  pub and_then : (on_wakers : WakerEffect W) (old mid new : Waiting D W) → CarriesOn on_wakers old mid → CarriesOn NoEffect mid new →
+  pub and_then : (on_wakers : WakerChange W) (old mid new : Waiting D W) → CarriesOn on_wakers old mid → CarriesOn NoEffect mid new →
       CarriesOn on_wakers old new
   and_then (Pends name waker) old mid new one other = (other name waker one.0, λ q w ne has. other q w (one.1 q w ne has))
   and_then (Leaves name) old mid new one other = λ q w ne has. other q w (one q w ne has)
@@ -117,7 +118,7 @@ module _ {D W : Type 0} where
     -- Which waker a pending poll had is registered, or named, or handed out.
     pub carries : (effect : WaiterEffect D W) (old new : Waiting D W) → AllowsEffect rule known old effect →
         AreSoundBy place known old.side old.out → TakesEffect effect old new → After effect old new → CarriesOn
-        (waker_effect effect) old new
+        (waker_change effect) old new
     carries NoChange old new is was taken now = λ q v has. rw taken has
     carries (Inserts name asks) old new is was taken now = λ q v ne has. elim has [
       | inl there ↦ inl (now.others q (λ e. ne (sym e)) ∙ there)
@@ -150,9 +151,9 @@ module _ {D W : Type 0} where
         let mid = taken.0 in
         let sound = effect_sound rule known knows one old mid is.0 was taken.1 in
         let allows = is.1 mid taken.1 in
-        and_then (waker_effect one) old mid new
+        and_then (waker_change one) old mid new
         (carries one old mid is.0 was taken.1 (effect_after rule known knows one old mid is.0 was taken.1))
-        (subst (λ (d : WakerEffect W). CarriesOn d mid new) is.2
+        (subst (λ (d : WakerChange W). CarriesOn d mid new) is.2
         (carries other mid new allows sound taken.2 (effect_after rule known knows other mid new allows sound taken.2)))
 
   at_first : (name : ℕ) (waker : W) (phase : Option (Phase W)) (first : Waiting D W) → phase_of first.side name ≡ phase →
@@ -165,23 +166,23 @@ module _ {D W : Type 0} where
   at_first name waker (Some Complete) first stood is = inr (in_waker_of name waker first.out is)
   at_first name waker (Some Ended) first stood is = inr (in_waker_of name waker first.out is)
 
-  pub kept_at_first : {E : Type 0} (waker_effect : E → WakerEffect W) (first : Waiting D W) → KeepsWakers waker_effect first [] first
-  kept_at_first waker_effect first name waker is = inl (at_first name waker (phase_of first.side name) first refl is)
+  pub kept_at_first : {E : Type 0} (waker_change : E → WakerChange W) (first : Waiting D W) → KeepsWakers waker_change first [] first
+  kept_at_first waker_change first name waker is = inl (at_first name waker (phase_of first.side name) first refl is)
 
   -- A step that carries on keeps the wakers of the pending polls.
-  pub carried_keeps_wakers : {E : Type 0} (waker_effect : E → WakerEffect W) (first : Waiting D W) (history : List E) (entry : E)
-      (old new : Waiting D W) → CarriesOn (waker_effect entry) old new →
-      KeepsWakers waker_effect first history old → KeepsWakers waker_effect first (entry ∷ history) new
-  carried_keeps_wakers waker_effect first history entry old new on kept =
-      kept_by (waker_effect entry) old new (λ n. last_waker waker_effect first n history) (λ n. handed_since waker_effect n history) kept on
+  pub carried_keeps_wakers : {E : Type 0} (waker_change : E → WakerChange W) (first : Waiting D W) (history : List E) (entry : E)
+      (old new : Waiting D W) → CarriesOn (waker_change entry) old new →
+      KeepsWakers waker_change first history old → KeepsWakers waker_change first (entry ∷ history) new
+  carried_keeps_wakers waker_change first history entry old new on kept =
+      kept_by (waker_change entry) old new (λ n. last_waker waker_change first n history) (λ n. handed_since waker_change n history) kept on
 
 module _ {S D W : Type 0} (rules : WaiterRules S D W) where
-  pub line_keeps_wakers : {E : Type 0} (waker_effect : E →
-      WakerEffect W) (first : Waiting D W) (history : List E) (entry : E) (old new : Machine S D W) →
-      HasSoundWaitersBy rules.place rules.phases old → Line rules (waker_effect entry) old new →
-      KeepsWakers waker_effect first history old.waiting → KeepsWakers waker_effect first (entry ∷ history) new.waiting
-  line_keeps_wakers waker_effect first history entry old new was row kept =
+  pub line_keeps_wakers : {E : Type 0} (waker_change : E →
+      WakerChange W) (first : Waiting D W) (history : List E) (entry : E) (old new : Machine S D W) →
+      HasSoundWaitersBy rules.place rules.phases old → TableLine rules (waker_change entry) old new →
+      KeepsWakers waker_change first history old.waiting → KeepsWakers waker_change first (entry ∷ history) new.waiting
+  line_keeps_wakers waker_change first history entry old new was row kept =
       let now = effect_after rules.places rules.phases rules.known row.effect old.waiting new.waiting row.allows was row.steps.1 in
       let on = carries rules.places rules.phases rules.known row.effect old.waiting new.waiting row.allows was row.steps.1 now in
-      carried_keeps_wakers waker_effect first history entry old.waiting new.waiting
-      (subst (λ (d : WakerEffect W). CarriesOn d old.waiting new.waiting) row.effect_is on) kept
+      carried_keeps_wakers waker_change first history entry old.waiting new.waiting
+      (subst (λ (d : WakerChange W). CarriesOn d old.waiting new.waiting) row.effect_is on) kept

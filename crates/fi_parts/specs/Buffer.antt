@@ -1,6 +1,5 @@
 -- What a contract sees of a bounded buffer.
-use Rattle.std.specs.Prelude.{ℕ, ◌*◌, ◌≤◌, List, [], ◌∷◌, ◌++◌, length, min, max, nat_lt, if◌then◌else◌, Option, Some, None, refl}
-use Rattle.std.specs.Coded.{Coded, code_by, coded×, coded_list, coded_ℕ}
+use Rattle.std.specs.Prelude.{ℕ, ◌*◌, ◌≤◌, List, [], ◌∷◌, ◌++◌, length, min, max, nat_lt, if◌then◌else◌, Option, Some, None}
 use Rattle.circular_buffer.specs.Buffer.{Buffer, buffer}
 
 -- the items, oldest first; how many there may be; and how many fit the memory that the buffer has
@@ -10,10 +9,6 @@ pub record Bounded (T : Type 0) : Type 0 where
   pub reserved : ℕ
 
 module _ {T : Type 0} where
-  abbrev pub bounded_code : Coded T → Coded (Bounded T)
-  bounded_code c = code_by (List T × (ℕ × ℕ)) (coded× (coded_list c) (coded× coded_ℕ coded_ℕ)) (λ b. (b.items, (b.capacity, b.reserved)))
-      (λ p. record { items = p.0; capacity = p.1.0; reserved = p.1.1 }) (λ _. refl)
-
   -- The items fit what is reserved, and that fits the capacity.
   abbrev pub Fits : Bounded T → Type 0
   Fits b = (length b.items ≤ b.reserved) × (b.reserved ≤ b.capacity)

@@ -1,5 +1,5 @@
 -- What a call does to the futures that wait.
-use Rattle.std.specs.Prelude.{◌≡◌, ℕ, Bool, true, false, Option, None, List, [], ◌∷◌, ◌++◌, drop}
+use Rattle.std.specs.Prelude.{◌≡◌, ℕ, Bool, true, Option, None, List, [], ◌∷◌, ◌++◌, drop}
 use Rattle.fi_parts.specs.declared.phase.Phase.{Phase}
 use Rattle.fi_parts.specs.declared.phase.Phase.TheVariants.{Fresh, Complete, Ended}
 use Rattle.fi_parts.specs.declared.phase.Notice.{Notice}
@@ -118,10 +118,3 @@ module _ {D W : Type 0} where
   -- nothing lives, and nobody is to be woken
   abbrev pub nobody : Waiting D W
   nobody = record { side = no_futures; out = [] }
-
--- by such an effect alone, nobody asks for something else
-abbrev pub keeps_asks : {D W : Type 0} → WaiterEffect D W → Bool
-keeps_asks (Asks name asks) = false
-keeps_asks (CompletesOldest name asks) = false
-keeps_asks (AndThen one other) = false
-keeps_asks effect = true

@@ -1,7 +1,12 @@
+pub mod BufferCode
 pub mod Faults
 pub mod Closed
+pub mod MachineCode
+pub mod MachineTable
 pub mod Order
 pub mod Links
+pub mod OutboxCode
+pub mod PlaceRules
 pub mod Placed
 pub mod Neighbour
 pub mod BlockOwner

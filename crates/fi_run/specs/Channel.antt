@@ -11,7 +11,8 @@ use Rattle.fi_channels.specs.declared.channel_errors.TrySendError.TheVariants as
 use Rattle.fi_channels.specs.declared.channel_fields.ReceiveKind.TheVariants as kinds
 use Rattle.fi_channels.specs.Channel.{ChannelMachine, opened, can_send, can_receive, can_stream, IsGrowing}
 use Rattle.fi_channels.specs.Channel.{send_phase, receive_phase, kind_of, next_of, MakesSend, MakesReceive, PollsSend}
-use Rattle.fi_channels.specs.Channel.{PollsReceive, PollsNext, CancelsSend, CancelsReceive, TriesSend, TriesReceive, Closes}
+use Rattle.fi_channels.specs.Channel.{PollsReceive, PollsNext, CancelsSend, CancelsReceive, TriesSend, TriesReceive}
+use Rattle.fi_channels.specs.Channel.{Closes}
 use Rattle.fi_channels.specs.Channel.{Wakes, IsSound, OwesNoWake}
 use Rattle.fi_run.specs.Run.{AfterEveryRun}
 use Rattle.fi_run.specs.declared.answer.Answer.{Answer}

@@ -3,8 +3,8 @@
 use Rattle.std.specs.Prelude.{◌≡◌, ⊤, ℕ, ◌+◌, ◌==◌, if◌then◌else◌, Option, Some, List, [], ◌∷◌}
 use Rattle.fi_parts.specs.declared.phase.Phase.{Phase}
 use Rattle.fi_parts.specs.declared.phase.Phase.TheVariants.{Fresh, Ended}
-use Rattle.fi_parts.specs.WakerHistory.{WakerEffect, KeepsWakers}
-use Rattle.fi_parts.specs.WakerHistory.WakerEffect.{NoEffect}
+use Rattle.fi_parts.specs.WakerHistory.{WakerChange, KeepsWakers}
+use Rattle.fi_parts.specs.WakerHistory.WakerChange.{NoEffect}
 use Rattle.fi_channels.specs.declared.channel_fields.ReceiveKind.{ReceiveKind}
 use Rattle.fi_channels.specs.declared.channel_fields.ReceiveKind.TheVariants as kinds
 use Rattle.fi_channels.specs.Channel.{ChannelMachine, receive_phase, kind_of}
@@ -16,8 +16,8 @@ use Rattle.fi_run.specs.declared.channel.ChannelCall.TheVariants.{Send, Receive,
 use Rattle.fi_run.specs.declared.channel.ChannelCall.TheVariants.{CancelSend, CancelReceive, Close, NextWake}
 use Rattle.fi_run.specs.ChannelValues.{accepted, offered, received, Follows, ComeInOrder}
 use Rattle.fi_run.specs.StateHistory.{OpenFits}
-use Rattle.fi_run.specs.WakerEffects.{on_wakers}
-use Rattle.fi_run.specs.WakerEffects.Subject.{Polling, Cancelling, Other}
+use Rattle.fi_run.specs.WakerChanges.{on_wakers}
+use Rattle.fi_run.specs.WakerChanges.Subject.{Polling, Cancelling, Other}
 
 -- What the last poll of a live stream gave: an item, the end, or neither.
 pub data LastNext : Type 0 where
@@ -88,7 +88,7 @@ module _ {T W : Type 0} where
       (receive_phase now name)
 
   -- what a call with its answer is to the wakers of the sends, and of the receives
-  abbrev pub on_send_wakers : ChannelCall T W → Answer T W → WakerEffect W
+  abbrev pub on_send_wakers : ChannelCall T W → Answer T W → WakerChange W
   on_send_wakers call (Refused fault) = NoEffect
   on_send_wakers (Send value) answer = on_wakers Other answer
   on_send_wakers (PollSend slot waker) answer = on_wakers (Polling slot.0 waker) answer
@@ -96,7 +96,7 @@ module _ {T W : Type 0} where
   on_send_wakers NextWake answer = on_wakers Other answer
   on_send_wakers call answer = NoEffect
 
-  abbrev pub on_receive_wakers : ChannelCall T W → Answer T W → WakerEffect W
+  abbrev pub on_receive_wakers : ChannelCall T W → Answer T W → WakerChange W
   on_receive_wakers call (Refused fault) = NoEffect
   on_receive_wakers Receive answer = on_wakers Other answer
   on_receive_wakers Stream answer = on_wakers Other answer

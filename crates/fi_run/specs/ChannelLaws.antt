@@ -21,7 +21,8 @@ use Rattle.fi_channels.specs.declared.channel_errors.SendFault.TheVariants as se
 use Rattle.fi_channels.specs.declared.channel_errors.TryReceiveError.{TryReceiveError}
 use Rattle.fi_channels.specs.declared.channel_errors.TrySendError.TheVariants as not_sent
 use Rattle.fi_channels.specs.declared.channel_fields.ReceiveKind.TheVariants as kinds
-use Rattle.fi_channels.specs.Channel.{ChannelMachine, Buffered, rules, has_room, next_value, next_of, send_phase, receive_phase}
+use Rattle.fi_channels.specs.Channel.{ChannelMachine, Buffered, rules, has_room, next_value, next_of, send_phase}
+use Rattle.fi_channels.specs.Channel.{receive_phase}
 use Rattle.fi_channels.specs.Channel.{value_of, Stores, FreshSends, SendsAs, TakesNext, ReceivesAs}
 use Rattle.fi_channels.specs.Channel.{StreamsAs, CancelsReceiveAs, TriesNext, ClosesAt, IsSound, OwesNoWake}
 use Rattle.fi_channels.specs.ChannelFields.{ChannelWaiters}
@@ -45,7 +46,8 @@ use Rattle.fi_run.specs.ChannelStreams.{streams_at_first, streams_stand, ends_ag
 use Rattle.fi_run.specs.ChannelValues.{Accepted, one_from, waits_with, withdrawn_by, released_by, accepts_once}
 use Rattle.fi_run.specs.ChannelValues.{offered_step, received_step}
 use Rattle.fi_run.specs.ChannelValues.{accepted_step, accepted, offered, received, Follows}
-use Rattle.fi_run.specs.Outgoing.{TakesOldest, two_sided_outgoing, pops_first}
+use Rattle.fi_run.specs.Outgoing.{TakesOldest, two_sided_outgoing}
+use Rattle.fi_run.specs.OutgoingLaws.{pops_first}
 use Rattle.fi_run.specs.StateHistory.{OpenFits}
 use Rattle.fi_run.specs.StateLaws.{close_counts, open_at_first}
 

@@ -9,7 +9,8 @@ use Rattle.fi_run.specs.declared.answer.Answer.TheVariants.{Made, Pending, Ready
 use Rattle.fi_run.specs.declared.event.EventCall.{EventCall}
 use Rattle.fi_run.specs.declared.event.EventCall.TheVariants.{Wait, Poll, Cancel, Set, Reset, IsSet, NextWake}
 use Rattle.fi_run.specs.Run.{AfterEveryRun}
-use Rattle.fi_channels.specs.Event.{EventMachine, opened, can_be_polled, Makes, Polls, Cancels, Sets, Resets, Wakes, IsSound, OwesNoWake}
+use Rattle.fi_channels.specs.Event.{EventMachine, opened, can_be_polled, Makes, Polls, Cancels, Sets, Resets, Wakes}
+use Rattle.fi_channels.specs.Event.{IsSound, OwesNoWake}
 
 module _ {W : Type 0} where
   -- when a call may be refused with this fault

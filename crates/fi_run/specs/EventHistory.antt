@@ -9,8 +9,8 @@ use Rattle.fi_run.specs.declared.answer.Answer.{Answer}
 use Rattle.fi_run.specs.declared.answer.Answer.TheVariants.{Made, Pending, Ready, Done, Refused}
 use Rattle.fi_run.specs.declared.event.EventCall.{EventCall}
 use Rattle.fi_run.specs.declared.event.EventCall.TheVariants.{Wait, Poll, Cancel, Set, Reset}
-use Rattle.fi_run.specs.WakerEffects.{Subject, on_wakers}
-use Rattle.fi_run.specs.WakerEffects.Subject.{Polling, Cancelling, Other}
+use Rattle.fi_run.specs.WakerChanges.{Subject, on_wakers}
+use Rattle.fi_run.specs.WakerChanges.Subject.{Polling, Cancelling, Other}
 
 abbrev pub first_seen : Option Bool → Bool → Option Bool
 first_seen None flag = Some flag

@@ -9,7 +9,8 @@ use Rattle.fi_parts.specs.declared.phase.Phase.TheVariants.{Fresh, Registered, T
 use Rattle.fi_parts.specs.declared.phase.Notice.TheVariants.{Tell}
 use Rattle.fi_parts.proofs.Waiting.{Becomes, noticed_phase}
 use Rattle.fi_parts.specs.Effects.WaiterEffect.{NoChange, Inserts, Registers, KeepsWaiting, Ends, Removes, NotifiesAll, PopsOldest}
-use Rattle.fi_parts.specs.Machine.{phase_at, Line}
+use Rattle.fi_parts.specs.Machine.{phase_at}
+use Rattle.fi_parts.specs.MachineTable.{TableLine}
 use Rattle.fi_parts.proofs.Machines.{line_preserves, unchanged, inserts, removes, pops, phases_after, history_by, apart_noticed}
 use Rattle.fi_parts.proofs.WakerHistories.{line_keeps_wakers, kept_at_first}
 use Rattle.fi_channels.specs.Event.{EventMachine, PollsAs, SetsFrom, IsSound, OwesNoWake}
@@ -19,8 +20,9 @@ use Rattle.fi_run.specs.declared.answer.Answer.{Answer}
 use Rattle.fi_run.specs.declared.answer.Answer.TheVariants.{Made, Pending, Ready, Done, Flag, Woken, Refused}
 use Rattle.fi_run.specs.declared.event.EventCall.{EventCall}
 use Rattle.fi_run.specs.declared.event.EventCall.TheVariants.{Wait, Poll, Cancel, Set, Reset, IsSet, NextWake}
-use Rattle.fi_run.specs.Outgoing.{TakesOldest, machine_outgoing, pops_oldest}
-use Rattle.fi_run.specs.WakerEffects.{on_wakers}
+use Rattle.fi_run.specs.Outgoing.{TakesOldest, machine_outgoing}
+use Rattle.fi_run.specs.OutgoingLaws.{pops_oldest}
+use Rattle.fi_run.specs.WakerChanges.{on_wakers}
 use Rattle.fi_run.specs.Event.{Opens, Step}
 use Rattle.fi_run.specs.EventHistory.{subject, flag_step, first_seen, set_from_then, seen_by, seen_step, was_set_since_first_poll}
 use Rattle.fi_run.specs.EventHistory.{PollIsRight, HistoryHolds}
@@ -40,7 +42,7 @@ told_seen (Some Ended) = refl
 module _ {W : Type 0} where
   -- Each step is a line of the table.
   pub event_is_line : (old : EventMachine W) (call : EventCall W) (answer : Answer ℕ W) (new : EventMachine W) → Step old call answer new →
-      Line rules (on_wakers (subject call) answer) old new
+      TableLine rules (on_wakers (subject call) answer) old new
   event_is_line old call (Refused fault) new did = unchanged rules old new did.1
   event_is_line old Wait (Made slot) new did = inserts rules slot.0 tt old new did
   event_is_line old (Poll slot waker) Ready new did = (laws.polled old slot.0 waker (polled.Ready tt) new did).line

@@ -1,6 +1,8 @@
+pub mod OutgoingLaws
+pub mod PoolCode
 pub mod Run
 pub mod Script
-pub mod WakerEffects
+pub mod WakerChanges
 pub mod FirstPolls
 pub mod Outgoing
 pub mod Event

@@ -4,7 +4,8 @@ use Rattle.futures.specs.declared.task.Poll.TheVariants as polled
 use Rattle.fi_parts.specs.declared.errors.Fault.{Fault}
 use Rattle.fi_parts.specs.declared.errors.Fault.TheVariants.{NoMemory, NoSlot, NotHeld}
 use Rattle.fi_parts.specs.Machine.{phase_at}
-use Rattle.fi_locks.specs.Mutex.{MutexMachine, opened, is_free, can_be_polled, Makes, Polls, Cancels, TriesLock, Unlocks, Wakes}
+use Rattle.fi_locks.specs.Mutex.{MutexMachine, opened, is_free, can_be_polled, Makes, Polls, Cancels, TriesLock}
+use Rattle.fi_locks.specs.Mutex.{Unlocks, Wakes}
 use Rattle.fi_locks.specs.Mutex.{IsSound, OwesNoWake}
 use Rattle.fi_run.specs.Run.{AfterEveryRun}
 use Rattle.fi_run.specs.declared.answer.Answer.{Answer}

@@ -8,8 +8,8 @@ use Rattle.fi_run.specs.declared.answer.Answer.{Answer}
 use Rattle.fi_run.specs.declared.answer.Answer.TheVariants.{Pending, Item, Done, Back, Refused}
 use Rattle.fi_run.specs.declared.mutex.MutexCall.{MutexCall}
 use Rattle.fi_run.specs.declared.mutex.MutexCall.TheVariants.{Poll, Cancel, TryLock, Unlock}
-use Rattle.fi_run.specs.WakerEffects.{Subject, on_wakers}
-use Rattle.fi_run.specs.WakerEffects.Subject.{Polling, Cancelling, Other}
+use Rattle.fi_run.specs.WakerChanges.{Subject, on_wakers}
+use Rattle.fi_run.specs.WakerChanges.Subject.{Polling, Cancelling, Other}
 
 module _ {T W : Type 0} where
   abbrev pub value_step : MutexCall T W → Answer T W → Option T → Option T

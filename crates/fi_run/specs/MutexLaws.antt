@@ -14,8 +14,9 @@ use Rattle.fi_run.specs.declared.answer.Answer.{Answer}
 use Rattle.fi_run.specs.declared.answer.Answer.TheVariants.{Made, Pending, Item, Nothing, Done, Flag, Woken, Back, Refused}
 use Rattle.fi_run.specs.declared.mutex.MutexCall.{MutexCall}
 use Rattle.fi_run.specs.declared.mutex.MutexCall.TheVariants.{Lock, Poll, Cancel, TryLock, Unlock, IsLocked, NextWake}
-use Rattle.fi_run.specs.Outgoing.{TakesOldest, machine_outgoing, pops_oldest}
-use Rattle.fi_run.specs.WakerEffects.{on_wakers}
+use Rattle.fi_run.specs.Outgoing.{TakesOldest, machine_outgoing}
+use Rattle.fi_run.specs.OutgoingLaws.{pops_oldest}
+use Rattle.fi_run.specs.WakerChanges.{on_wakers}
 use Rattle.fi_run.specs.Mutex.{Opens, Step}
 use Rattle.fi_run.specs.MutexHistory.{value_step, IsGrantOf, waiting_step, IsInTurn}
 use Rattle.fi_run.specs.MutexHistory.{subject, HistoryHolds}

@@ -5,7 +5,8 @@ use Rattle.fi_parts.specs.declared.errors.CloseStatus.TheVariants.{NewlyClosed, 
 use Rattle.fi_parts.specs.declared.errors.Fault.{Fault}
 use Rattle.fi_parts.specs.declared.errors.Fault.TheVariants.{NoMemory, NoSlot, Closed}
 use Rattle.fi_parts.specs.Machine.{phase_at}
-use Rattle.fi_channels.specs.Oneshot.{OneshotMachine, Giving, opened, can_receive, MayLack, Makes, Polls, Cancels, Sends, Closes, Wakes}
+use Rattle.fi_channels.specs.Oneshot.{OneshotMachine, Giving, opened, can_receive, MayLack, Makes, Polls, Cancels}
+use Rattle.fi_channels.specs.Oneshot.{Sends, Closes, Wakes}
 use Rattle.fi_channels.specs.Oneshot.{IsSound, OwesNoWake}
 use Rattle.fi_run.specs.Run.{AfterEveryRun}
 use Rattle.fi_run.specs.declared.answer.Answer.{Answer}

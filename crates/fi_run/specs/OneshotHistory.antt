@@ -10,8 +10,8 @@ use Rattle.fi_run.specs.declared.answer.Answer.{Answer}
 use Rattle.fi_run.specs.declared.answer.Answer.TheVariants.{Item, Done, Newly, Refused}
 use Rattle.fi_run.specs.declared.oneshot.OneshotCall.{OneshotCall}
 use Rattle.fi_run.specs.declared.oneshot.OneshotCall.TheVariants.{Poll, Cancel, Send, Close}
-use Rattle.fi_run.specs.WakerEffects.{Subject, on_wakers}
-use Rattle.fi_run.specs.WakerEffects.Subject.{Polling, Cancelling, Other}
+use Rattle.fi_run.specs.WakerChanges.{Subject, on_wakers}
+use Rattle.fi_run.specs.WakerChanges.Subject.{Polling, Cancelling, Other}
 
 module _ {T : Type 0} where
   -- one value was put in and received

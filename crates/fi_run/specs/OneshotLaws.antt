@@ -11,7 +11,8 @@ use Rattle.fi_parts.specs.declared.errors.Fault.TheVariants.{Closed, NoMemory, N
 use Rattle.fi_parts.specs.declared.errors.Slot.{Slot}
 use Rattle.fi_parts.specs.declared.phase.Phase.{Phase}
 use Rattle.fi_parts.specs.declared.phase.Phase.TheVariants.{Fresh, Registered}
-use Rattle.fi_parts.specs.Machine.{phase_at, Line}
+use Rattle.fi_parts.specs.Machine.{phase_at}
+use Rattle.fi_parts.specs.MachineTable.{TableLine}
 use Rattle.fi_parts.specs.Waiting.{is_registered}
 use Rattle.fi_parts.specs.WakerHistory.{IsIn}
 use Rattle.fi_parts.proofs.Machines.{line_preserves, unchanged, inserts, removes, pops}
@@ -26,8 +27,9 @@ use Rattle.fi_run.specs.declared.answer.Answer.{Answer}
 use Rattle.fi_run.specs.declared.answer.Answer.TheVariants.{Made, Pending, Item, Nothing, Done, Newly, Already, Woken, Back, Refused}
 use Rattle.fi_run.specs.declared.oneshot.OneshotCall.{OneshotCall}
 use Rattle.fi_run.specs.declared.oneshot.OneshotCall.TheVariants.{Receive, Poll, Cancel, Send, Close, NextWake}
-use Rattle.fi_run.specs.Outgoing.{TakesOldest, machine_outgoing, pops_oldest}
-use Rattle.fi_run.specs.WakerEffects.{on_wakers}
+use Rattle.fi_run.specs.Outgoing.{TakesOldest, machine_outgoing}
+use Rattle.fi_run.specs.OutgoingLaws.{pops_oldest}
+use Rattle.fi_run.specs.WakerChanges.{on_wakers}
 use Rattle.fi_run.specs.Oneshot.{Step, Opens}
 use Rattle.fi_run.specs.OneshotHistory.{subject, accepted, received, new_closes, Fits, ContentFits, GivesOnce, IsSettledOnce}
 use Rattle.fi_run.specs.OneshotHistory.{GivesOf, DeliversAfter, WasPutIn, HistoryHolds}
@@ -85,7 +87,7 @@ module _ {T W : Type 0} where
 module _ {T W : Type 0} (giving : Giving T) where
   -- Each step is a line of the table.
   is_line : (old : OneshotMachine T W) (call : OneshotCall T W) (answer : Answer T W) (new : OneshotMachine T W) →
-      Step giving old call answer new → Line rules (on_wakers (subject call) answer) old new
+      Step giving old call answer new → TableLine rules (on_wakers (subject call) answer) old new
   is_line old call (Refused fault) new did = unchanged rules old new did.1
   is_line old Receive (Made slot) new did = inserts rules slot.0 tt old new did
   is_line old (Poll slot waker) Pending new did = (laws.polled giving old slot.0 waker polled.Pending new did).line

@@ -1,14 +1,13 @@
 -- The machine of a worker pool, as a table of calls and answers.
-use Rattle.std.specs.Prelude.{◌≡◌, ◌<◌, ◌≤◌, ◌+◌, ◌-◌, ◌==◌, ◌&&◌, not, ℕ, Bool, true, false, refl, None, List, [], ◌∷◌}
-use Rattle.std.specs.Coded.{Coded, code_by, coded×, coded_ℕ}
+use Rattle.std.specs.Prelude.{◌≡◌, ◌<◌, ◌≤◌, ◌+◌, ◌-◌, ◌==◌, ◌&&◌, not, ℕ, Bool, true, false, None, List, [], ◌∷◌}
 use Rattle.futures.specs.declared.task.Poll.TheVariants as polled
 use Rattle.fi_parts.specs.declared.errors.Fault.{Fault}
 use Rattle.fi_parts.specs.declared.errors.Fault.TheVariants.{NoMemory, NoSlot, Closed, Full, Empty, NotHeld}
 use Rattle.fi_parts.specs.Buffer.{Bounded, Fits, empty, popped}
 use Rattle.fi_parts.specs.Machine.{phase_at}
-use Rattle.fi_channels.specs.Channel.{Buffered, buffered_code, Stores, IsGrowing, has_room, with_buffer, closed}
+use Rattle.fi_channels.specs.Channel.{Buffered, Stores, IsGrowing, has_room, with_buffer, closed}
 use Rattle.fi_channels.specs.Event as event
-use Rattle.fi_channels.specs.Event.{EventMachine, event_code}
+use Rattle.fi_channels.specs.Event.{EventMachine}
 use Rattle.fi_run.specs.Outgoing.{Outgoing, machine_outgoing}
 use Rattle.fi_run.specs.Run.{AfterEveryRun}
 use Rattle.fi_run.specs.declared.answer.Answer.{Answer}
@@ -23,12 +22,6 @@ pub record PoolMachine (W : Type 0) : Type 0 where
   pub limit : ℕ
   pub running : ℕ
   pub drained : EventMachine W
-
-abbrev pub pool_code : {W : Type 0} → Coded W → Coded (PoolMachine W)
-pool_code {W} w = code_by (Buffered ℕ × (ℕ × (ℕ × EventMachine W)))
-    (coded× (buffered_code coded_ℕ) (coded× coded_ℕ (coded× coded_ℕ (event_code w))))
-    (λ p. (p.jobs, (p.limit, (p.running, p.drained))))
-    (λ p. record { jobs = p.0; limit = p.1.0; running = p.1.1.0; drained = p.1.1.1 }) (λ _. refl)
 
 abbrev pub is_none_left : List ℕ → Bool
 is_none_left [] = true

@@ -5,8 +5,8 @@ use Rattle.fi_run.specs.declared.answer.Answer.{Answer}
 use Rattle.fi_run.specs.declared.answer.Answer.TheVariants.{Item, Done, Refused}
 use Rattle.fi_run.specs.declared.pool.PoolCall.{PoolCall}
 use Rattle.fi_run.specs.declared.pool.PoolCall.TheVariants.{Submit, Start, Finish, Poll, Cancel}
-use Rattle.fi_run.specs.WakerEffects.{Subject, on_wakers}
-use Rattle.fi_run.specs.WakerEffects.Subject.{Polling, Cancelling, Other}
+use Rattle.fi_run.specs.WakerChanges.{Subject, on_wakers}
+use Rattle.fi_run.specs.WakerChanges.Subject.{Polling, Cancelling, Other}
 use Rattle.fi_run.specs.Pool.{PoolMachine}
 
 module _ {W : Type 0} where

@@ -3,8 +3,8 @@ use Rattle.std.specs.Prelude.{◌≡◌, ◌<◌, ◌≤◌, ◌+◌, ◌-◌, �
 use Rattle.std.proofs.Common.{sym, ◌∙◌, ap, subst, arith, append_assoc, length-append}
 use Rattle.std.proofs.lemmas.List.{append-nil}
 use Rattle.fi_parts.specs.Buffer.{Fits, popped, empty}
-use Rattle.fi_parts.specs.Machine.{Line}
-use Rattle.fi_parts.specs.WakerHistory.WakerEffect.{NoEffect}
+use Rattle.fi_parts.specs.MachineTable.{TableLine}
+use Rattle.fi_parts.specs.WakerHistory.WakerChange.{NoEffect}
 use Rattle.fi_parts.proofs.Machines.{line_preserves, unchanged}
 use Rattle.fi_parts.proofs.WakerHistories.{line_keeps_wakers, kept_at_first}
 use Rattle.fi_channels.specs.Channel.{Buffered, with_buffer, closed}
@@ -17,9 +17,11 @@ use Rattle.fi_run.specs.declared.event.EventCall.TheVariants as waits
 use Rattle.fi_run.specs.declared.pool.PoolCall.{PoolCall}
 use Rattle.fi_run.specs.declared.pool.PoolCall.TheVariants.{Submit, Start, Finish, Shutdown, Wait, Poll, Cancel, NextWake}
 use Rattle.fi_run.specs.EventLaws.{event_is_line, flag_after_step}
-use Rattle.fi_run.specs.Outgoing.{TakesOldest, pops_oldest}
-use Rattle.fi_run.specs.WakerEffects.{on_wakers}
-use Rattle.fi_run.specs.Pool.{PoolMachine, is_drained, is_none_left, opened, SetsIf, Accepts, Starts, Finishes, Shuts, KeepsJobs, Step}
+use Rattle.fi_run.specs.Outgoing.{TakesOldest}
+use Rattle.fi_run.specs.OutgoingLaws.{pops_oldest}
+use Rattle.fi_run.specs.WakerChanges.{on_wakers}
+use Rattle.fi_run.specs.Pool.{PoolMachine, is_drained, is_none_left, opened, SetsIf, Accepts, Starts, Finishes, Shuts}
+use Rattle.fi_run.specs.Pool.{KeepsJobs, Step}
 use Rattle.fi_run.specs.Pool.{Opens, IsSound, OwesNoWake, pool_outgoing}
 use Rattle.fi_run.specs.PoolHistory.{accepted_step, started_step, finished_step, accepted_jobs, started_jobs, finished_count}
 use Rattle.fi_run.specs.PoolHistory.{subject, HistoryHolds}
@@ -144,16 +146,16 @@ module _ {W : Type 0} where
 
   -- the event of a pool that went on to this one
   same_event : (old new : PoolMachine W) (is : PoolMachine W) → new ≡ is → is.drained ≡ old.drained →
-      Line rules NoEffect old.drained new.drained
+      TableLine rules NoEffect old.drained new.drained
   same_event old new is now same = unchanged rules old.drained new.drained (ap (λ (p : PoolMachine W). p.drained) now ∙ same)
 
-  set_if : (test : Bool) (old new : EventMachine W) → SetsIf test old new → Line rules NoEffect old new
+  set_if : (test : Bool) (old new : EventMachine W) → SetsIf test old new → TableLine rules NoEffect old new
   set_if true old new did = was_set old new did
   set_if false old new did = unchanged rules old new did
 
   -- Each step is a line of the event's table.
   is_line : (old : PoolMachine W) (call : PoolCall W) (answer : Answer ℕ W) (new : PoolMachine W) → Step old call answer new →
-      Line rules (on_wakers (subject call) answer) old.drained new.drained
+      TableLine rules (on_wakers (subject call) answer) old.drained new.drained
   is_line old call (Refused fault) new did = same_event old new old did.1 refl
   is_line old (Submit job) Done new did = same_event old new _ did.4 refl
   is_line old (Submit job) (Back given fault) new did = same_event old new old did.2 refl

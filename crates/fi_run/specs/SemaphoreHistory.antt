@@ -3,7 +3,7 @@ use Rattle.std.specs.Prelude.{◌≡◌, ◌+◌, ◌⊎◌, ⊤, ℕ, true, Lis
 use Rattle.fi_parts.specs.Machine.{phase_at}
 use Rattle.fi_parts.specs.Order.{holds}
 use Rattle.fi_parts.specs.Places.{is_told}
-use Rattle.fi_parts.specs.WakerHistory.{WakerEffect, KeepsWakers}
+use Rattle.fi_parts.specs.WakerHistory.{WakerChange, KeepsWakers}
 use Rattle.fi_locks.specs.Semaphore.{SemaphoreMachine, need_of}
 use Rattle.fi_run.specs.declared.answer.Answer.{Answer}
 use Rattle.fi_run.specs.declared.answer.Answer.TheVariants.{Ready, Done, Refused}
@@ -11,8 +11,8 @@ use Rattle.fi_run.specs.declared.semaphore.SemaphoreCall.{SemaphoreCall}
 use Rattle.fi_run.specs.declared.semaphore.SemaphoreCall.TheVariants.{Poll, Cancel, TryAcquire, Release, Disarm}
 use Rattle.fi_run.specs.FirstPolls.{order_after}
 use Rattle.fi_run.specs.Semaphore.{Step}
-use Rattle.fi_run.specs.WakerEffects.{Subject, on_wakers}
-use Rattle.fi_run.specs.WakerEffects.Subject.{Polling, Cancelling, Other}
+use Rattle.fi_run.specs.WakerChanges.{Subject, on_wakers}
+use Rattle.fi_run.specs.WakerChanges.Subject.{Polling, Cancelling, Other}
 
 module _ {W : Type 0} where
   -- how many permits a release adds
@@ -50,7 +50,7 @@ module _ {W : Type 0} where
   subject (Cancel slot) = Cancelling slot.0
   subject call = Other
 
-  abbrev pub effect_of : SemaphoreCall W × Answer ℕ W → WakerEffect W
+  abbrev pub effect_of : SemaphoreCall W × Answer ℕ W → WakerChange W
   effect_of entry = on_wakers (subject entry.0) entry.1
 
   -- The futures that were polled and neither granted nor cancelled since, in the order of their first polls. Those that were

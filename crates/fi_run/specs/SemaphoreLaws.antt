@@ -2,7 +2,7 @@
 use Rattle.std.specs.Prelude.{◌≡◌, ◌+◌, ℕ, Bool, true, false, List, [], ◌∷◌, refl}
 use Rattle.std.proofs.Common.{sym, ◌∙◌, ap, subst, arith}
 use Rattle.futures.specs.declared.task.Poll.TheVariants as polled
-use Rattle.fi_parts.specs.Machine.{Line}
+use Rattle.fi_parts.specs.MachineTable.{TableLine}
 use Rattle.fi_parts.proofs.Machines.{unchanged}
 use Rattle.fi_parts.proofs.WakerHistories.{line_keeps_wakers, kept_at_first}
 use Rattle.fi_locks.specs.Semaphore.{SemaphoreMachine, need_of, IsSound, OwesNoWake}
@@ -15,8 +15,9 @@ use Rattle.fi_run.specs.declared.semaphore.SemaphoreCall.TheVariants.{Acquire, P
 use Rattle.fi_run.specs.declared.semaphore.SemaphoreCall.TheVariants.{GiveBack, Disarm}
 use Rattle.fi_run.specs.declared.semaphore.SemaphoreCall.TheVariants.{Permits, Held, NextWake}
 use Rattle.fi_run.specs.FirstPolls.{order_step}
-use Rattle.fi_run.specs.Outgoing.{TakesOldest, machine_outgoing, pops_oldest}
-use Rattle.fi_run.specs.WakerEffects.{on_wakers}
+use Rattle.fi_run.specs.Outgoing.{TakesOldest, machine_outgoing}
+use Rattle.fi_run.specs.OutgoingLaws.{pops_oldest}
+use Rattle.fi_run.specs.WakerChanges.{on_wakers}
 use Rattle.fi_run.specs.Semaphore.{Opens, Step}
 use Rattle.fi_run.specs.SemaphoreHistory.{released_by, disarmed_by, released, disarmed, IsFair, subject, effect_of}
 use Rattle.fi_run.specs.SemaphoreHistory.{AreToldInOrder, IsInTurn, NewcomersComeLast, HistoryHolds}
@@ -31,7 +32,7 @@ still_add_up permits after added taken released disarmed first was step = omega 
 module _ {W : Type 0} where
   -- Each step is a line of the table.
   is_line : (old : SemaphoreMachine W) (call : SemaphoreCall W) (answer : Answer ℕ W) (new : SemaphoreMachine W) → IsSound old →
-      Step old call answer new → Line (rules old.own.is_fair) (on_wakers (subject call) answer) old new
+      Step old call answer new → TableLine (rules old.own.is_fair) (on_wakers (subject call) answer) old new
   is_line old call (Refused fault) new was did = unchanged (rules old.own.is_fair) old new did.1
   is_line old (Acquire need) (Made slot) new was did = laws.inserted old new slot.0 need did
   is_line old (Poll slot waker) Pending new was did = (laws.polled old slot.0 waker polled.Pending new was did).line

@@ -9,7 +9,8 @@ use Rattle.fi_parts.specs.declared.phase.Phase.{Phase}
 use Rattle.fi_parts.specs.declared.phase.Phase.TheVariants.{Fresh, Registered, Told}
 use Rattle.fi_parts.specs.Effects.{WaiterEffect, TakesEffect}
 use Rattle.fi_parts.specs.Effects.WaiterEffect.{NoChange, EndsPlaced, Removes}
-use Rattle.fi_parts.specs.Machine.{phase_at, poll_effect}
+use Rattle.fi_parts.specs.Machine.{phase_at}
+use Rattle.fi_parts.specs.MachineTable.{poll_change}
 use Rattle.fi_parts.specs.Order.{holds, without}
 use Rattle.fi_parts.specs.Places.{is_told}
 use Rattle.fi_parts.specs.Waiting.{Waiting, is_queued}
@@ -209,7 +210,7 @@ module _ {W : Type 0} where
 
       module _ (name : ℕ) (waker : W) where
         abbrev Queued : Poll ℕ → Type 0
-        Queued answer = order_step (poll_effect name waker answer) old.waiting.side.queue ≡ new.waiting.side.queue
+        Queued answer = order_step (poll_change name waker answer) old.waiting.side.queue ≡ new.waiting.side.queue
 
         ends_queue : (need : ℕ) (answer : Poll ℕ) → answer ≡ Ready need →
             without name old.waiting.side.queue ≡ new.waiting.side.queue → Queued answer

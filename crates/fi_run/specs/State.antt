@@ -6,7 +6,8 @@ use Rattle.fi_parts.specs.declared.errors.Fault.{Fault}
 use Rattle.fi_parts.specs.declared.errors.Fault.TheVariants.{NoMemory, NoSlot, Closed}
 use Rattle.fi_parts.specs.Machine.{phase_at}
 use Rattle.fi_channels.specs.Oneshot.{can_receive}
-use Rattle.fi_channels.specs.StateBroadcast.{StateMachine, opened, newer_than, newer_at, MayLackClone, MayLackNewer, Makes, Polls}
+use Rattle.fi_channels.specs.StateBroadcast.{StateMachine, opened, newer_than, newer_at, MayLackClone, MayLackNewer}
+use Rattle.fi_channels.specs.StateBroadcast.{Makes, Polls}
 use Rattle.fi_channels.specs.StateBroadcast.{TriesReceive, Cancels, Sends, Closes, Wakes, IsSound, OwesNoWake}
 use Rattle.fi_run.specs.Run.{AfterEveryRun}
 use Rattle.fi_run.specs.declared.answer.Answer.{Answer}

@@ -8,8 +8,8 @@ use Rattle.fi_run.specs.declared.answer.Answer.{Answer}
 use Rattle.fi_run.specs.declared.answer.Answer.TheVariants.{Made, State, Done, Newly, Refused}
 use Rattle.fi_run.specs.declared.state.StateCall.{StateCall}
 use Rattle.fi_run.specs.declared.state.StateCall.TheVariants.{Receive, Poll, Cancel, TryReceive, Send, Close}
-use Rattle.fi_run.specs.WakerEffects.{Subject, on_wakers}
-use Rattle.fi_run.specs.WakerEffects.Subject.{Polling, Cancelling, Other}
+use Rattle.fi_run.specs.WakerChanges.{Subject, on_wakers}
+use Rattle.fi_run.specs.WakerChanges.Subject.{Polling, Cancelling, Other}
 
 module _ {T : Type 0} where
   -- the newest state after these sends, where this was the newest before

@@ -14,20 +14,24 @@ use Rattle.fi_parts.specs.declared.phase.Phase.TheVariants.{Fresh, Registered}
 use Rattle.fi_parts.specs.declared.phase.Notice.TheVariants.{Renew}
 use Rattle.fi_parts.specs.Waiting.{asks_of}
 use Rattle.fi_parts.specs.Effects.WaiterEffect.{NoChange, Inserts, Removes, NotifiesAll, PopsOldest}
-use Rattle.fi_parts.specs.Machine.{phase_at, Line}
+use Rattle.fi_parts.specs.Machine.{phase_at}
+use Rattle.fi_parts.specs.MachineTable.{TableLine}
 use Rattle.fi_parts.proofs.PairsWithin.{none_some, some_same, if_true, if_false}
 use Rattle.fi_parts.proofs.Machines.{unchanged, inserts, removes, pops, asks_after}
 use Rattle.fi_parts.proofs.WakerHistories.{line_keeps_wakers, kept_at_first}
-use Rattle.fi_channels.specs.StateBroadcast.{Newest, StateMachine, newer_than, newer_for, newer_at, can_send, with_next, CopyOf}
-use Rattle.fi_channels.specs.StateBroadcast.{FreshWaits, FreshPolls, PollsAs, Polls, SendsAt, ClosesAt, IsNumbered, IsSound, OwesNoWake}
+use Rattle.fi_channels.specs.StateBroadcast.{Newest, StateMachine, newer_than, newer_for, newer_at, can_send, with_next}
+use Rattle.fi_channels.specs.StateBroadcast.{CopyOf}
+use Rattle.fi_channels.specs.StateBroadcast.{FreshWaits, FreshPolls, PollsAs, Polls, SendsAt, ClosesAt, IsNumbered}
+use Rattle.fi_channels.specs.StateBroadcast.{IsSound, OwesNoWake}
 use Rattle.fi_channels.specs.StateLaws as laws
 use Rattle.fi_channels.specs.StateLaws.{rules, same_preserves, sends_preserve, closes_preserve, own_polled}
 use Rattle.fi_run.specs.declared.answer.Answer.{Answer}
 use Rattle.fi_run.specs.declared.answer.Answer.TheVariants.{Made, Pending, State, Nothing, Done, Newly, Already, Woken, Back, Refused}
 use Rattle.fi_run.specs.declared.state.StateCall.{StateCall}
 use Rattle.fi_run.specs.declared.state.StateCall.TheVariants.{Receive, Poll, Cancel, TryReceive, Send, Close, NextWake}
-use Rattle.fi_run.specs.Outgoing.{TakesOldest, machine_outgoing, pops_oldest}
-use Rattle.fi_run.specs.WakerEffects.{on_wakers}
+use Rattle.fi_run.specs.Outgoing.{TakesOldest, machine_outgoing}
+use Rattle.fi_run.specs.OutgoingLaws.{pops_oldest}
+use Rattle.fi_run.specs.WakerChanges.{on_wakers}
 use Rattle.fi_run.specs.State.{Step, Opens}
 use Rattle.fi_run.specs.StateHistory.{newest_after, IsCopyOf, OpenFits, sends_step, sends, asked_step, asked_by, IsNewest, GivesNewest}
 use Rattle.fi_run.specs.StateHistory.{closes_step, new_closes, subject, Counts, AsksAs, HistoryHolds}
@@ -131,7 +135,7 @@ module _ {T W : Type 0} where
 module _ {T W : Type 0} (is_clone : T → T → Type 0) (is_infallible : T → Type 0) where
   -- Each step is a line of the table.
   is_line : (old : StateMachine T W) (call : StateCall T W) (answer : Answer T W) (new : StateMachine T W) → IsNumbered old.own →
-      Step is_clone is_infallible old call answer new → Line rules (on_wakers (subject call) answer) old new
+      Step is_clone is_infallible old call answer new → TableLine rules (on_wakers (subject call) answer) old new
   is_line old call (Refused fault) new numbered did = unchanged rules old new did.1
   is_line old (Receive asked) (Made slot) new numbered did = inserts rules slot.0 asked old new did
   is_line old (Poll slot waker) Pending new numbered did = (laws.polled old slot.0 waker polled.Pending new is_clone numbered did).line
@@ -266,7 +270,7 @@ module _ {T W : Type 0} (is_clone : T → T → Type 0) (is_infallible : T → T
   state_keeps old call answer new sound no_wake did = keeps call answer did
     where
       line : (call : StateCall T W) (answer : Answer T W) → Step is_clone is_infallible old call answer new →
-          Line rules (on_wakers (subject call) answer) old new
+          TableLine rules (on_wakers (subject call) answer) old new
       line call answer did = is_line old call answer new sound.numbered did
 
       same : (call : StateCall T W) (answer : Answer T W) → Step is_clone is_infallible old call answer new → new.own ≡ old.own → Holds new

@@ -10,7 +10,8 @@ use Rattle.fi_run.specs.declared.answer.Answer.{Answer}
 use Rattle.fi_run.specs.declared.answer.Answer.TheVariants.{Made, Pending, Ready, Done, Moment, Woken, Refused}
 use Rattle.fi_run.specs.declared.timer.TimerCall.{TimerCall}
 use Rattle.fi_run.specs.declared.timer.TimerCall.TheVariants.{Deadline, Delay, Poll, Cancel, Check, Next, NextWake}
-use Rattle.fi_locks.specs.Timer.{TimerMachine, opened, expiry_after, can_be_polled, Makes, Polls, Cancels, Checks, Wakes}
+use Rattle.fi_locks.specs.Timer.{TimerMachine, opened, expiry_after, can_be_polled, Makes, Polls, Cancels, Checks}
+use Rattle.fi_locks.specs.Timer.{Wakes}
 use Rattle.fi_locks.specs.Timer.{IsSound, OwesNoWake}
 use Rattle.fi_run.specs.Run.{AfterEveryRun}
 

@@ -12,22 +12,25 @@ use Rattle.fi_parts.specs.declared.phase.Notice.TheVariants.{Tell}
 use Rattle.fi_parts.specs.Deadlines.{expiry_of}
 use Rattle.fi_parts.specs.Order.{holds}
 use Rattle.fi_parts.specs.Effects.WaiterEffect.{Inserts, RegistersApart, KeepsWaiting, Ends, Removes, NotifiesListed, PopsOldest}
-use Rattle.fi_parts.specs.Machine.{phase_at, Line}
+use Rattle.fi_parts.specs.Machine.{phase_at}
+use Rattle.fi_parts.specs.MachineTable.{TableLine}
 use Rattle.fi_parts.specs.Waiting.{asks_of, is_registered}
 use Rattle.fi_parts.proofs.Machines.{line_preserves, unchanged, inserts, removes, pops, phases_after, asks_after}
 use Rattle.fi_parts.proofs.Notified.{AllBecome}
 use Rattle.fi_parts.proofs.PairsWithin.{if_true, if_false}
 use Rattle.fi_parts.proofs.Waiting.{Becomes}
 use Rattle.fi_parts.proofs.WakerHistories.{line_keeps_wakers, kept_at_first}
-use Rattle.fi_locks.specs.Timer.{TimerMachine, expiry_after, Makes, PollsAs, Polls, Cancels, Checks, Wakes, IsSound, OwesNoWake}
+use Rattle.fi_locks.specs.Timer.{TimerMachine, expiry_after, Makes, PollsAs, Polls, Cancels, Checks, Wakes, IsSound}
+use Rattle.fi_locks.specs.Timer.{OwesNoWake}
 use Rattle.fi_locks.specs.TimerLaws as laws
 use Rattle.fi_locks.specs.TimerLaws.{rules}
 use Rattle.fi_run.specs.declared.answer.Answer.{Answer}
 use Rattle.fi_run.specs.declared.answer.Answer.TheVariants.{Made, Pending, Ready, Done, Moment, Woken, Refused}
 use Rattle.fi_run.specs.declared.timer.TimerCall.{TimerCall}
 use Rattle.fi_run.specs.declared.timer.TimerCall.TheVariants.{Deadline, Delay, Poll, Cancel, Check, Next, NextWake}
-use Rattle.fi_run.specs.Outgoing.{TakesOldest, machine_outgoing, pops_oldest}
-use Rattle.fi_run.specs.WakerEffects.{on_wakers}
+use Rattle.fi_run.specs.Outgoing.{TakesOldest, machine_outgoing}
+use Rattle.fi_run.specs.OutgoingLaws.{pops_oldest}
+use Rattle.fi_run.specs.WakerChanges.{on_wakers}
 use Rattle.fi_run.specs.Timer.{Opens, Step}
 use Rattle.fi_run.specs.TimerHistory.{first_polled, checked, moments_at_first, IsLater, moments_step, moments_since_first_poll}
 use Rattle.fi_run.specs.TimerHistory.{subject, PhaseSays, ExpiriesAreLater, HistoryHolds}
@@ -50,7 +53,7 @@ after_poll polled.Pending now moments = first_polled now moments
 module _ {W : Type 0} where
   -- Each step is a line of the table.
   is_line : (old : TimerMachine W) (call : TimerCall W) (answer : Answer ℕ W) (new : TimerMachine W) → Step old call answer new →
-      Line rules (on_wakers (subject call) answer) old new
+      TableLine rules (on_wakers (subject call) answer) old new
   is_line old call (Refused fault) new did = unchanged rules old new did.1
   is_line old (Deadline expiry) (Made slot) new did = inserts rules slot.0 expiry old new did
   is_line old (Delay now delay) (Made slot) new did = inserts rules slot.0 (expiry_after now (as_nanos delay)) old new did

@@ -55,7 +55,8 @@ pub struct PoolState<W> {
 }
 
 impl<W> Model for PoolState<W> {
-    ghost use Rattle.fi_run.specs.Pool.{PoolMachine, pool_code};
+    ghost use Rattle.fi_run.specs.Pool.{PoolMachine};
+    ghost use Rattle.fi_run.specs.PoolCode.{pool_code};
     ghost use Rattle.fi_run.specs.PoolFields.{machine_of, IsPool};
 
     ghost Value = { PoolMachine W };

@@ -29,7 +29,8 @@ impl<T, L: Ledger> Model for CountedMutex<T, L> {
     ghost use Rattle.std.specs.Coded.{coded_option};
     ghost use Rattle.futures.specs.contracts.task.waker.Waker as waker;
     ghost use Rattle.futures.specs.declared.task.waker.Waker.{Waker};
-    ghost use Rattle.fi_locks.specs.Mutex.{MutexMachine, mutex_code, is_free};
+    ghost use Rattle.fi_locks.specs.Mutex.{MutexMachine, is_free};
+    ghost use Rattle.fi_locks.specs.MutexCode.{mutex_code};
     ghost use Rattle.fi_sync.specs.Locked.{holds_if};
 
     ghost Value = { MutexMachine T (Option Waker) };

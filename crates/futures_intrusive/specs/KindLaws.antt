@@ -12,9 +12,12 @@ use Rattle.fi_parts.specs.declared.phase.Phase.{Phase}
 use Rattle.fi_parts.specs.declared.phase.Phase.TheVariants.{Fresh, Registered, Told, Complete, Ended}
 use Rattle.fi_parts.proofs.PairsWithin.{none_some, some_same}
 use Rattle.fi_channels.specs.Channel as channel
-use Rattle.fi_channels.specs.Channel.{ChannelMachine, Buffered, next_value, next_of, with_buffer, send_phase, receive_phase, kind_of}
-use Rattle.fi_channels.specs.Channel.{FreshSends, SendsAs, PollsSend, TakesNext, ReceivesAs, StreamsAs, PollsReceive, PollsNext}
-use Rattle.fi_channels.specs.Channel.{CancelsReceiveAs, CancelsReceive, displaced_receive, displaced_send, has_room, value_of}
+use Rattle.fi_channels.specs.Channel.{ChannelMachine, Buffered, next_value, next_of, with_buffer, send_phase}
+use Rattle.fi_channels.specs.Channel.{receive_phase, kind_of}
+use Rattle.fi_channels.specs.Channel.{FreshSends, SendsAs, PollsSend, TakesNext, ReceivesAs, StreamsAs, PollsReceive}
+use Rattle.fi_channels.specs.Channel.{PollsNext}
+use Rattle.fi_channels.specs.Channel.{CancelsReceiveAs, CancelsReceive, displaced_receive, displaced_send, has_room}
+use Rattle.fi_channels.specs.Channel.{value_of}
 use Rattle.fi_channels.specs.Polled.{Answered}
 use Rattle.fi_channels.specs.declared.channel_errors.SendFault.{SendFault}
 use Rattle.fi_channels.specs.declared.channel_errors.SendFault.TheVariants as send_fault

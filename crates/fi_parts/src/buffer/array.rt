@@ -30,7 +30,8 @@ pub struct ArrayBuf<T, const N: usize> {
 
 impl<T, const N: usize> Model for ArrayBuf<T, N> {
     ghost use Rattle.std.specs.Prelude.{◌≡◌, ◌≤◌, ◌⊎◌, length};
-    ghost use Rattle.fi_parts.specs.Buffer.{Bounded, bounded_code};
+    ghost use Rattle.fi_parts.specs.Buffer.{Bounded};
+    ghost use Rattle.fi_parts.specs.BufferCode.{bounded_code};
 
     ghost Value = { Bounded T };
 

@@ -27,7 +27,8 @@ pub struct FixedHeapBuf<T> {
 }
 
 impl<T> Model for FixedHeapBuf<T> {
-    ghost use Rattle.fi_parts.specs.Buffer.{Bounded, bounded_code};
+    ghost use Rattle.fi_parts.specs.Buffer.{Bounded};
+    ghost use Rattle.fi_parts.specs.BufferCode.{bounded_code};
 
     ghost Value = { Bounded T };
 

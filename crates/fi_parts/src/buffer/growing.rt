@@ -36,7 +36,8 @@ pub struct GrowingHeapBuf<T> {
 
 impl<T> Model for GrowingHeapBuf<T> {
     ghost use Rattle.std.specs.Prelude.{◌≤◌};
-    ghost use Rattle.fi_parts.specs.Buffer.{Bounded, Fits, bounded_code};
+    ghost use Rattle.fi_parts.specs.Buffer.{Bounded, Fits};
+    ghost use Rattle.fi_parts.specs.BufferCode.{bounded_code};
 
     ghost Value = { Bounded T };
 

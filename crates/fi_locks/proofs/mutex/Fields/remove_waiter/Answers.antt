@@ -6,7 +6,8 @@ use Rattle.fi_parts.specs.declared.phase.Phase.TheVariants.{Fresh, Registered, T
 use Rattle.fi_parts.specs.Effects.{TakesEffect}
 use Rattle.fi_parts.specs.Machine.{phase_at}
 use Rattle.fi_parts.specs.Pairs.{without_pair}
-use Rattle.fi_parts.specs.Places.{is_told, queued_rule}
+use Rattle.fi_parts.specs.Places.{is_told}
+use Rattle.fi_parts.specs.PlaceRules.{queued_rule}
 use Rattle.fi_parts.specs.Waiting.{Waiting, phase_in, without_future, is_queued}
 use Rattle.fi_parts.proofs.Waiting.{ordered-forgotten, lives_as}
 use Rattle.fi_locks.specs.declared.mutex.Fields.{Fields}

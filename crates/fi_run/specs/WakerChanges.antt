@@ -1,7 +1,7 @@
 -- What a call with its answer is to the wakers, whichever primitive it is made on.
 use Rattle.std.specs.Prelude.{ℕ}
-use Rattle.fi_parts.specs.WakerHistory.{WakerEffect, gives}
-use Rattle.fi_parts.specs.WakerHistory.WakerEffect.{Pends, Leaves, NoEffect}
+use Rattle.fi_parts.specs.WakerHistory.{WakerChange, gives}
+use Rattle.fi_parts.specs.WakerHistory.WakerChange.{Pends, Leaves, NoEffect}
 use Rattle.fi_run.specs.declared.answer.Answer.{Answer}
 use Rattle.fi_run.specs.declared.answer.Answer.TheVariants.{Made, Pending, Woken, Refused}
 
@@ -11,7 +11,7 @@ pub data Subject (W : Type 0) : Type 0 where
   Cancelling : ℕ → Subject W
   Other : Subject W
 
-abbrev pub on_wakers : {T W : Type 0} → Subject W → Answer T W → WakerEffect W
+abbrev pub on_wakers : {T W : Type 0} → Subject W → Answer T W → WakerChange W
 on_wakers subject (Refused fault) = NoEffect
 on_wakers subject (Made slot) = Leaves slot.0
 on_wakers subject (Woken waker) = gives waker
