@@ -160,7 +160,10 @@ fn a_cancelled_send_is_refused(rt: HostRuntime) -> Result<(), Fail> {
 
 #[test]
 fn expirations_are_refused(rt: HostRuntime) -> Result<(), Fail> {
-    check_refusals(&rt, rt.alloc(), EXPIRATIONS)
+    // The first four futures lie in one chunk of memory, so the fifth is the next that asks for more.
+    let mut row = String::from_str(rt.alloc(), EXPIRATIONS)?;
+    row.push_str("\ndeadline d 999\ndeadline e 999")?;
+    check_refusals(&rt, rt.alloc(), row.as_str())
 }
 
 // A script whose last line names 200 wakers, for which there is no room behind the 65,528 bytes that were collected before.

@@ -32,6 +32,9 @@ const A: Slot = Slot(0);
 
 const B: Slot = Slot(1);
 
+// The first four futures of a primitive lie in one chunk of memory, so the fifth is the first of which the making asks for more.
+const FIFTH: Slot = Slot(4);
+
 const REFUSED: Answer<u64, u64> = Answer::Refused(Fault::NoMemory);
 
 // Fails unless the call is refused to the plain state and to this type at least once, and each time changes nothing.
@@ -55,13 +58,20 @@ where
         opening: false,
         before: &[
             EventCall::Wait,
+            EventCall::Wait,
+            EventCall::Wait,
+            EventCall::Wait,
             EventCall::Poll(A, 1),
             EventCall::Set,
             EventCall::Reset,
         ],
         call: EventCall::Wait,
         refusal: REFUSED,
-        after: &[EventCall::Poll(B, 2), EventCall::Poll(A, 3), EventCall::Set],
+        after: &[
+            EventCall::Poll(FIFTH, 2),
+            EventCall::Poll(A, 3),
+            EventCall::Set,
+        ],
     };
     expect_both(rt, hoard, &Event { is_set: false }, &scene);
 }
@@ -78,12 +88,15 @@ where
         opening: (),
         before: &[
             OneshotCall::Receive,
+            OneshotCall::Receive,
+            OneshotCall::Receive,
+            OneshotCall::Receive,
             OneshotCall::Poll(A, 1),
             OneshotCall::Send(5),
         ],
         call: OneshotCall::Receive,
         refusal: REFUSED,
-        after: &[OneshotCall::Poll(B, 2), OneshotCall::Poll(A, 3)],
+        after: &[OneshotCall::Poll(FIFTH, 2), OneshotCall::Poll(A, 3)],
     };
     expect_both(rt, hoard, borrowed, &scene);
     expect_refusals_to(rt, hoard, ends, &scene);
@@ -97,13 +110,16 @@ where
         opening: (),
         before: &[
             StateCall::Receive(StateId::new()),
+            StateCall::Receive(StateId::new()),
+            StateCall::Receive(StateId::new()),
+            StateCall::Receive(StateId::new()),
             StateCall::Poll(A, 1),
             StateCall::Send(5),
         ],
         call: StateCall::Receive(StateId::from_value(1)),
         refusal: REFUSED,
         after: &[
-            StateCall::Poll(B, 2),
+            StateCall::Poll(FIFTH, 2),
             StateCall::Poll(A, 3),
             StateCall::Send(6),
         ],
@@ -121,13 +137,16 @@ where
         before: &[
             MutexCall::TryLock,
             MutexCall::Lock,
+            MutexCall::Lock,
+            MutexCall::Lock,
+            MutexCall::Lock,
             MutexCall::Poll(A, 1),
             MutexCall::Unlock(8),
         ],
         call: MutexCall::Lock,
         refusal: REFUSED,
         after: &[
-            MutexCall::Poll(B, 2),
+            MutexCall::Poll(FIFTH, 2),
             MutexCall::Poll(A, 3),
             MutexCall::Unlock(9),
         ],
@@ -148,13 +167,16 @@ where
         opening: (0, false),
         before: &[
             SemaphoreCall::Acquire(2),
+            SemaphoreCall::Acquire(2),
+            SemaphoreCall::Acquire(2),
+            SemaphoreCall::Acquire(2),
             SemaphoreCall::Poll(A, 1),
             SemaphoreCall::Release(3),
         ],
         call: SemaphoreCall::Acquire(2),
         refusal: REFUSED,
         after: &[
-            SemaphoreCall::Poll(B, 2),
+            SemaphoreCall::Poll(FIFTH, 2),
             SemaphoreCall::Poll(A, 3),
             SemaphoreCall::Permits,
         ],
@@ -171,13 +193,16 @@ where
         opening: (),
         before: &[
             TimerCall::Deadline(3),
+            TimerCall::Deadline(3),
+            TimerCall::Deadline(3),
+            TimerCall::Deadline(3),
             TimerCall::Poll(A, 1, 1),
             TimerCall::Check(4),
         ],
         call: TimerCall::Delay(4, Duration::from_millis(2)),
         refusal: REFUSED,
         after: &[
-            TimerCall::Poll(B, 5, 2),
+            TimerCall::Poll(FIFTH, 5, 2),
             TimerCall::Next,
             TimerCall::Poll(A, 5, 3),
         ],
@@ -215,13 +240,16 @@ struct Case<'a> {
 const RECEIVE: Case<'static> = Case {
     before: &[
         ChannelCall::Receive,
+        ChannelCall::Receive,
+        ChannelCall::Receive,
+        ChannelCall::Receive,
         ChannelCall::PollReceive(A, 1),
         ChannelCall::TrySend(4),
     ],
     call: ChannelCall::Receive,
     refusal: REFUSED,
     after: &[
-        ChannelCall::PollReceive(B, 2),
+        ChannelCall::PollReceive(FIFTH, 2),
         ChannelCall::PollReceive(A, 4),
         ChannelCall::TryReceive,
     ],
@@ -230,13 +258,16 @@ const RECEIVE: Case<'static> = Case {
 const STREAM: Case<'static> = Case {
     before: &[
         ChannelCall::Stream,
+        ChannelCall::Stream,
+        ChannelCall::Stream,
+        ChannelCall::Stream,
         ChannelCall::PollNext(A, 1),
         ChannelCall::TrySend(4),
     ],
     call: ChannelCall::Stream,
     refusal: REFUSED,
     after: &[
-        ChannelCall::PollNext(B, 2),
+        ChannelCall::PollNext(FIFTH, 2),
         ChannelCall::PollNext(A, 4),
         ChannelCall::TryReceive,
     ],
