@@ -47,11 +47,8 @@ use Rattle.fi_channels.proofs.TwoSidedEffects.{oldest_completes}
 -- the phase of one that is told
 pub told_phase : {W : Type 0} (phase : Option (Phase W)) → is_told phase ≡ true → phase ≡ Some Told
 told_phase None is = absurd (both_ways false refl is)
-told_phase (Some Fresh) is = absurd (both_ways false refl is)
-told_phase (Some (Registered waker)) is = absurd (both_ways false refl is)
 told_phase (Some Told) is = refl
-told_phase (Some Complete) is = absurd (both_ways false refl is)
-told_phase (Some Ended) is = absurd (both_ways false refl is)
+told_phase (Some phase) is = absurd (both_ways false refl is)
 
 module _ {D W : Type 0} where
   pub future_there : (side : Waiters D W) (name : ℕ) (phase : Phase W) → phase_of side name ≡ Some phase →

@@ -1,11 +1,11 @@
 -- The calls on a semaphore keep the marks of its queue.
-use Rattle.std.proofs.Common.{◌≡◌, ◌≢◌, ℕ, ◌+◌, ◌-◌, ◌≤◌, Bool, true, false, eqb}
+use Rattle.std.proofs.Common.{◌≡◌, ◌≢◌, ℕ, ◌+◌, ◌-◌, ◌≤◌, ◌&&◌, Bool, true, false, eqb}
 use Rattle.std.proofs.Common.{List, [], ◌∷◌, ◌++◌, Option, Some, None, MatchOption, sum_by}
 use Rattle.std.proofs.Common.{refl, sym, ap, subst, ◌∙◌, inl, inr, arith}
 use Rattle.std.specs.Option.{option_or}
 use Rattle.std.specs.Ordering.{nat_cmp}
 use Rattle.std.specs.FinMap as map
-use Rattle.std.proofs.lemmas.Bool.{both_ways, or_left, or_right, ne_eqb}
+use Rattle.std.proofs.lemmas.Bool.{both_ways, or_left, or_right, ne_eqb, false_from_ne_true}
 use Rattle.fi_parts.specs.declared.errors.Slot.{Slot}
 use Rattle.fi_parts.specs.declared.phase.Phase.{Phase}
 use Rattle.fi_parts.specs.declared.phase.Phase.TheVariants.{Fresh, Registered, Told, Ended}
@@ -21,6 +21,7 @@ use Rattle.fi_parts.proofs.Waiting.{Becomes}
 use Rattle.fi_locks.specs.FrontLaws.{sum_held, sum_without_one, not_empty}
 use Rattle.fi_locks.specs.Semaphore.{Permits, SemaphoreMachine, opened, need_of, can_take, IsSound}
 use Rattle.fi_locks.specs.SemaphoreFields.{IsFirst, Marks, MarksIf, MarksWithout, MarksWithoutIf}
+use Rattle.fi_locks.specs.SemaphoreFields.{left_promised, promised_without}
 use Rattle.fi_locks.specs.SemaphoreFairLaws.{taken_fairly, less_told}
 use Rattle.fi_locks.specs.SemaphoreLaws.{queue_to, unqueued}
 use Rattle.fi_locks.specs.SemaphoreSoundLaws.{after, same_need, other_need_inserted, other_need_removed}
@@ -276,20 +277,20 @@ module _ {W : Type 0} where
     marks : Marks old.own.free promised untold_slot old.waiting.side
     marks = marks_fair old.own.is_fair old.own.free promised untold_slot old.waiting.side fair was
 
-    pub unmark_told : is_told (phase_at old name) ≡ true →
+    unmark_told : is_told (phase_at old name) ≡ true →
         MarksWithoutIf old.own.is_fair name old.own.free (promised - need_of old.waiting.side name) untold_slot old.waiting.side
     unmark_told is =
         let fits : promised - need_of old.waiting.side name ≤ old.own.free = omega (arith, marks.fits) in
         subst (λ b. MarksWithoutIf b name old.own.free (promised - need_of old.waiting.side name) untold_slot old.waiting.side) (sym fair)
         (marks_without_told old.own.free old.own.free promised untold_slot old.waiting.side name sound.waiters.ordered.once marks is fits)
 
-    pub unmark_other : is_told (phase_at old name) ≡ false → MatchOption untold_slot (Unit {0}) (λ slot. slot.0 ≢ name) →
+    unmark_other : is_told (phase_at old name) ≡ false → MatchOption untold_slot (Unit {0}) (λ slot. slot.0 ≢ name) →
         MarksWithoutIf old.own.is_fair name old.own.free promised untold_slot old.waiting.side
     unmark_other off ne =
         subst (λ b. MarksWithoutIf b name old.own.free promised untold_slot old.waiting.side) (sym fair)
         (marks_without_other old.own.free old.own.free promised untold_slot old.waiting.side name sound.waiters.ordered.once marks off ne)
 
-    pub unmark_first : (slot : Slot) (next : Option Slot) → untold_slot ≡ Some slot → slot.0 ≡ name →
+    unmark_first : (slot : Slot) (next : Option Slot) → untold_slot ≡ Some slot → slot.0 ≡ name →
         is_told (phase_at old name) ≡ false →
         ((front rest : List ℕ) → old.waiting.side.queue ≡ front ++ slot.0 ∷ rest → IsFirst next rest) →
         MarksWithoutIf old.own.is_fair name old.own.free promised next old.waiting.side
@@ -297,6 +298,49 @@ module _ {W : Type 0} where
         subst (λ b. MarksWithoutIf b name old.own.free promised next old.waiting.side) (sym fair)
         (marks_without_first old.own.free old.own.free promised untold_slot old.waiting.side name sound.waiters.ordered.once marks slot next
         is same off younger)
+
+    at_told : (told : Bool) → is_told (phase_at old name) ≡ told →
+        promised_without old.own.is_fair promised old.waiting.side name ≡
+        left_promised told promised (need_of old.waiting.side name)
+    at_told told is =
+        let need = need_of old.waiting.side name in
+        ap (λ b. left_promised (b && is_told (phase_at old name)) promised need) fair
+        ∙ ap (λ b. left_promised b promised need) is
+
+    -- whether or not it is told: where it is not the oldest that isn't
+    pub unmark_kept : MatchOption untold_slot (Unit {0}) (λ slot. slot.0 ≢ name) →
+        MarksWithoutIf old.own.is_fair name old.own.free
+        (promised_without old.own.is_fair promised old.waiting.side name) untold_slot old.waiting.side
+    unmark_kept ne = each (is_told (phase_at old name)) refl
+      where
+        each : (told : Bool) → is_told (phase_at old name) ≡ told →
+            MarksWithoutIf old.own.is_fair name old.own.free
+            (promised_without old.own.is_fair promised old.waiting.side name) untold_slot old.waiting.side
+        each true is =
+            subst (λ p. MarksWithoutIf old.own.is_fair name old.own.free p untold_slot old.waiting.side)
+            (sym (at_told true is)) (unmark_told is)
+        each false is =
+            subst (λ p. MarksWithoutIf old.own.is_fair name old.own.free p untold_slot old.waiting.side)
+            (sym (at_told false is)) (unmark_other is ne)
+
+    untold_first : (slot : Slot) → untold_slot ≡ Some slot → slot.0 ≡ name → is_told (phase_at old name) ≡ false
+    untold_first slot at same = false_from_ne_true _ (λ is.
+        let here = subst (λ o. IsFirst o marks.rest) at marks.first in
+        let held : holds name marks.rest ≡ true =
+        ap (holds name) (here.1 ∙ ap (λ n. n ∷ here.0) same) ∙ or_left (eqb name name) _ (eqb_same name) in
+        let once : Apart (marks.told ++ marks.rest) = subst Apart marks.front.is_front sound.waiters.ordered.once in
+        both_ways (holds name marks.rest)
+        (Apart-disjoint marks.told marks.rest once name (sym (marks.front.all name) ∙ is)) held)
+
+    -- where it is that one: the next younger one is that now
+    pub unmark_passed : (slot : Slot) (next : Option Slot) → untold_slot ≡ Some slot → slot.0 ≡ name →
+        ((front rest : List ℕ) → old.waiting.side.queue ≡ front ++ slot.0 ∷ rest → IsFirst next rest) →
+        MarksWithoutIf old.own.is_fair name old.own.free
+        (promised_without old.own.is_fair promised old.waiting.side name) next old.waiting.side
+    unmark_passed slot next at same younger =
+        let off = untold_first slot at same in
+        subst (λ p. MarksWithoutIf old.own.is_fair name old.own.free p next old.waiting.side)
+        (sym (at_told false off)) (unmark_first slot next at same off younger)
 
 pub marks_opened : (W : Type 0) (is_fair : Bool) (permits : ℕ) →
     MarksIf is_fair permits 0 None (opened {W = W} is_fair permits).waiting.side

@@ -1,22 +1,21 @@
 -- How the calls on a semaphore's fields make up the lines of its table.
 use Rattle.std.proofs.Common.{◌≡◌, ℕ, ◌≤◌, ◌<◌, Bool, true, false, Option}
 use Rattle.std.proofs.Common.{Some, None, is_some, refl, sym, ap, subst, ◌∙◌, arith}
-use Rattle.std.proofs.lemmas.Bool.{both_ways, le-leb, lt-leb, false_from_ne_true}
+use Rattle.std.proofs.lemmas.Bool.{le-leb, lt-leb, false_from_ne_true}
 use Rattle.std.specs.FinMap as map
 use Rattle.std.specs.Option.{IsSome}
 use Rattle.futures.specs.declared.task.Poll.TheVariants.{Ready, Pending}
 use Rattle.fi_parts.specs.declared.errors.Slot.{Slot}
 use Rattle.fi_parts.specs.declared.phase.Future.{Future}
-use Rattle.fi_parts.specs.declared.phase.Phase.{Phase}
-use Rattle.fi_parts.specs.declared.phase.Phase.TheVariants.{Fresh, Registered, Told, Complete, Ended}
+use Rattle.fi_parts.specs.declared.phase.Phase.TheVariants.{Told}
 use Rattle.fi_parts.specs.Effects.{WaiterEffect}
 use Rattle.fi_parts.specs.Effects.WaiterEffect.{Registers, EndsPlaced}
 use Rattle.fi_parts.specs.Machine.{phase_at, StepsTo}
 use Rattle.fi_parts.specs.Order.{holds}
 use Rattle.fi_parts.specs.Places.{is_told}
-use Rattle.fi_parts.specs.Waiting.{Waiters, phase_in, phase_of, is_queued, is_registered, IsLive}
+use Rattle.fi_parts.specs.Waiting.{Waiters, phase_in, phase_of, is_queued, IsLive}
 use Rattle.fi_locks.specs.Semaphore.{Permits, SemaphoreMachine, granted, need_of}
-use Rattle.fi_locks.specs.Semaphore.{can_be_polled, is_granted, StepsTelling, PollsAs, Polls, IsSound}
+use Rattle.fi_locks.specs.Semaphore.{is_granted, StepsTelling, PollsAs, Polls, IsSound}
 use Rattle.fi_locks.specs.SemaphoreFields.{MarksIf}
 use Rattle.fi_locks.specs.SemaphoreLaws.{unqueued}
 use Rattle.fi_locks.proofs.SemaphoreMarks.{marks_fair, marks_unfair, told_need_free}
@@ -39,22 +38,6 @@ module _ {W : Type 0} where
       each : (o : Option (Future ℕ W)) → is_some (phase_in o) ≡ true → IsSome o
       each None r = r
       each (Some f) r = refl
-
-  pub told_is : (p : Option (Phase W)) → is_told p ≡ true → p ≡ Some Told
-  told_is None h = absurd (both_ways false refl h)
-  told_is (Some Fresh) h = absurd (both_ways false refl h)
-  told_is (Some (Registered w)) h = absurd (both_ways false refl h)
-  told_is (Some Told) h = refl
-  told_is (Some Complete) h = absurd (both_ways false refl h)
-  told_is (Some Ended) h = absurd (both_ways false refl h)
-
-  pub fresh_is : (p : Option (Phase W)) → can_be_polled p ≡ true → is_registered p ≡ false → is_told p ≡ false → p ≡ Some Fresh
-  fresh_is None h r t = absurd (both_ways false refl h)
-  fresh_is (Some Fresh) h r t = refl
-  fresh_is (Some (Registered w)) h r t = absurd (both_ways true r refl)
-  fresh_is (Some Told) h r t = absurd (both_ways true t refl)
-  fresh_is (Some Complete) h r t = absurd (both_ways false refl h)
-  fresh_is (Some Ended) h r t = absurd (both_ways false refl h)
 
   -- nothing is marked in an unfair semaphore
   pub marks_any : (is_fair : Bool) (free free_now promised : ℕ) (untold untold_now : Option Slot) (old new : Waiters ℕ W) →

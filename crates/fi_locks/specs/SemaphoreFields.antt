@@ -1,8 +1,9 @@
 -- The fields of a semaphore, and where its telling rounds go on.
-use Rattle.std.specs.Prelude.{◌≡◌, ◌+◌, ◌≤◌, ◌<◌, ⊤, ℕ, Bool, true, false, Option, List, [], ◌∷◌, ◌++◌, sum_by, MatchOption}
+use Rattle.std.specs.Prelude.{◌≡◌, ◌+◌, ◌-◌, ◌≤◌, ◌<◌, ◌&&◌, ⊤, ℕ, Bool, true, false, Option, List, [], ◌∷◌, ◌++◌, sum_by, MatchOption}
 use Rattle.fi_parts.specs.declared.errors.Slot.{Slot}
 use Rattle.fi_parts.specs.Order.{without}
-use Rattle.fi_parts.specs.Waiting.{Waiters, Waiting, front_told}
+use Rattle.fi_parts.specs.Places.{is_told}
+use Rattle.fi_parts.specs.Waiting.{Waiters, Waiting, phase_of, front_told}
 use Rattle.fi_locks.specs.declared.semaphore.Fields.{Fields}
 use Rattle.fi_locks.specs.Semaphore.{SemaphoreMachine, need_of}
 use Rattle.fi_locks.specs.ToldFutures.{IsToldFront}
@@ -17,6 +18,11 @@ machine_of fields = record {
 -- this is the first of the list, or the list is empty
 abbrev pub IsFirst : Option Slot → List ℕ → Type 0
 IsFirst first names = MatchOption first (names ≡ []) (λ slot. (later : List ℕ) × (names ≡ slot.0 ∷ later))
+
+-- what is promised once this need is promised no longer, if it was
+abbrev pub left_promised : Bool → ℕ → ℕ → ℕ
+left_promised true promised need = promised - need
+left_promised false promised need = promised
 
 module _ {W : Type 0} where
   -- Those told are a front of the queue and need together what is promised, which is free; this is the oldest that is not told.
@@ -44,6 +50,11 @@ module _ {W : Type 0} where
     pub sums : sum_by (need_of side) (without name told) ≡ promised
     pub fits : promised ≤ free
     pub first : IsFirst untold (without name rest)
+
+  -- what is promised once a future of this name has left
+  abbrev pub promised_without : Bool → ℕ → Waiters ℕ W → ℕ → ℕ
+  promised_without is_fair promised side name =
+      left_promised (is_fair && is_told (phase_of side name)) promised (need_of side name)
 
   abbrev pub MarksWithoutIf : Bool → ℕ → ℕ → ℕ → Option Slot → Waiters ℕ W → Type 0
   MarksWithoutIf true name free promised untold side = MarksWithout name free promised untold side

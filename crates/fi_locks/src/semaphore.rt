@@ -1,10 +1,9 @@
 //! A semaphore.
-ghost use Rattle.std.specs.Prelude.{◌≡◌, ◌≤◌, ◌<◌, ◌+◌, ◌-◌, ◌^◌, ℕ, Bool, true, false, Option, Some};
+ghost use Rattle.std.specs.Prelude.{◌≡◌, ◌≤◌, ◌<◌, ◌+◌, ◌-◌, ◌^◌, ◌&&◌, ℕ, Bool, true, false, Option, Some};
 ghost use Rattle.std.specs.Prelude.{None, IfOk, IfErr, OnErr, MatchOption, is_some, length, ⊤};
 ghost use Rattle.fi_parts.specs.Effects.{TakesEffect};
 ghost use Rattle.fi_parts.specs.Effects.WaiterEffect.{EndsPlaced};
 ghost use Rattle.fi_parts.specs.Machine.{phase_at, displaced_at};
-ghost use Rattle.fi_parts.specs.Places as told;
 ghost use Rattle.fi_parts.specs.Polled.{unused_after, WouldBeReady, LeavesWhere};
 ghost use Rattle.fi_parts.specs.Waiting.{phase_of, displaced, is_registered, is_queued, IsOrderedBy};
 ghost use Rattle.fi_parts.specs.declared.phase.Phase.TheVariants as phases;
@@ -17,7 +16,7 @@ ghost use Rattle.fi_locks.specs.SemaphoreFields.{IsMarked};
 
 use crate::asked::Asked;
 use crate::semaphore_future::{LocalSemaphoreAcquireFuture, LocalSemaphoreReleaser};
-use fi_parts::{Fault, Leftover, Phase, Slot, Waits};
+use fi_parts::{Fault, Leftover, Phase, Slot, Waits, last_waker};
 use futures::task::Poll;
 use std::alloc::Global;
 use std::marker::Model;
@@ -334,7 +333,7 @@ impl<W: Drop> SemaphoreState<W> {
 }
 
 impl<W: Drop> Fields<W> {
-    ghost use Rattle.fi_locks.specs.SemaphoreFields.{machine_of, MarksWithoutIf, Walk, IsStopped};
+    ghost use Rattle.fi_locks.specs.SemaphoreFields.{machine_of, MarksWithoutIf, promised_without, left_promised, Walk, IsStopped};
 
     fn next_wake(&mut self) -> Option<W>
         requires marked { IsMarked self.old }
@@ -518,20 +517,15 @@ impl<W: Drop> Fields<W> {
         }
     }
 
-    // Marks the queue as it is without this future, of which the caller has read whether it is told and what it needs.
-    fn unmark(&mut self, slot: Slot, is_told: bool, need: usize)
+    // Marks the oldest that is not told as it is without this future, whether or not the future is told.
+    fn pass_over(&mut self, slot: Slot)
         requires sound { IsSound (machine_of self.old) }
         requires marked { IsMarked self.old }
-        requires told { is_told ≡ told.is_told (phase_of self.old.waits.side slot.0) }
-        requires need { need ≡ need_of self.old.waits.side slot.0 }
-        ensures marked { MarksWithoutIf self.old.is_fair slot.0 self.old.free self.new.promised self.new.untold self.old.waits.side }
-        ensures rest { self.new ≡ record self.old { promised = self.new.promised; untold = self.new.untold } }
+        ensures marked { MarksWithoutIf self.old.is_fair slot.0 self.old.free
+            (promised_without self.old.is_fair self.old.promised self.old.waits.side slot.0) self.new.untold self.old.waits.side }
+        ensures rest { self.new ≡ record self.old { untold = self.new.untold } }
     {
         if !self.is_fair {
-            return;
-        }
-        if is_told {
-            self.promised -= need;
             return;
         }
         let Some(first) = self.untold else {
@@ -539,6 +533,16 @@ impl<W: Drop> Fields<W> {
         };
         if first.0 == slot.0 {
             self.untold = self.waits.younger(slot);
+        }
+    }
+
+    // What a told future of a fair semaphore needed is promised no longer, once it has left.
+    fn unpromise(&mut self, is_told: bool, need: usize)
+        requires { (self.old.is_fair && is_told) ≡ true → need ≤ self.old.promised }
+        ensures { self.new ≡ record self.old { promised = left_promised (self.old.is_fair && is_told) self.old.promised need } }
+    {
+        if self.is_fair && is_told {
+            self.promised -= need;
         }
     }
 
@@ -550,11 +554,11 @@ impl<W: Drop> Fields<W> {
         ensures displaced { result ≡ displaced self.old.waits.side self.old.waits.out slot.0 }
         ensures marked { IsMarked self.new }
     {
-        let future = self.waits.future(slot).unwrap();
+        self.pass_over(slot);
+        let (future, named) = self.waits.remove_future(slot);
         let tells = self.tells_on_cancel(&future.phase);
-        let (is_told, need) = (future.phase.is_told(), future.asks);
-        self.unmark(slot, is_told, need);
-        let (_, waker) = self.waits.remove(slot);
+        self.unpromise(future.phase.is_told(), future.asks);
+        let waker = last_waker(future.phase, named);
         if tells {
             self.tell();
         }

@@ -32,10 +32,6 @@ abbrev name_in : Option Due → ℕ
 name_in None = 0
 name_in (Some due) = due.name
 
-abbrev pub expiry_in : Option Timed → Option ℕ
-expiry_in None = None
-expiry_in (Some asks) = Some asks.expiry
-
 module _ {W : Type 0} where
   abbrev pub unseated_in : Option (Future Timed W) → Option (Future ℕ W)
   unseated_in None = None
@@ -98,14 +94,6 @@ module _ {W : Type 0} where
   phase-unseated live q = ap phase_in (get-unseated live q) ∙ each (finmap.get live q)
     where
       each : (o : Option (Future Timed W)) → phase_in (unseated_in o) ≡ phase_in o
-      each None = refl
-      each (Some f) = refl
-
-  pub asks-unseated : (live : finmap.FinMap nat_cmp (Future Timed W)) (q : ℕ) → asks_in (finmap.get (unseated_all live) q) ≡
-      expiry_in (asks_in (finmap.get live q))
-  asks-unseated live q = ap asks_in (get-unseated live q) ∙ each (finmap.get live q)
-    where
-      each : (o : Option (Future Timed W)) → asks_in (unseated_in o) ≡ expiry_in (asks_in o)
       each None = refl
       each (Some f) = refl
 
