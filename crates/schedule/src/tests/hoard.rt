@@ -8,8 +8,9 @@ use std::test::Fail;
 /// The largest block that is asked for.
 const LARGEST: usize = 1 << 44;
 
-/// Blocks from this size on are kept to the end. What is smaller is let go between two tries, to work with.
-const WORKING: usize = 1 << 22;
+/// Blocks from this size on are kept to the end. What is smaller is let go between two tries, to work with. Small blocks that the C
+/// library keeps for itself cut that into ever more pieces, so it is large enough for whole regions after thousands of tries.
+const WORKING: usize = 1 << 26;
 
 /// The C library keeps freed blocks up to this size for requests of just their size, so each of these sizes is asked for.
 const SMALL: usize = 1040;
