@@ -2,7 +2,6 @@ pub mod MutexCode
 pub mod Timer
 pub mod TimerCode
 pub mod TimerLaws
-pub mod TimerFields
 pub mod ToldFutures
 pub mod Semaphore
 pub mod SemaphoreCode

@@ -1,9 +1,9 @@
 //! A timer.
-ghost use Rattle.std.specs.Prelude.{◌≡◌, true, false, IfOk, IfErr, OnErr, is_some, length};
+ghost use Rattle.std.specs.Prelude.{◌≡◌, ◌&&◌, not, nat_le, true, false, IfOk, IfErr, OnErr, is_some, length};
 ghost use Rattle.std.specs.Duration.{as_nanos};
-ghost use Rattle.fi_parts.specs.Waiting.{phase_of, displaced};
+ghost use Rattle.fi_parts.specs.Waiting.{is_registered};
 ghost use Rattle.fi_parts.specs.Machine.{phase_at, displaced_at};
-ghost use Rattle.fi_parts.specs.Deadlines.{IsNextExpiry};
+ghost use Rattle.fi_parts.specs.Deadlines.{IsNextExpiry, is_fresh, expiry_of};
 ghost use Rattle.fi_parts.specs.Polled.{unused_after, WouldBeReady, LeavesWhere};
 ghost use Rattle.futures.specs.Poll.{OnPending};
 ghost use Rattle.fi_parts.specs.Stays.{AllStay, OthersStay, IsApart};
@@ -16,13 +16,6 @@ use futures::task::Poll;
 use std::alloc::Global;
 use std::marker::Model;
 use std::time::Duration;
-
-/// The fields of a timer. Between two calls on them the timer's law may be broken.
-#[derive(Drop)]
-struct Fields<W> {
-    floor: u64,
-    deadlines: Deadlines<W>,
-}
 
 /// A timer: a future of it is ready at its first poll if its expiry has come by then, and else at a poll after a check at or past its
 /// expiry.
@@ -46,7 +39,8 @@ struct Fields<W> {
 /// ```
 #[derive(Drop)]
 pub struct TimerState<W> {
-    fields: Fields<W>,
+    floor: u64,
+    deadlines: Deadlines<W>,
 }
 
 /// The timer for one thread: futures are polled with the timer lent to them, and the moment.
@@ -69,15 +63,15 @@ pub type LocalTimerService<W> = TimerState<W>;
 impl<W> Model for TimerState<W> {
     ghost use Rattle.fi_locks.specs.Timer.{TimerMachine, IsSound, OwesNoWake};
     ghost use Rattle.fi_locks.specs.TimerCode.{timer_code};
-    ghost use Rattle.fi_locks.specs.TimerFields.{machine_of};
 
     ghost Value = { TimerMachine W };
 
     ghost coded = { timer_code W.code };
 
-    ghost view = { λ s. machine_of s.fields };
+    ghost view = { λ s. record { own = s.floor; waiting = s.deadlines } };
 
-    ghost invariant = { λ s. IsSound (machine_of s.fields) × OwesNoWake (machine_of s.fields) };
+    ghost invariant = { λ s. IsSound (record { own = s.floor; waiting = s.deadlines })
+        × OwesNoWake (record { own = s.floor; waiting = s.deadlines }) };
 }
 
 impl<W: Drop> TimerState<W> {
@@ -86,10 +80,8 @@ impl<W: Drop> TimerState<W> {
         ensures { result ≡ opened }
     {
         TimerState {
-            fields: Fields {
-                floor: 0,
-                deadlines: Deadlines::new(alloc),
-            },
+            floor: 0,
+            deadlines: Deadlines::new(alloc),
         }
     }
 
@@ -98,7 +90,7 @@ impl<W: Drop> TimerState<W> {
         ensures sound { IsSound self.now }
         ensures no_wake { OwesNoWake self.now }
     {
-        let _ = &self.fields;
+        let _ = &self.deadlines;
     }
 
     /// A future for this moment, in milliseconds. Refused only with `NoMemory`; then nothing has changed.
@@ -138,7 +130,7 @@ impl<W: Drop> TimerState<W> {
     pub fn next_expiration(&self) -> Option<u64>
         ensures { IsNextExpiry self.now.waiting.side result }
     {
-        self.fields.next_expiration()
+        self.deadlines.next_expiry()
     }
 
     /// Tells exactly those that wait and whose expiry is not after this moment, in milliseconds, and names them to be woken in
@@ -149,7 +141,8 @@ impl<W: Drop> TimerState<W> {
         ensures checked { Checks self.old now self.new }
         ensures all_stay { AllStay can_be_polled self.old self.new }
     {
-        self.fields.check_expirations(now);
+        self.deadlines.tell_expired(now);
+        self.floor = self.floor.max(now);
     }
 
     /// Takes out the oldest waker that was named to be woken; None where none is left.
@@ -157,14 +150,14 @@ impl<W: Drop> TimerState<W> {
         ensures woken { Wakes self.old result self.new }
         ensures all_stay { AllStay can_be_polled self.old self.new }
     {
-        self.fields.deadlines.next_wake()
+        self.deadlines.next_wake()
     }
 
     /// How many wakers are named to be woken.
     pub fn wake_count(&self) -> usize
         ensures { result ≡ length self.now.waiting.out }
     {
-        self.fields.deadlines.wake_count()
+        self.deadlines.wake_count()
     }
 
     /// Makes a future with this expiry, in milliseconds, under a slot that was not live. Refused only with `NoMemory`; then
@@ -177,7 +170,7 @@ impl<W: Drop> TimerState<W> {
         ensures apart { IfOk result (λ slot. IsApart slot.0 self.old) }
         ensures all_stay { AllStay can_be_polled self.old self.new }
     {
-        self.fields.claim_deadline(expiry)
+        self.deadlines.insert(expiry)
     }
 
     /// Makes a future whose expiry is so long after this moment, under a slot that was not live. The delay counts in whole
@@ -197,14 +190,14 @@ impl<W: Drop> TimerState<W> {
     pub fn is_live(&self, slot: Slot) -> bool
         ensures { result ≡ is_some (phase_at self.now slot.0) }
     {
-        self.fields.deadlines.phase(slot).is_some()
+        self.deadlines.phase(slot).is_some()
     }
 
     /// Returns `true` if a future lives under this slot that has not ended.
     pub fn can_poll(&self, slot: Slot) -> bool
         ensures { result ≡ can_be_polled (phase_at self.now slot.0) }
     {
-        match self.fields.deadlines.phase(slot) {
+        match self.deadlines.phase(slot) {
             Some(Phase::Fresh | Phase::Registered(_) | Phase::Told) => true,
             None | Some(Phase::Complete | Phase::Ended) => false,
         }
@@ -214,7 +207,15 @@ impl<W: Drop> TimerState<W> {
     pub fn ends_now(&self, slot: Slot, now: u64) -> bool
         ensures { WouldBeReady (Polls self.now slot.0 now) result }
     {
-        self.fields.ends_now(slot, now)
+        let future = match self.deadlines.future(slot) {
+            Some(future) => future,
+            None => return false,
+        };
+        match &future.phase {
+            Phase::Fresh => future.asks.expiry <= now,
+            Phase::Told => true,
+            Phase::Registered(_) | Phase::Complete | Phase::Ended => false,
+        }
     }
 
     /// Polls the future under this slot at this moment: ready where it was told, or where it is fresh and its expiry is not after
@@ -230,7 +231,19 @@ impl<W: Drop> TimerState<W> {
         ensures pending { OnPending result.0 (can_be_polled (phase_at self.new slot.0) ≡ true) }
         ensures others { OthersStay can_be_polled slot.0 self.old self.new }
     {
-        self.fields.try_wait(slot, now, waker)
+        let (is_registered, is_early) = self.standing(slot, now);
+        let named = self.deadlines.take_out(slot);
+        if is_registered {
+            let before = self.deadlines.set_phase(slot, Phase::Registered(waker));
+            return (Poll::Pending, Leftover::of(before, None));
+        }
+        if is_early {
+            self.floor = self.floor.min(now);
+            self.deadlines.register(slot, waker);
+            return (Poll::Pending, Leftover::of(named, None));
+        }
+        self.deadlines.set_phase(slot, Phase::Ended);
+        (Poll::Ready(()), Leftover::of(named, Some(waker)))
     }
 
     /// Polls the future under this slot as `try_wait` does, if one lives there that has not ended. Else the waker comes back, and
@@ -276,54 +289,14 @@ impl<W: Drop> TimerState<W> {
         ensures displaced { result ≡ displaced_at self.old slot.0 }
         ensures others { OthersStay can_be_polled slot.0 self.old self.new }
     {
-        self.fields.remove_waiter(slot)
-    }
-}
-
-impl<W: Drop> Fields<W> {
-    ghost use Rattle.fi_parts.specs.Waiting.{is_registered};
-    ghost use Rattle.fi_locks.specs.TimerFields.{machine_of, is_early};
-
-    fn next_expiration(&self) -> Option<u64>
-        ensures { IsNextExpiry self.now.deadlines.side result }
-    {
-        self.deadlines.next_expiry()
-    }
-
-    fn check_expirations(&mut self, now: u64)
-        requires { IsSound (machine_of self.old) }
-        ensures { Checks (machine_of self.old) now (machine_of self.new) }
-    {
-        self.deadlines.tell_expired(now);
-        self.floor = self.floor.max(now);
-    }
-
-    fn claim_deadline(&mut self, expiry: u64) -> Result<Slot, Fault>
-        ensures made { IfOk result (λ slot. Makes (machine_of self.old) expiry slot.0 (machine_of self.new)) }
-        ensures refused { OnErr result (machine_of self.new ≡ machine_of self.old) }
-        ensures fault { IfErr result (λ fault. fault ≡ Fault.NoMemory) }
-    {
-        self.deadlines.insert(expiry)
-    }
-
-    fn ends_now(&self, slot: Slot, now: u64) -> bool
-        ensures { WouldBeReady (Polls (machine_of self.now) slot.0 now) result }
-    {
-        let future = match self.deadlines.future(slot) {
-            Some(future) => future,
-            None => return false,
-        };
-        match &future.phase {
-            Phase::Fresh => future.asks.expiry <= now,
-            Phase::Told => true,
-            Phase::Registered(_) | Phase::Complete | Phase::Ended => false,
-        }
+        self.deadlines.remove(slot)
     }
 
     // Whether the future under this slot is registered, and whether it is fresh and its expiry has not come: one look-up tells both.
     fn standing(&self, slot: Slot, now: u64) -> (bool, bool)
-        ensures registered { result.0 ≡ is_registered (phase_of self.now.deadlines.side slot.0) }
-        ensures early { result.1 ≡ is_early self.now.deadlines.side slot.0 now }
+        ensures registered { result.0 ≡ is_registered (phase_at self.now slot.0) }
+        ensures early { result.1 ≡ (is_fresh (phase_at self.now slot.0)
+            && not (nat_le (expiry_of self.now.waiting.side slot.0) now)) }
     {
         let future = match self.deadlines.future(slot) {
             Some(future) => future,
@@ -334,34 +307,5 @@ impl<W: Drop> Fields<W> {
             Phase::Registered(_) => (true, false),
             Phase::Told | Phase::Complete | Phase::Ended => (false, false),
         }
-    }
-
-    fn try_wait(&mut self, slot: Slot, now: u64, waker: W) -> (Poll<()>, Leftover<W>)
-        requires live { can_be_polled (phase_of self.old.deadlines.side slot.0) ≡ true }
-        ensures polled { Polls (machine_of self.old) slot.0 now waker result.0 (machine_of self.new) }
-        ensures displaced { result.1.displaced ≡ displaced self.old.deadlines.side self.old.deadlines.out slot.0 }
-        ensures unused { result.1.unused ≡ unused_after result.0 waker }
-    {
-        let named = self.deadlines.take_out(slot);
-        let (is_registered, is_early) = self.standing(slot, now);
-        if is_registered {
-            let before = self.deadlines.set_phase(slot, Phase::Registered(waker));
-            return (Poll::Pending, Leftover::of(before, None));
-        }
-        if is_early {
-            self.floor = self.floor.min(now);
-            self.deadlines.register(slot, waker);
-            return (Poll::Pending, Leftover::of(named, None));
-        }
-        self.deadlines.set_phase(slot, Phase::Ended);
-        (Poll::Ready(()), Leftover::of(named, Some(waker)))
-    }
-
-    fn remove_waiter(&mut self, slot: Slot) -> Option<W>
-        requires { is_some (phase_of self.old.deadlines.side slot.0) ≡ true }
-        ensures cancelled { Cancels (machine_of self.old) slot.0 (machine_of self.new) }
-        ensures displaced { result ≡ displaced self.old.deadlines.side self.old.deadlines.out slot.0 }
-    {
-        self.deadlines.remove(slot)
     }
 }
