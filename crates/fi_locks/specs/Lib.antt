@@ -13,5 +13,4 @@ pub mod SemaphoreUnfairLaws
 pub mod SemaphoreLaws
 pub mod Mutex
 pub mod MutexLaws
-pub mod MutexFields
 pub mod SemaphoreFields

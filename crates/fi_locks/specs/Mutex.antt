@@ -12,7 +12,7 @@ use Rattle.fi_parts.specs.Machine.{Machine, phase_at, initial, StepsTo, HasSound
 pub use Rattle.fi_parts.specs.Machine.{Wakes}
 use Rattle.fi_parts.specs.Order.{holds, without}
 use Rattle.fi_parts.specs.Places.{is_told}
-use Rattle.fi_parts.specs.Waiting.{is_queued}
+use Rattle.fi_parts.specs.Waiting.{Waiting, is_queued}
 pub use Rattle.fi_parts.specs.Polled.{can_be_polled, is_wait_phase}
 
 -- Fair or not, and the value of a free mutex. While it is held, its holder has the value.
@@ -49,6 +49,9 @@ module _ {T W : Type 0} where
   -- the names of those that have a place in the queue, the oldest first
   abbrev pub queue_of : MutexMachine T W → List ℕ
   queue_of mutex = mutex.waiting.side.queue
+
+  abbrev pub mutex_of : Bool → Option T → Waiting (Unit {0}) W → MutexMachine T W
+  mutex_of is_fair value locks = record { own = record { is_fair = is_fair; value = value }; waiting = locks }
 
   abbrev pub opened : T → Bool → MutexMachine T W
   opened value is_fair = initial (record { is_fair = is_fair; value = Some value })

@@ -1,10 +1,15 @@
 //! A mutex.
-ghost use Rattle.std.specs.Prelude.{◌≡◌, true, false, Option, Some, None, Result, Ok, Err, IfOk, IfErr, OnErr, is_some, length, not};
+ghost use Rattle.std.specs.Prelude.{◌≡◌, ◌&&◌, not, true, false, Option, Some, None, Result, Ok, Err, IfOk, IfErr, OnErr, is_some, length};
 ghost use Rattle.fi_parts.specs.Machine.{phase_at, displaced_at};
 ghost use Rattle.fi_parts.specs.Polled.{unused_after, WouldBeReady, LeavesWhere};
-ghost use Rattle.fi_parts.specs.Waiting.{phase_of, displaced};
-ghost use Rattle.fi_locks.specs.Mutex.{opened, is_free, can_be_polled, Makes, Polls, Cancels, TriesLock};
-ghost use Rattle.fi_locks.specs.Mutex.{Unlocks, Wakes, IsLockedIfReady, IsLockedIfGiven, IsSound, OwesNoWake};
+ghost use Rattle.fi_parts.specs.Order.{holds};
+ghost use Rattle.fi_parts.specs.Waiting.{IsLive, IsOrderedBy, displaced, is_queued, is_registered, may_be_named, phase_of};
+ghost use Rattle.fi_parts.specs.Effects.{TakesEffect};
+ghost use Rattle.fi_parts.specs.Effects.WaiterEffect.{EndsPlaced, Registers};
+ghost use Rattle.fi_parts.specs.declared.phase.Phase.TheVariants as phases;
+ghost use Rattle.fi_locks.specs.Mutex.{opened, is_free, is_empty, queue_of, can_be_polled, Makes, Polls, Cancels, TriesLock};
+ghost use Rattle.fi_locks.specs.Mutex.{Unlocks, Wakes, tells_oldest, IsLockedIfReady, IsLockedIfGiven, IsSound, OwesNoWake};
+ghost use Rattle.futures.specs.declared.task.Poll.TheVariants as polled;
 ghost use Rattle.futures.specs.Poll.{OnPending};
 ghost use Rattle.fi_parts.specs.Stays.{AllStay, OthersStay, IsApart};
 
@@ -14,14 +19,6 @@ use fi_parts::{Fault, Leftover, Phase, Slot, Waits, last_waker};
 use futures::task::Poll;
 use std::alloc::Global;
 use std::marker::Model;
-
-/// The fields of a mutex. Between two calls on them the mutex's law may be broken.
-#[derive(Drop)]
-struct Fields<T, W> {
-    is_fair: bool,
-    value: Option<T>,
-    locks: Waits<(), W>,
-}
 
 /// A mutex: one holder at a time has its value, and futures wait for it.
 ///
@@ -44,7 +41,9 @@ struct Fields<T, W> {
 /// ```
 #[derive(Drop)]
 pub struct MutexState<T, W> {
-    fields: Fields<T, W>,
+    is_fair: bool,
+    value: Option<T>,
+    locks: Waits<(), W>,
 }
 
 /// The mutex for one thread: futures are polled with the mutex lent to them. Keeps `LocalMutex` of futures-intrusive's `sync`.
@@ -66,17 +65,67 @@ pub struct MutexState<T, W> {
 pub type LocalMutex<T, W> = MutexState<T, W>;
 
 impl<T, W> Model for MutexState<T, W> {
-    ghost use Rattle.fi_locks.specs.Mutex.{MutexMachine, IsSound, OwesNoWake};
+    ghost use Rattle.fi_locks.specs.Mutex.{MutexMachine, mutex_of, IsSound, OwesNoWake};
     ghost use Rattle.fi_locks.specs.MutexCode.{mutex_code};
-    ghost use Rattle.fi_locks.specs.MutexFields.{machine_of};
 
     ghost Value = { MutexMachine T W };
 
     ghost coded = { mutex_code T.code W.code };
 
-    ghost view = { λ s. machine_of s.fields };
+    ghost view = { λ s. mutex_of s.is_fair s.value s.locks };
 
-    ghost invariant = { λ s. IsSound (machine_of s.fields) × OwesNoWake (machine_of s.fields) };
+    ghost invariant = { λ s. IsSound (mutex_of s.is_fair s.value s.locks)
+        × OwesNoWake (mutex_of s.is_fair s.value s.locks) };
+}
+
+// Tells the oldest of the queue, if there is one.
+fn tell_oldest<W: Drop>(locks: &mut Waits<(), W>, is_fair: bool)
+    requires { IsOrderedBy (is_queued is_fair) locks.old.side locks.old.out }
+    ensures { TakesEffect (tells_oldest is_fair locks.old.side.queue) locks.old locks.new }
+{
+    if let Some(oldest) = locks.oldest() {
+        locks.tell(oldest, is_fair);
+    }
+}
+
+// Grants a live future this value, which was taken of the mutex: the future ends, and leaves the queue if it has a place.
+fn grant<T, W: Drop>(
+    locks: &mut Waits<(), W>,
+    slot: Slot,
+    has_place: bool,
+    value: T,
+    waker: W,
+) -> (Poll<T>, Leftover<W>)
+    requires live { IsLive locks.old.side slot.0 }
+    requires place { holds slot.0 locks.old.side.queue ≡ has_place }
+    ensures granted { result.0 ≡ polled.Ready value }
+    ensures ended { TakesEffect (EndsPlaced slot.0) locks.old locks.new }
+    ensures displaced { result.1.displaced ≡ displaced locks.old.side locks.old.out slot.0 }
+    ensures unused { result.1.unused ≡ Some waker }
+{
+    let named = locks.take_out(slot);
+    if has_place {
+        locks.leave(slot);
+    }
+    let before = locks.set_phase(slot, Phase::Ended);
+    (
+        Poll::Ready(value),
+        Leftover::of(before.or(named), Some(waker)),
+    )
+}
+
+// Registers a live future that has no place in the queue: it goes to the queue's end.
+fn register<T, W: Drop>(locks: &mut Waits<(), W>, slot: Slot, waker: W) -> (Poll<T>, Leftover<W>)
+    requires unregistered { may_be_named (phase_of locks.old.side slot.0) ≡ true }
+    requires apart { holds slot.0 locks.old.side.queue ≡ false }
+    ensures waits { result.0 ≡ polled.Pending }
+    ensures registered { TakesEffect (Registers slot.0 waker) locks.old locks.new }
+    ensures displaced { result.1.displaced ≡ displaced locks.old.side locks.old.out slot.0 }
+    ensures unused { result.1.unused ≡ None }
+{
+    let named = locks.take_out(slot);
+    locks.register(slot, waker);
+    (Poll::Pending, Leftover::of(named, None))
 }
 
 impl<T: Drop, W: Drop> MutexState<T, W> {
@@ -85,11 +134,9 @@ impl<T: Drop, W: Drop> MutexState<T, W> {
         ensures { result ≡ opened value is_fair }
     {
         MutexState {
-            fields: Fields {
-                is_fair,
-                value: Some(value),
-                locks: Waits::new(alloc),
-            },
+            is_fair,
+            value: Some(value),
+            locks: Waits::new(alloc),
         }
     }
 
@@ -98,7 +145,7 @@ impl<T: Drop, W: Drop> MutexState<T, W> {
         ensures sound { IsSound self.now }
         ensures no_wake { OwesNoWake self.now }
     {
-        let _ = &self.fields;
+        let _ = &self.locks;
     }
 
     /// A future that locks the mutex. Refused only with `NoMemory`; then nothing has changed.
@@ -138,7 +185,10 @@ impl<T: Drop, W: Drop> MutexState<T, W> {
         ensures locked { IsLockedIfGiven result self.new }
         ensures all_stay { AllStay can_be_polled self.old self.new }
     {
-        self.fields.try_take()
+        if self.is_promised() {
+            return None;
+        }
+        self.value.take()
     }
 
     /// Puts a value back and unlocks the mutex, whose oldest queued future is told and named to be woken. A mutex that isn't
@@ -149,14 +199,19 @@ impl<T: Drop, W: Drop> MutexState<T, W> {
         ensures unlocked { Unlocks self.old value result self.new }
         ensures all_stay { AllStay can_be_polled self.old self.new }
     {
-        self.fields.unlock(value)
+        if self.value.is_some() {
+            return Err(value);
+        }
+        self.value = Some(value);
+        tell_oldest(&mut self.locks, self.is_fair);
+        Ok(())
     }
 
     /// Returns `true` if somebody has locked the mutex, and has its value. Keeps `GenericMutex::is_locked`.
     pub fn is_locked(&self) -> bool
         ensures { result ≡ not (is_free self.now) }
     {
-        self.fields.is_locked()
+        self.value.is_none()
     }
 
     /// Takes out the oldest waker that was named to be woken; None where none is left.
@@ -164,14 +219,14 @@ impl<T: Drop, W: Drop> MutexState<T, W> {
         ensures woken { Wakes self.old result self.new }
         ensures all_stay { AllStay can_be_polled self.old self.new }
     {
-        self.fields.locks.next_wake()
+        self.locks.next_wake()
     }
 
     /// How many wakers are named to be woken.
     pub fn wake_count(&self) -> usize
         ensures { result ≡ length self.now.waiting.out }
     {
-        self.fields.locks.wake_count()
+        self.locks.wake_count()
     }
 
     /// Makes a future under a slot that was not live. Refused only with `NoMemory`; then nothing has changed.
@@ -183,21 +238,24 @@ impl<T: Drop, W: Drop> MutexState<T, W> {
         ensures apart { IfOk result (λ slot. IsApart slot.0 self.old) }
         ensures all_stay { AllStay can_be_polled self.old self.new }
     {
-        self.fields.claim_lock()
+        match self.locks.insert(()) {
+            Ok(slot) => Ok(slot),
+            Err(_) => Err(Fault::NoMemory),
+        }
     }
 
     /// Returns `true` if a future lives under this slot.
     pub fn is_live(&self, slot: Slot) -> bool
         ensures { result ≡ is_some (phase_at self.now slot.0) }
     {
-        self.fields.locks.phase(slot).is_some()
+        self.locks.phase(slot).is_some()
     }
 
     /// Returns `true` if a future lives under this slot that has not ended.
     pub fn can_poll(&self, slot: Slot) -> bool
         ensures { result ≡ can_be_polled (phase_at self.now slot.0) }
     {
-        match self.fields.locks.phase(slot) {
+        match self.locks.phase(slot) {
             Some(Phase::Fresh | Phase::Registered(_) | Phase::Told) => true,
             None | Some(Phase::Complete | Phase::Ended) => false,
         }
@@ -207,7 +265,12 @@ impl<T: Drop, W: Drop> MutexState<T, W> {
     pub fn ends_now(&self, slot: Slot) -> bool
         ensures { WouldBeReady (Polls self.now slot.0) result }
     {
-        self.fields.ends_now(slot)
+        match self.locks.phase(slot) {
+            Some(Phase::Fresh) => self.value.is_some() && !self.is_promised(),
+            Some(Phase::Registered(_)) => self.value.is_some() && !self.is_fair,
+            Some(Phase::Told) => self.value.is_some(),
+            None | Some(Phase::Complete | Phase::Ended) => false,
+        }
     }
 
     /// Polls the future under this slot: ready with the value where the mutex is free for it, else registered with this waker.
@@ -224,7 +287,11 @@ impl<T: Drop, W: Drop> MutexState<T, W> {
         ensures pending { OnPending result.0 (can_be_polled (phase_at self.new slot.0) ≡ true) }
         ensures others { OthersStay can_be_polled slot.0 self.old self.new }
     {
-        self.fields.try_wait(slot, waker)
+        match self.locks.phase(slot) {
+            Some(Phase::Registered(_)) => self.poll_registered(slot, waker),
+            Some(Phase::Told) => self.poll_told(slot, waker),
+            _ => self.poll_fresh(slot, waker),
+        }
     }
 
     /// Polls the future under this slot as `try_wait` does, if one lives there that has not ended. Else the waker comes back, and
@@ -269,7 +336,62 @@ impl<T: Drop, W: Drop> MutexState<T, W> {
         ensures displaced { result ≡ displaced_at self.old slot.0 }
         ensures others { OthersStay can_be_polled slot.0 self.old self.new }
     {
-        self.fields.remove_waiter(slot)
+        let (future, named) = self.locks.remove_future(slot);
+        let was_told = future.phase.is_told();
+        let waker = last_waker(future.phase, named);
+        if was_told {
+            tell_oldest(&mut self.locks, self.is_fair);
+        }
+        waker
+    }
+
+    // Whether a newcomer has to wait, though the mutex may be free.
+    fn is_promised(&self) -> bool
+        ensures { result ≡ (self.now.own.is_fair && not (is_empty (queue_of self.now))) }
+    {
+        self.is_fair && self.locks.oldest().is_some()
+    }
+
+    fn poll_fresh(&mut self, slot: Slot, waker: W) -> (Poll<T>, Leftover<W>)
+        requires { phase_at self.old slot.0 ≡ Some phases.Fresh }
+        ensures polled { Polls self.old slot.0 waker result.0 self.new }
+        ensures displaced { result.1.displaced ≡ displaced_at self.old slot.0 }
+        ensures unused { result.1.unused ≡ unused_after result.0 waker }
+    {
+        if !self.is_promised() {
+            if let Some(value) = self.value.take() {
+                return grant(&mut self.locks, slot, false, value, waker);
+            }
+        }
+        register(&mut self.locks, slot, waker)
+    }
+
+    fn poll_registered(&mut self, slot: Slot, waker: W) -> (Poll<T>, Leftover<W>)
+        requires { is_registered (phase_at self.old slot.0) ≡ true }
+        ensures polled { Polls self.old slot.0 waker result.0 self.new }
+        ensures displaced { result.1.displaced ≡ displaced_at self.old slot.0 }
+        ensures unused { result.1.unused ≡ unused_after result.0 waker }
+    {
+        if !self.is_fair {
+            if let Some(value) = self.value.take() {
+                return grant(&mut self.locks, slot, true, value, waker);
+            }
+        }
+        self.locks.take_out(slot);
+        let before = self.locks.set_phase(slot, Phase::Registered(waker));
+        (Poll::Pending, Leftover::of(before, None))
+    }
+
+    fn poll_told(&mut self, slot: Slot, waker: W) -> (Poll<T>, Leftover<W>)
+        requires { phase_at self.old slot.0 ≡ Some phases.Told }
+        ensures polled { Polls self.old slot.0 waker result.0 self.new }
+        ensures displaced { result.1.displaced ≡ displaced_at self.old slot.0 }
+        ensures unused { result.1.unused ≡ unused_after result.0 waker }
+    {
+        match self.value.take() {
+            Some(value) => grant(&mut self.locks, slot, self.is_fair, value, waker),
+            None => register(&mut self.locks, slot, waker),
+        }
     }
 }
 
@@ -283,8 +405,7 @@ impl<T, W: Drop> MutexState<T, W> {
     pub fn into_inner(self) -> Option<T>
         ensures { result ≡ self.own.value }
     {
-        let MutexState { fields } = self;
-        let Fields { value, .. } = fields;
+        let MutexState { value, .. } = self;
         value
     }
 
@@ -293,207 +414,9 @@ impl<T, W: Drop> MutexState<T, W> {
         ensures* writes_back { sem 𝓛 (LendsIf (the_row T.row W.row) T.row self.entry result (with_value self.old) self.old) }
         ensures shows { option_copied_mut result ≡ self.old.own.value }
     {
-        match &mut self.fields.value {
+        match &mut self.value {
             Some(value) => Some(value),
             None => None,
         }
-    }
-}
-
-impl<T: Drop, W: Drop> Fields<T, W> {
-    ghost use Rattle.fi_parts.specs.Order.{holds};
-    ghost use Rattle.fi_parts.specs.Waiting.{IsLive, IsOrderedBy, is_queued, is_registered, may_be_named};
-    ghost use Rattle.fi_parts.specs.Effects.{TakesEffect};
-    ghost use Rattle.fi_parts.specs.Effects.WaiterEffect.{EndsPlaced, Registers};
-    ghost use Rattle.futures.specs.declared.task.Poll.TheVariants as polled;
-    ghost use Rattle.fi_parts.specs.declared.phase.Phase.TheVariants as phases;
-    ghost use Rattle.std.specs.Prelude.{◌&&◌};
-    ghost use Rattle.fi_locks.specs.Mutex.{for_newcomer, is_empty, queue_of, PollsAs, tells_oldest};
-    ghost use Rattle.fi_locks.specs.MutexFields.{machine_of, left_of};
-
-    fn is_locked(&self) -> bool
-        ensures { result ≡ not (is_free (machine_of self.now)) }
-    {
-        self.value.is_none()
-    }
-
-    fn claim_lock(&mut self) -> Result<Slot, Fault>
-        ensures made { IfOk result (λ slot. Makes (machine_of self.old) slot.0 (machine_of self.new)) }
-        ensures refused { OnErr result (machine_of self.new ≡ machine_of self.old) }
-        ensures fault { IfErr result (λ fault. fault ≡ Fault.NoMemory) }
-    {
-        match self.locks.insert(()) {
-            Ok(slot) => Ok(slot),
-            Err(_) => Err(Fault::NoMemory),
-        }
-    }
-
-    // Takes what there is for one who isn't queued.
-    fn take_for_newcomer(&mut self) -> Option<T>
-        ensures value { result ≡ for_newcomer (machine_of self.old) }
-        ensures rest { self.new ≡ record self.old { value = left_of result self.old.value } }
-    {
-        if self.is_promised() {
-            return None;
-        }
-        self.value.take()
-    }
-
-    // Whether a newcomer has to wait, though the mutex may be free.
-    fn is_promised(&self) -> bool
-        ensures { result ≡ (self.now.is_fair && not (is_empty (queue_of (machine_of self.now)))) }
-    {
-        self.is_fair && self.locks.oldest().is_some()
-    }
-
-    fn ends_now(&self, slot: Slot) -> bool
-        ensures { WouldBeReady (Polls (machine_of self.now) slot.0) result }
-    {
-        match self.locks.phase(slot) {
-            Some(Phase::Fresh) => self.value.is_some() && !self.is_promised(),
-            Some(Phase::Registered(_)) => self.value.is_some() && !self.is_fair,
-            Some(Phase::Told) => self.value.is_some(),
-            None | Some(Phase::Complete | Phase::Ended) => false,
-        }
-    }
-
-    fn try_take(&mut self) -> Option<T>
-        ensures { TriesLock (machine_of self.old) result (machine_of self.new) }
-    {
-        self.take_for_newcomer()
-    }
-
-    // Tells the oldest of the queue, if there is one.
-    fn tell_oldest(&mut self)
-        requires { IsOrderedBy (is_queued self.old.is_fair) self.old.locks.side self.old.locks.out }
-        ensures told { TakesEffect (tells_oldest self.old.is_fair self.old.locks.side.queue) self.old.locks self.new.locks }
-        ensures rest { self.new ≡ record self.old { locks = self.new.locks } }
-    {
-        if let Some(oldest) = self.locks.oldest() {
-            self.locks.tell(oldest, self.is_fair);
-        }
-    }
-
-    fn unlock(&mut self, value: T) -> Result<(), T>
-        requires { IsSound (machine_of self.old) }
-        ensures { Unlocks (machine_of self.old) value result (machine_of self.new) }
-    {
-        if self.value.is_some() {
-            return Err(value);
-        }
-        self.value = Some(value);
-        self.tell_oldest();
-        Ok(())
-    }
-
-    // Grants a live future this value, which was taken of the mutex: the future ends, and leaves the queue if it has a place.
-    fn grant(&mut self, slot: Slot, has_place: bool, value: T, waker: W) -> (Poll<T>, Leftover<W>)
-        requires live { IsLive self.old.locks.side slot.0 }
-        requires place { holds slot.0 self.old.locks.side.queue ≡ has_place }
-        ensures granted { result.0 ≡ polled.Ready value }
-        ensures ended { TakesEffect (EndsPlaced slot.0) self.old.locks self.new.locks }
-        ensures rest { self.new ≡ record self.old { locks = self.new.locks } }
-        ensures displaced { result.1.displaced ≡ displaced self.old.locks.side self.old.locks.out slot.0 }
-        ensures unused { result.1.unused ≡ Some waker }
-    {
-        let named = self.locks.take_out(slot);
-        if has_place {
-            self.locks.leave(slot);
-        }
-        let before = self.locks.set_phase(slot, Phase::Ended);
-        (
-            Poll::Ready(value),
-            Leftover::of(before.or(named), Some(waker)),
-        )
-    }
-
-    // Registers a live future that has no place in the queue: it goes to the queue's end.
-    fn register(&mut self, slot: Slot, waker: W) -> (Poll<T>, Leftover<W>)
-        requires unregistered { may_be_named (phase_of self.old.locks.side slot.0) ≡ true }
-        requires apart { holds slot.0 self.old.locks.side.queue ≡ false }
-        ensures waits { result.0 ≡ polled.Pending }
-        ensures registered { TakesEffect (Registers slot.0 waker) self.old.locks self.new.locks }
-        ensures rest { self.new ≡ record self.old { locks = self.new.locks } }
-        ensures displaced { result.1.displaced ≡ displaced self.old.locks.side self.old.locks.out slot.0 }
-        ensures unused { result.1.unused ≡ None }
-    {
-        let named = self.locks.take_out(slot);
-        self.locks.register(slot, waker);
-        (Poll::Pending, Leftover::of(named, None))
-    }
-
-    fn poll_fresh(&mut self, slot: Slot, waker: W) -> (Poll<T>, Leftover<W>)
-        requires sound { IsSound (machine_of self.old) }
-        requires fresh { phase_of self.old.locks.side slot.0 ≡ Some phases.Fresh }
-        ensures polled { PollsAs (Some phases.Fresh) (machine_of self.old) slot.0 waker result.0 (machine_of self.new) }
-        ensures displaced { result.1.displaced ≡ displaced self.old.locks.side self.old.locks.out slot.0 }
-        ensures unused { result.1.unused ≡ unused_after result.0 waker }
-    {
-        match self.take_for_newcomer() {
-            Some(value) => self.grant(slot, false, value, waker),
-            None => self.register(slot, waker),
-        }
-    }
-
-    fn poll_registered(&mut self, slot: Slot, waker: W) -> (Poll<T>, Leftover<W>)
-        requires sound { IsSound (machine_of self.old) }
-        requires registered { is_registered (phase_of self.old.locks.side slot.0) ≡ true }
-        ensures polled { PollsAs (phase_of self.old.locks.side slot.0) (machine_of self.old) slot.0 waker result.0 (machine_of self.new) }
-        ensures displaced { result.1.displaced ≡ displaced self.old.locks.side self.old.locks.out slot.0 }
-        ensures unused { result.1.unused ≡ unused_after result.0 waker }
-    {
-        if !self.is_fair {
-            if let Some(value) = self.value.take() {
-                return self.grant(slot, true, value, waker);
-            }
-        }
-        self.locks.take_out(slot);
-        let before = self.locks.set_phase(slot, Phase::Registered(waker));
-        (Poll::Pending, Leftover::of(before, None))
-    }
-
-    fn poll_told(&mut self, slot: Slot, waker: W) -> (Poll<T>, Leftover<W>)
-        requires sound { IsSound (machine_of self.old) }
-        requires told { phase_of self.old.locks.side slot.0 ≡ Some phases.Told }
-        requires free { self.old.is_fair ≡ true → is_some self.old.value ≡ true }
-        ensures polled { PollsAs (Some phases.Told) (machine_of self.old) slot.0 waker result.0 (machine_of self.new) }
-        ensures displaced { result.1.displaced ≡ displaced self.old.locks.side self.old.locks.out slot.0 }
-        ensures unused { result.1.unused ≡ unused_after result.0 waker }
-    {
-        match self.value.take() {
-            Some(value) => self.grant(slot, self.is_fair, value, waker),
-            None => self.register(slot, waker),
-        }
-    }
-
-    fn try_wait(&mut self, slot: Slot, waker: W) -> (Poll<T>, Leftover<W>)
-        requires sound { IsSound (machine_of self.old) }
-        requires no_wake { OwesNoWake (machine_of self.old) }
-        requires live { can_be_polled (phase_of self.old.locks.side slot.0) ≡ true }
-        ensures polled { Polls (machine_of self.old) slot.0 waker result.0 (machine_of self.new) }
-        ensures displaced { result.1.displaced ≡ displaced self.old.locks.side self.old.locks.out slot.0 }
-        ensures unused { result.1.unused ≡ unused_after result.0 waker }
-    {
-        match self.locks.phase(slot) {
-            Some(Phase::Registered(_)) => return self.poll_registered(slot, waker),
-            Some(Phase::Told) => return self.poll_told(slot, waker),
-            _ => {}
-        }
-        self.poll_fresh(slot, waker)
-    }
-
-    fn remove_waiter(&mut self, slot: Slot) -> Option<W>
-        requires sound { IsSound (machine_of self.old) }
-        requires live { is_some (phase_of self.old.locks.side slot.0) ≡ true }
-        ensures cancelled { Cancels (machine_of self.old) slot.0 (machine_of self.new) }
-        ensures displaced { result ≡ displaced self.old.locks.side self.old.locks.out slot.0 }
-    {
-        let (future, named) = self.locks.remove_future(slot);
-        let was_told = future.phase.is_told();
-        let waker = last_waker(future.phase, named);
-        if was_told {
-            self.tell_oldest();
-        }
-        waker
     }
 }

@@ -1,37 +1,73 @@
+use Rattle.std.proofs.Common.{◌≡◌, ℕ, true, is_some, subst}
+use Rattle.futures.specs.declared.task.Poll.{Poll}
+use Rattle.futures.specs.Poll.{OnPending}
+use Rattle.fi_parts.specs.Machine.{phase_at}
+use Rattle.fi_parts.specs.Stays.{OthersStay}
 use Rattle.fi_parts.proofs.Effects.{waits_are_fit}
 use Rattle.fi_parts.proofs.Machines.{polling_stays, pending_stays}
-use Rattle.fi_locks.specs.Mutex.{can_be_polled}
-use Rattle.fi_locks.specs.MutexFields.{machine_of}
-use Rattle.fi_locks.specs.MutexLaws.{rules, stays_well, polled, poll_line, locks_if_ready}
+use Rattle.fi_locks.specs.Mutex.{MutexMachine, Polls, IsSound, can_be_polled}
+use Rattle.fi_locks.specs.MutexLaws.{rules, poll_line}
 use Rattle.fi_locks.proofs.mutex.MutexState.try_wait.Goals as goal
 
-pub invariant_of-self : goal.invariant_of-self
-invariant_of-self g c =
-    let old = machine_of c.self.inside.fields in
-    let new = machine_of c.try_wait.new.self in
-    stays_well old new
-    (polled old c.args.slot.0 c.args.waker c.try_wait.result.0 new c.self.invariant c.try_wait.ensures.polled) c.self.invariant
+-- What holds after a poll of this future.
+record AfterPoll {T W : Type 0} (old : MutexMachine T W) (name : ℕ) (answer : Poll T)
+    (new : MutexMachine T W) : Type 0 where
+  live : is_some (phase_at new name) ≡ true
+  pending : OnPending answer (can_be_polled (phase_at new name) ≡ true)
+  others : OthersStay can_be_polled name old new
 
-pub returns-clause-locked : goal.returns-clause-locked
-returns-clause-locked g c =
-    locks_if_ready (machine_of c.self.inside.fields) c.args.slot.0 c.args.waker c.try_wait.result.0 _ c.try_wait.ensures.polled
+after_poll : {T W : Type 0} (old : MutexMachine T W) (name : ℕ) (waker : W) (answer : Poll T) (new : MutexMachine T W) →
+    IsSound old → Polls old name waker answer new → AfterPoll old name answer new
+after_poll old name waker answer new sound did =
+    let rule = rules old.own.is_fair in
+    let poll = poll_line old name waker answer new did in
+    record {
+      live = poll.lives;
+      pending = pending_stays rule can_be_polled waits_are_fit old new sound name waker answer poll.line;
+      others = polling_stays rule can_be_polled waits_are_fit old new sound name waker answer poll.line;
+    }
 
-pub returns-clause-live : goal.returns-clause-live
-returns-clause-live g c =
-    let old = machine_of c.self.inside.fields in
-    let new = machine_of c.try_wait.new.self in
-    (poll_line old c.args.slot.0 c.args.waker c.try_wait.result.0 new c.try_wait.ensures.polled).lives
+pub returns-in-Some-Registered-clause-live : goal.returns-in-Some-Registered-clause-live
+returns-in-Some-Registered-clause-live g c =
+    (after_poll c.args.self.now c.args.slot.0 c.args.waker c.poll_registered.result.0 c.poll_registered.new.self
+    (subst (λ m. IsSound m) c.self.view_is c.self.invariant.0) c.poll_registered.ensures.polled).live
 
-pub returns-clause-pending : goal.returns-clause-pending
-returns-clause-pending g c =
-    let old = machine_of c.self.inside.fields in
-    let new = machine_of c.try_wait.new.self in
-    pending_stays (rules old.own.is_fair) can_be_polled waits_are_fit old new c.self.invariant.0 c.args.slot.0 c.args.waker
-    c.try_wait.result.0 (poll_line old c.args.slot.0 c.args.waker c.try_wait.result.0 new c.try_wait.ensures.polled).line
+pub returns-in-Some-Registered-clause-pending : goal.returns-in-Some-Registered-clause-pending
+returns-in-Some-Registered-clause-pending g c =
+    (after_poll c.args.self.now c.args.slot.0 c.args.waker c.poll_registered.result.0 c.poll_registered.new.self
+    (subst (λ m. IsSound m) c.self.view_is c.self.invariant.0) c.poll_registered.ensures.polled).pending
 
-pub returns-clause-others : goal.returns-clause-others
-returns-clause-others g c =
-    let old = machine_of c.self.inside.fields in
-    let new = machine_of c.try_wait.new.self in
-    rw (← c.self.view_is) (polling_stays (rules old.own.is_fair) can_be_polled waits_are_fit old new c.self.invariant.0 c.args.slot.0
-    c.args.waker c.try_wait.result.0 (poll_line old c.args.slot.0 c.args.waker c.try_wait.result.0 new c.try_wait.ensures.polled).line)
+pub returns-in-Some-Registered-clause-others : goal.returns-in-Some-Registered-clause-others
+returns-in-Some-Registered-clause-others g c =
+    (after_poll c.args.self.now c.args.slot.0 c.args.waker c.poll_registered.result.0 c.poll_registered.new.self
+    (subst (λ m. IsSound m) c.self.view_is c.self.invariant.0) c.poll_registered.ensures.polled).others
+
+pub returns-in-Some-Told-clause-live : goal.returns-in-Some-Told-clause-live
+returns-in-Some-Told-clause-live g c =
+    (after_poll c.args.self.now c.args.slot.0 c.args.waker c.poll_told.result.0 c.poll_told.new.self
+    (subst (λ m. IsSound m) c.self.view_is c.self.invariant.0) c.poll_told.ensures.polled).live
+
+pub returns-in-Some-Told-clause-pending : goal.returns-in-Some-Told-clause-pending
+returns-in-Some-Told-clause-pending g c =
+    (after_poll c.args.self.now c.args.slot.0 c.args.waker c.poll_told.result.0 c.poll_told.new.self
+    (subst (λ m. IsSound m) c.self.view_is c.self.invariant.0) c.poll_told.ensures.polled).pending
+
+pub returns-in-Some-Told-clause-others : goal.returns-in-Some-Told-clause-others
+returns-in-Some-Told-clause-others g c =
+    (after_poll c.args.self.now c.args.slot.0 c.args.waker c.poll_told.result.0 c.poll_told.new.self
+    (subst (λ m. IsSound m) c.self.view_is c.self.invariant.0) c.poll_told.ensures.polled).others
+
+pub returns-in_default-clause-live : goal.returns-in_default-clause-live
+returns-in_default-clause-live g c =
+    (after_poll c.args.self.now c.args.slot.0 c.args.waker c.poll_fresh.result.0 c.poll_fresh.new.self
+    (subst (λ m. IsSound m) c.self.view_is c.self.invariant.0) c.poll_fresh.ensures.polled).live
+
+pub returns-in_default-clause-pending : goal.returns-in_default-clause-pending
+returns-in_default-clause-pending g c =
+    (after_poll c.args.self.now c.args.slot.0 c.args.waker c.poll_fresh.result.0 c.poll_fresh.new.self
+    (subst (λ m. IsSound m) c.self.view_is c.self.invariant.0) c.poll_fresh.ensures.polled).pending
+
+pub returns-in_default-clause-others : goal.returns-in_default-clause-others
+returns-in_default-clause-others g c =
+    (after_poll c.args.self.now c.args.slot.0 c.args.waker c.poll_fresh.result.0 c.poll_fresh.new.self
+    (subst (λ m. IsSound m) c.self.view_is c.self.invariant.0) c.poll_fresh.ensures.polled).others

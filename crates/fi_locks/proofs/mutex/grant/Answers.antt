@@ -4,9 +4,8 @@ use Rattle.fi_parts.specs.Order.{holds, without}
 use Rattle.fi_parts.specs.Pairs.{without_pair}
 use Rattle.fi_parts.specs.Waiting.{Waiting, with_phase, without_place}
 use Rattle.fi_parts.proofs.Slots.{without_absent}
-use Rattle.fi_locks.specs.declared.mutex.Fields.{Fields}
-use Rattle.fi_locks.proofs.mutex.Fields.grant.Goals as goal
-use Rattle.fi_locks.proofs.mutex.Fields.grant.Goals.{then-has_place, else-has_place}
+use Rattle.fi_locks.proofs.mutex.grant.Goals as goal
+use Rattle.fi_locks.proofs.mutex.grant.Goals.{then-has_place, else-has_place}
 
 module _ {D W : Type 0} (old : Waiting D W) (name : ℕ) where
   -- its pair was taken out
@@ -21,7 +20,8 @@ module _ {D W : Type 0} (old : Waiting D W) (name : ℕ) where
       now ≡ record taken { side = record taken.side { queue = without name taken.side.queue } } → now ≡ unplaced
   left taken now is did =
       did ∙ ap
-      (λ (w : Waiting D W). let v : Waiting D W = record w { side = record w.side { queue = without name w.side.queue } } in v) is
+      (λ (w : Waiting D W).
+      let v : Waiting D W = record w { side = record w.side { queue = without name w.side.queue } } in v) is
 
   -- who had no place there
   stayed : (now : Waiting D W) → holds name old.side.queue ≡ false → now ≡ unpaired → now ≡ unplaced
@@ -39,14 +39,15 @@ module _ {D W : Type 0} (old : Waiting D W) (name : ℕ) where
 
 pub returns-clause-ended : goal.returns-clause-ended
 returns-clause-ended g c =
-    let old = c.args.self.now.locks in
+    let old = c.args.locks.now in
     let taken = c.take_out-named.new.self in
     let name = c.args.slot.0 in
-    let mid : c.if-has_place.self.locks ≡ unplaced old name =
+    let mid : c.if-has_place.locks ≡ unplaced old name =
     elim c.if-has_place.branch [
-      | then-has_place w ↦ left old name taken c.if-has_place.self.locks c.take_out-named.ensures.rest
-          (ap (λ (f : Fields g.row.T.Denot g.row.W.Denot). f.locks) w.self-is ∙ w.leave.ensures)
-      | else-has_place w ↦ stayed old name c.if-has_place.self.locks (c.requires.place ∙ w.if-has_place.false)
-          (ap (λ (f : Fields g.row.T.Denot g.row.W.Denot). f.locks) w.self-is ∙ c.take_out-named.ensures.rest)
+      | then-has_place w ↦ left old name taken c.if-has_place.locks c.take_out-named.ensures.rest
+          (w.locks-is ∙ w.leave.ensures)
+      | else-has_place w ↦ stayed old name c.if-has_place.locks (c.requires.place ∙ w.if-has_place.false)
+          (w.locks-is ∙ c.take_out-named.ensures.rest)
     ] in
-    (c.requires.live, ended old name c.if-has_place.self.locks c.set_phase-before.new.self mid c.set_phase-before.ensures.rest)
+    let new = c.set_phase-before.new.self in
+    (c.requires.live, ended old name c.if-has_place.locks new mid c.set_phase-before.ensures.rest)
