@@ -169,7 +169,8 @@ module _ {W : Type 0} where
   disarmed old new n did =
       line (rules old.own.is_fair) (record old.own { held = old.own.held - n }) NoChange old new did.1 tt (λ asks lack. tt)
 
-  pub popped : (old new : SemaphoreMachine W) (waker : Option W) → Wakes old waker new → TableLine (rules old.own.is_fair) (gives waker) old new
+  pub popped : (old new : SemaphoreMachine W) (waker : Option W) → Wakes old waker new →
+      TableLine (rules old.own.is_fair) (gives waker) old new
   popped old new waker did = pops (rules old.own.is_fair) waker old new did
 
   pub makes_pollable : (old : SemaphoreMachine W) (name need : ℕ) (new : SemaphoreMachine W) → Makes old need name new →

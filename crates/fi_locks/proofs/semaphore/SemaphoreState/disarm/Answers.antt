@@ -8,7 +8,8 @@ use Rattle.fi_locks.proofs.semaphore.SemaphoreState.disarm.Goals as goal
 
 pub invariant_of-self : goal.invariant_of-self
 invariant_of-self g c = (
-  disarm_holds (machine_of c.self.inside.fields) (machine_of c.disarm.new.self) c.args.permits c.self.invariant.0 c.disarm.ensures.disarmed,
+  disarm_holds (machine_of c.self.inside.fields) (machine_of c.disarm.new.self) c.args.permits c.self.invariant.0
+      c.disarm.ensures.disarmed,
   c.disarm.ensures.marked,
 )
 
@@ -17,4 +18,5 @@ returns-clause-all_stay g c =
     let old = machine_of c.self.inside.fields in
     let new = machine_of c.disarm.new.self in
     rw (← c.self.view_is)
-    (all_stay (rules old.own.is_fair) can_be_polled waits_are_fit old new c.self.invariant.0.0.waiters (disarmed old new c.args.permits c.disarm.ensures.disarmed))
+    (all_stay (rules old.own.is_fair) can_be_polled waits_are_fit old new c.self.invariant.0.0.waiters
+    (disarmed old new c.args.permits c.disarm.ensures.disarmed))

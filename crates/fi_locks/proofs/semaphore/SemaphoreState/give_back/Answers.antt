@@ -18,4 +18,5 @@ returns-clause-all_stay g c =
     let old = machine_of c.self.inside.fields in
     let new = machine_of c.give_back.new.self in
     rw (← c.self.view_is)
-    (all_stay (rules old.own.is_fair) can_be_polled waits_are_fit old new c.self.invariant.0.0.waiters (given_back old new c.args.permits c.give_back.ensures.given_back))
+    (all_stay (rules old.own.is_fair) can_be_polled waits_are_fit old new c.self.invariant.0.0.waiters
+    (given_back old new c.args.permits c.give_back.ensures.given_back))

@@ -15,7 +15,8 @@ invariant_of-self g c =
     let old = machine_of c.self.inside.fields in
     let new = machine_of c.release.new.self in (
       either c.release.result _ _ (Holds new) c.release.ensures.released c.release.ensures.refused
-          (λ done did. release_holds old new c.args.permits c.self.invariant.0 did) (λ same. subst Holds (sym same) c.self.invariant.0),
+          (λ done did. release_holds old new c.args.permits c.self.invariant.0 did)
+          (λ same. subst Holds (sym same) c.self.invariant.0),
       c.release.ensures.marked,
     )
 
@@ -25,7 +26,8 @@ returns-clause-all_stay g c =
     let new = machine_of c.release.new.self in
     rw (← c.self.view_is)
     (either c.release.result _ _ (AllStay can_be_polled old new) c.release.ensures.released c.release.ensures.refused
-    (λ done did. all_stay (rules old.own.is_fair) can_be_polled waits_are_fit old new c.self.invariant.0.0.waiters (released old new c.args.permits did))
+    (λ done did. all_stay (rules old.own.is_fair) can_be_polled waits_are_fit old new c.self.invariant.0.0.waiters
+    (released old new c.args.permits did))
     (λ same. all_stay (rules old.own.is_fair) can_be_polled waits_are_fit old new c.self.invariant.0.0.waiters
     (unchanged (rules old.own.is_fair) old new same)))
 
