@@ -1,32 +1,38 @@
+use Rattle.std.proofs.Common.{rules as lemmas}
+use Rattle.fi_parts.specs.MachineTable.{PollLine, answered_change}
 use Rattle.fi_parts.proofs.Machines.{line_preserves, answering_stays, pending_answer_stays}
-use Rattle.fi_channels.specs.Oneshot.{can_receive}
-use Rattle.fi_channels.specs.OneValueFields.{machine_of}
+use Rattle.fi_channels.specs.Polled.{Answered}
+use Rattle.fi_channels.specs.Oneshot.{OneshotMachine, can_receive, Polls, Lacks}
 use Rattle.fi_channels.specs.OneshotLaws.{rules, receives_are_fit, gave}
+use Rattle.fi_channels.proofs.oneshot.OneValueStateChannelReceiveAccess.receive_or_register.Given.{Over}
 use Rattle.fi_channels.proofs.oneshot.OneValueStateChannelReceiveAccess.receive_or_register.Goals as goal
 
-pub invariant_of-self : goal.invariant_of-self
-invariant_of-self g c =
-    let old = machine_of c.self.inside.fields in
-    let new = machine_of c.receive.new.self in
-    line_preserves rules old new (gave _ old c.args.slot.0 c.args.waker c.receive.result.0 new c.receive.ensures.polled).line
-    c.self.invariant
+abbrev old : (g : Over) (c : goal.Joined-waited g) → OneshotMachine g.row.T.Denot g.row.W.Denot
+old g c = record { own = c.self.inside.content; waiting = c.self.inside.receives }
+
+abbrev new : (g : Over) (c : goal.Joined-waited g) → OneshotMachine g.row.T.Denot g.row.W.Denot
+new g c = record { own = c.give_to.new.content; waiting = c.poll-waited.new.self }
+
+polled : (g : Over) (c : goal.Joined-waited g) → Answered (Polls g.G.GivesValue.giving (old g c) c.args.slot.0 c.args.waker)
+    (Lacks g.G.GivesValue.giving (old g c) c.args.slot.0) c.match-waited.result.0 (new g c)
+polled g c = search lemmas
+
+is_line : (g : Over) (c : goal.Joined-waited g) →
+    PollLine rules c.args.slot.0 (answered_change c.args.slot.0 c.args.waker c.match-waited.result.0) (old g c) (new g c)
+is_line g c = gave _ (old g c) c.args.slot.0 c.args.waker c.match-waited.result.0 (new g c) (polled g c)
+
+pub invariant_of-self-2 : goal.invariant_of-self-2
+invariant_of-self-2 g c = line_preserves rules (old g c) (new g c) (is_line g c).line c.self.invariant
 
 pub returns-clause-live : goal.returns-clause-live
-returns-clause-live g c =
-    let old = machine_of c.self.inside.fields in
-    let new = machine_of c.receive.new.self in
-    (gave _ old c.args.slot.0 c.args.waker c.receive.result.0 new c.receive.ensures.polled).lives
+returns-clause-live g c = (is_line g c).lives
 
 pub returns-clause-pending : goal.returns-clause-pending
 returns-clause-pending g c =
-    let old = machine_of c.self.inside.fields in
-    let new = machine_of c.receive.new.self in
-    pending_answer_stays rules can_receive receives_are_fit old new c.self.invariant.0 c.args.slot.0 c.args.waker c.receive.result.0
-    (gave _ old c.args.slot.0 c.args.waker c.receive.result.0 new c.receive.ensures.polled).line
+    pending_answer_stays rules can_receive receives_are_fit (old g c) (new g c) c.self.invariant.0 c.args.slot.0 c.args.waker
+    c.match-waited.result.0 (is_line g c).line
 
 pub returns-clause-others : goal.returns-clause-others
 returns-clause-others g c =
-    let old = machine_of c.self.inside.fields in
-    let new = machine_of c.receive.new.self in
-    rw (← c.self.view_is) (answering_stays rules can_receive receives_are_fit old new c.self.invariant.0 c.args.slot.0 c.args.waker
-    c.receive.result.0 (gave _ old c.args.slot.0 c.args.waker c.receive.result.0 new c.receive.ensures.polled).line)
+    rw (← c.self.view_is) (answering_stays rules can_receive receives_are_fit (old g c) (new g c) c.self.invariant.0 c.args.slot.0
+    c.args.waker c.match-waited.result.0 (is_line g c).line)

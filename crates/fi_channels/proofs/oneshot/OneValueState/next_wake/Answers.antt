@@ -1,9 +1,0 @@
-use Rattle.fi_parts.proofs.Machines.{popping_stays}
-use Rattle.fi_channels.specs.Oneshot.{can_receive}
-use Rattle.fi_channels.specs.OneValueFields.{machine_of}
-use Rattle.fi_channels.proofs.oneshot.OneValueState.next_wake.Goals as goal
-
-pub returns-clause-all_stay : goal.returns-clause-all_stay
-returns-clause-all_stay g c =
-    rw (← c.self.view_is) (popping_stays (machine_of c.self.inside.fields) (machine_of c.next_wake.new.self) can_receive _
-    c.next_wake.result c.next_wake.ensures)
