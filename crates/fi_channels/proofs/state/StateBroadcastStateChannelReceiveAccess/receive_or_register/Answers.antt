@@ -18,29 +18,31 @@ old g c = record {
 abbrev new : (g : Over) (c : goal.Joined-waited g) → StateMachine g.row.T.Denot g.row.W.Denot
 new g c = record (old g c) { waiting = c.poll-waited.new.self }
 
-polled : (g : Over) (c : goal.Joined-waited g) → Answered (Polls g.T.Clone.is_clone (old g c) c.args.slot.0 c.args.waker)
+polled : (g : Over) (c : goal.Joined-waited g) →
+    Answered (Polls g.T.Clone.is_clone (old g c) c.args.slot.0 c.args.waker)
     (LacksClone g.T.Clone.is_infallible (old g c) c.args.slot.0) c.match-waited.result.0 (new g c)
 polled g c = search lemmas
 
 is_line : (g : Over) (c : goal.Joined-waited g) →
-    PollLine rules c.args.slot.0 (answered_change c.args.slot.0 c.args.waker c.match-waited.result.0) (old g c) (new g c)
+    PollLine rules c.args.slot.0 (answered_change c.args.slot.0 c.args.waker c.match-waited.result.0)
+    (old g c) (new g c)
 is_line g c =
-    cloned _ _ (old g c) c.args.slot.0 c.args.waker (new g c) c.match-waited.result.0 c.self.invariant.0.numbered (polled g c)
+    cloned _ _ _ c.args.slot.0 c.args.waker _ c.match-waited.result.0 c.self.invariant.0.numbered (polled g c)
 
 pub invariant_of-self : goal.invariant_of-self
 invariant_of-self g c =
-    same_preserves (old g c) (new g c) (is_line g c).line
-    (own_cloned _ _ (old g c) c.args.slot.0 c.args.waker (new g c) c.match-waited.result.0 (polled g c)) c.self.invariant
+    same_preserves _ _ (is_line g c).line
+    (own_cloned _ _ _ c.args.slot.0 c.args.waker _ c.match-waited.result.0 (polled g c)) c.self.invariant
 
 pub returns-clause-live : goal.returns-clause-live
 returns-clause-live g c = (is_line g c).lives
 
 pub returns-clause-pending : goal.returns-clause-pending
 returns-clause-pending g c =
-    pending_answer_stays rules can_receive receives_are_fit (old g c) (new g c) c.self.invariant.0.waiters c.args.slot.0 c.args.waker
+    pending_answer_stays rules can_receive receives_are_fit _ _ c.self.invariant.0.waiters c.args.slot.0 c.args.waker
     c.match-waited.result.0 (is_line g c).line
 
 pub returns-clause-others : goal.returns-clause-others
 returns-clause-others g c =
-    rw (← c.self.view_is) (answering_stays rules can_receive receives_are_fit (old g c) (new g c) c.self.invariant.0.waiters c.args.slot.0
-    c.args.waker c.match-waited.result.0 (is_line g c).line)
+    rw (← c.self.view_is) (answering_stays rules can_receive receives_are_fit _ _ c.self.invariant.0.waiters
+    c.args.slot.0 c.args.waker c.match-waited.result.0 (is_line g c).line)

@@ -21,9 +21,9 @@ removed g c = search lemmas
 
 pub invariant_of-self : goal.invariant_of-self
 invariant_of-self g c =
-    same_preserves (old g c) (new g c) (removes rules c.args.slot.0 (old g c) (new g c) (removed g c)) (removed g c).0 c.self.invariant
+    same_preserves _ _ (removes rules c.args.slot.0 (old g c) (new g c) (removed g c)) (removed g c).0 c.self.invariant
 
 pub returns-clause-others : goal.returns-clause-others
 returns-clause-others g c =
-    rw (← c.self.view_is) (others_stay rules can_receive receives_are_fit (old g c) (new g c) c.self.invariant.0.waiters c.args.slot.0
+    rw (← c.self.view_is) (others_stay rules can_receive receives_are_fit _ _ c.self.invariant.0.waiters c.args.slot.0
     (removes rules c.args.slot.0 (old g c) (new g c) (removed g c)))
