@@ -1,12 +1,12 @@
 -- What a stream that threads share does in its channel.
-use Rattle.std.specs.Prelude.{◌≡◌, ◌||◌, ℕ, Bool, true, false, Option, Some, None, Result, Ok, Err}
+use Rattle.std.specs.Prelude.{◌≡◌, ℕ, Bool, true, false, Option, Some, None, Result, Ok, Err}
 use Rattle.futures.specs.declared.task.Poll.{Poll}
 use Rattle.futures.specs.declared.task.Poll.TheVariants.{Ready, Pending}
-use Rattle.fi_channels.specs.Channel.{ChannelMachine, can_stream, is_end, kind_of, receive_phase, PollsNext}
+use Rattle.fi_channels.specs.Channel.{ChannelMachine, can_stream, kind_of, receive_phase, PollsNext}
 use Rattle.fi_channels.specs.Polled.{unused_after}
 use Rattle.fi_parts.specs.declared.errors.Fault.{Fault}
 use Rattle.fi_parts.specs.declared.phase.Leftover.{Leftover}
-use Rattle.fi_sync.specs.Waiting.{SharedFuture, PollsWhere, IsAnswer}
+use Rattle.fi_sync.specs.Waiting.{PollsWhere, IsAnswer}
 
 -- A poll that is not refused is one of these; a channel refuses none.
 abbrev pub Streamed : {T S : Type 0} → (Poll (Option T) → S → Type 0) → Poll (Option (Result T Fault)) → S → Type 0
@@ -29,10 +29,6 @@ abbrev pub PollsStream : {T W : Type 0} → ChannelMachine T W → ℕ → W →
 PollsStream old name waker answer new =
     PollsWhere (can_stream (kind_of old name) (receive_phase old name)) (Streamed (PollsNext old name waker)) (Some (Err Fault.NoSlot))
     old answer new
-
--- A poll with this answer ends the stream, or leaves it as it was.
-abbrev pub streamed : {A : Type 0} → SharedFuture → Poll (Option A) → SharedFuture
-streamed stream answer = record stream { has_ended = stream.has_ended || is_end answer }
 
 -- A stream that has ended answers its end. Another answers as its channel did in some hold of the lock, where it was polled under the
 -- stream's own name, or that it has no memory where it had to wait and no waker could be made.

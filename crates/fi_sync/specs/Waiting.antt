@@ -1,5 +1,5 @@
 -- What a contract sees of a future of a primitive that threads share.
-use Rattle.std.specs.Prelude.{◌≡◌, ◌⊎◌, ℕ, Bool, true, false, Option, Some, None, is_some, Result, Err, ◌||◌}
+use Rattle.std.specs.Prelude.{◌≡◌, ◌⊎◌, ℕ, Bool, true, false, Option, Some, None, is_some, IfSome, Result, Err, ⊤}
 use Rattle.futures.specs.Poll.{OnPending}
 use Rattle.futures.specs.declared.task.Poll.{Poll}
 use Rattle.futures.specs.declared.task.Poll.TheVariants.{Ready, Pending}
@@ -9,9 +9,11 @@ use Rattle.fi_parts.specs.Polled.{LeavesWhere}
 use Rattle.fi_parts.specs.declared.errors.Fault.{Fault}
 use Rattle.fi_parts.specs.declared.phase.Leftover.{Leftover}
 use Rattle.fi_parts.specs.declared.phase.Phase.{Phase}
+use Rattle.fi_sync.specs.declared.claim.Fate.{Fate}
+use Rattle.fi_sync.specs.declared.claim.Fate.TheVariants.{GoesOn, Ended}
 
--- The source that its primitive's futures register at, its name in its primitive's state (None once it was cancelled), and whether it
--- was polled to its end or cancelled.
+-- The source that its primitive's futures register at, its name in its primitive's state (None once it has ended), and whether it was
+-- polled to its end or cancelled.
 pub record SharedFuture : Type 0 where
   pub source : ℕ
   pub name : Option ℕ
@@ -26,9 +28,14 @@ abbrev pub ends : {A : Type 0} → (A → Bool) → Poll A → Bool
 ends is_last (Ready output) = is_last output
 ends is_last Pending = false
 
+-- the future once it has ended, when it has no name any more, or as it was
+abbrev pub ended_if : Bool → SharedFuture → SharedFuture
+ended_if true future = record { source = future.source; name = None; has_ended = true }
+ended_if false future = future
+
 -- A poll with this answer ends the future, or leaves it as it was.
 abbrev pub polled : {A : Type 0} → (A → Bool) → SharedFuture → Poll A → SharedFuture
-polled is_last future answer = record future { has_ended = future.has_ended || ends is_last answer }
+polled is_last future answer = ended_if (ends is_last answer) future
 
 -- A poll under a slot is the state's where a future can be polled there; else it is refused, and nothing changes.
 abbrev pub PollsWhere : {S A : Type 0} → Bool → (Poll A → S → Type 0) → A → S → Poll A → S → Type 0
@@ -60,7 +67,7 @@ module _ {S D W : Type 0} where
 abbrev pub IsLeft : {S L : Type 0} → (S → ℕ → L → S → Type 0) → ℕ → L → Type 0
 IsLeft {S} cancels name left = (old : S) × (new : S) × cancels old name left new
 
--- The same of a future's own name, which it has until it is cancelled.
+-- The same of a future's own name, which it has until it ends.
 abbrev pub IsLeftBy : {S L : Type 0} → (S → ℕ → L → S → Type 0) → Option ℕ → L → Type 0
 IsLeftBy cancels own left = (name : ℕ) × (own ≡ Some name) × IsLeft cancels name left
 
@@ -76,3 +83,37 @@ IsAnswer polls no_memory own true lacks_waker answer = answer ≡ Pending
 IsAnswer {S} {W} polls no_memory own false lacks_waker answer =
     ((lacks_waker ≡ true) × (answer ≡ Ready no_memory))
     ⊎ ((old : S) × (name : ℕ) × (new : S) × (own ≡ Some name) × IsPolled polls name answer old new)
+
+-- whether a poll under a slot was answered, and the answer ends its future
+abbrev pub is_over : {A B : Type 0} → (A → Bool) → Option (Poll A × B) → Bool
+is_over is_last None = false
+is_over is_last (Some polled) = ends is_last polled.0
+
+-- the name of a future that goes on; None of one that has ended
+abbrev pub name_after : {K L : Type 0} → Fate K L → Option ℕ
+name_after (GoesOn claim) = Some claim
+name_after (Ended left) = None
+
+-- What becomes of the future under this name, which a poll has ended or not. If it goes on, it keeps the name, and nothing more happens.
+-- If it has ended, it is cancelled in the state that the poll left.
+abbrev pub Befalls : {S K L : Type 0} → (S → ℕ → L → S → Type 0) → Bool → ℕ → Fate K L → S → S → Type 0
+Befalls cancels true name (GoesOn claim) old new = ⊥
+Befalls cancels true name (Ended left) old new = cancels old name left new
+Befalls cancels false name (GoesOn claim) old new = (claim ≡ name) × (new ≡ old)
+Befalls cancels false name (Ended left) old new = ⊥
+
+-- A poll under this name, or none, and what becomes of its future then, lead from old to new.
+abbrev pub IsSettled : {S W A B K L : Type 0} → (S → ℕ → Option W → Poll A → S → Type 0) → (S → ℕ → L → S → Type 0) → (A → Bool)
+    → ℕ → Option (Poll A × B) → Fate K L → S → S → Type 0
+IsSettled {S} polls cancels is_last name polled fate old new =
+    (between : S) × IfSome polled (λ polled. IsPolled polls name polled.0 old between)
+    × Befalls cancels (is_over is_last polled) name fate between new
+
+-- If a poll with this answer has ended its future, it was one under the future's own name, and a cancel under that name followed it in the
+-- same hold of the lock.
+abbrev pub IsEndedBy : {S W A L : Type 0} → (S → ℕ → Option W → Poll A → S → Type 0) → (S → ℕ → L → S → Type 0) → Bool → Option ℕ
+    → Poll A → Type 0
+IsEndedBy {S} {L = L} polls cancels true own answer =
+    (old : S) × (between : S) × (new : S) × (name : ℕ) × (left : L) × (own ≡ Some name) × IsPolled polls name answer old between
+    × cancels between name left new
+IsEndedBy polls cancels false own answer = ⊤

@@ -1,12 +1,13 @@
 //! Streams of the channels that threads share.
-ghost use Rattle.std.specs.Prelude.{◌≡◌, Option, Some, Err, false, is_some};
+ghost use Rattle.std.specs.Prelude.{◌≡◌, Option, Some, Err, false, is_some, is_none};
 ghost use Rattle.futures.specs.Poll.{OnPending};
 ghost use Rattle.futures.specs.Task.{Covers, Keeps};
 ghost use Rattle.futures.specs.declared.task.waker.Waker.{Waker};
 ghost use Rattle.fi_channels.specs.Channel.{receive_phase, CancelsReceive, displaced_receive};
 ghost use Rattle.fi_parts.specs.Polled.{LeavesWhere};
 ghost use Rattle.fi_parts.specs.declared.errors.Fault.{Fault};
-ghost use Rattle.fi_sync.specs.Streams.{PollsStream, IsStreamAnswer, leftover_of_next, streamed};
+ghost use Rattle.fi_sync.specs.Streams.{PollsStream, IsStreamAnswer, leftover_of_next};
+ghost use Rattle.fi_sync.specs.Waiting.{polled};
 
 use crate::claim::{Cancel, Claim};
 use crate::monitor::Monitor;
@@ -30,19 +31,14 @@ pub struct ChannelStreaming;
 #[derive(Drop)]
 pub struct ChannelStream<'a, T: Drop, B: RingBuf<Item = T>, R: Wait> {
     future: SlotFuture<&'a Monitor<ChannelState<T, B, PollWaker>, R>, ChannelStreaming>,
-    is_ended: bool,
 }
 
 impl<'a, T: Drop, B: RingBuf<Item = T>, R: Wait> Model for ChannelStream<'a, T, B, R> {
-    ghost use Rattle.std.specs.Prelude.{◌≡◌, false};
     ghost use Rattle.fi_sync.specs.Waiting.{SharedFuture};
 
     ghost Value = { SharedFuture };
 
-    ghost view = { λ stream. record { source = stream.future.source; name = stream.future.name; has_ended = stream.is_ended } };
-
-    // The future itself never ends.
-    ghost invariant = { λ stream. stream.future.has_ended ≡ false };
+    ghost view = { λ stream. stream.future };
 }
 
 impl<'a, T: Drop, B: RingBuf<Item = T>, R: Wait> ChannelStream<'a, T, B, R> {
@@ -54,7 +50,6 @@ impl<'a, T: Drop, B: RingBuf<Item = T>, R: Wait> ChannelStream<'a, T, B, R> {
     {
         ChannelStream {
             future: SlotFuture::new(monitor, claim),
-            is_ended: false,
         }
     }
 
@@ -62,25 +57,21 @@ impl<'a, T: Drop, B: RingBuf<Item = T>, R: Wait> ChannelStream<'a, T, B, R> {
     pub fn poll_item(&mut self, cx: &mut Context<'_>) -> Poll<Option<Result<T, Fault>>>
         ensures registered { OnPending result (Covers cx.new (λ source. source ≡ self.new.source)) }
         ensures kept { Keeps cx.old cx.new }
-        ensures stands { self.new ≡ streamed self.old result }
+        ensures stands { self.new ≡ polled is_none self.old result }
         ensures answered { IsStreamAnswer (PollsStream {T = T} {W = Option Waker}) self.old.name self.old.has_ended
             cx.new.lacks_waker result }
     {
-        if self.is_ended {
+        if self.future.is_terminated() {
             return Poll::Ready(None);
         }
-        let answer = self.future.poll(cx);
-        if let Poll::Ready(None) = &answer {
-            self.is_ended = true;
-        }
-        answer
+        self.future.poll(cx)
     }
 
     /// Returns `true` if the stream has answered its end. It takes no lock. Keeps `FusedStream::is_terminated`.
     pub fn is_terminated(&self) -> bool
         ensures { result ≡ self.now.has_ended }
     {
-        self.is_ended
+        self.future.is_terminated()
     }
 }
 
@@ -95,13 +86,12 @@ impl<T: Drop, B: RingBuf<Item = T>, R: Wait> Stream for ChannelStream<'_, T, B, 
 }
 
 impl<T> PollOutput for Option<Result<T, Fault>> {
-    // A stream that has ended answers its end again.
-    ghost is_last = { λ _. false };
+    ghost is_last = { is_none };
 
     ghost refusal = { λ fault. Some (Err fault) };
 
     fn ends(&self) -> bool {
-        false
+        self.is_none()
     }
 
     fn refused(fault: Fault) -> Self {

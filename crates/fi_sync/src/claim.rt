@@ -1,5 +1,6 @@
 //! The slot of a future, which the future's drop has to give back.
-ghost use Rattle.std.specs.Prelude.{◌≡◌, ℕ};
+ghost use Rattle.std.specs.Prelude.{◌≡◌, ℕ, Some, None};
+ghost use Rattle.fi_sync.specs.Waiting.{name_after};
 
 use fi_parts::Slot;
 use std::marker::{Model, PhantomData};
@@ -25,6 +26,8 @@ pub struct Claim<K> {
 }
 
 impl<K> Model for Claim<K> {
+    ghost use Rattle.std.specs.Prelude.{ℕ};
+
     ghost Value = { ℕ };
 
     ghost view = { λ claim. claim.slot.0 };
@@ -54,5 +57,36 @@ impl<K> Claim<K> {
     {
         let Claim { slot, kind: _ } = self;
         state.cancel(slot)
+    }
+
+    // Puts the claim in an empty place.
+    fn store(self, place: &mut Option<Claim<K>>)
+        requires { place.old ≡ None }
+        ensures { place.new ≡ Some self }
+    {
+        match place.replace(self) {
+            None => {}
+            Some(_) => unreachable!(),
+        }
+    }
+}
+
+/// What becomes of a future that is polled: it goes on under its claim, or it has ended and was cancelled, which left this.
+pub enum Fate<K, L> {
+    GoesOn(Claim<K>),
+    Ended(L),
+}
+
+impl<K, L: Drop> Fate<K, L> {
+    /// Puts the claim of a future that goes on back in its place, which is empty. What the cancel of one that has ended left is
+    /// dropped: that may run any code, so no lock may be held.
+    pub(crate) fn settle(self, place: &mut Option<Claim<K>>)
+        requires { place.old ≡ None }
+        ensures { place.new ≡ name_after self }
+    {
+        match self {
+            Fate::GoesOn(claim) => claim.store(place),
+            Fate::Ended(left) => drop(left),
+        }
     }
 }

@@ -40,7 +40,7 @@ mod wakes;
 pub use blocking::{Blocking, wait_for};
 pub use channel::{Channel, GenericChannel, UnbufferedChannel};
 pub use channel_stream::{ChannelStream, ChannelStreaming};
-pub use claim::{Cancel, Claim};
+pub use claim::{Cancel, Claim, Fate};
 pub use counted_mutex::{CountedMutex, Locked, MutexLock};
 pub use counted_semaphore::{CountedSemaphore, SemaphoreAcquire};
 pub use debug::FutureKind;

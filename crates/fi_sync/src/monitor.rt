@@ -4,11 +4,11 @@ ghost use Rattle.std.specs.Borrow.{MutBor};
 ghost use Rattle.futures.specs.Poll.{OnPending};
 ghost use Rattle.futures.specs.Task.{Covers, Keeps};
 ghost use Rattle.fi_parts.specs.declared.errors.Slot.{Slot};
-ghost use Rattle.fi_sync.specs.Waiting.{IsLeft, IsPolled};
+ghost use Rattle.fi_sync.specs.Waiting.{IsLeft, IsSettled};
 
 mod taken_apart;
 
-use crate::claim::{Cancel, Claim};
+use crate::claim::{Cancel, Claim, Fate};
 use crate::slot_future::{PollSlot, SlotPolled};
 use crate::wakes::{Guarded, HasOutbox};
 use fi_parts::Slot;
@@ -89,22 +89,24 @@ impl<S: HasOutbox, R: Wait> Monitor<S, R> {
 
     /// Polls the future that has this claim, as `call` makes a call. A spare waker is used up if the poll waits, or comes back as
     /// unused. None if the poll has to wait and no waker can be made; then nothing has changed.
+    ///
+    /// A future that the poll ends is cancelled in the same hold of the lock. Another's claim comes back.
     pub fn poll<K>(
         &self,
-        claim: &Claim<K>,
+        claim: Claim<K>,
         cx: &mut Context<'_>,
         spare: &mut Option<Waker>,
-    ) -> SlotPolled<S::Output>
+    ) -> (SlotPolled<S::Output>, Fate<K, S::Left>)
     where
         S: PollSlot<K>,
-        ensures polled { IfSome result (λ polled. (old : S) × (new : S) × IsPolled S.polls claim.now polled.0 old new) }
-        ensures registered { IfSome result (λ polled. OnPending polled.0 (Covers cx.new (λ s. s ≡ self.now))) }
-        ensures lacks { IfNone result (cx.new.lacks_waker ≡ true) }
+        ensures polled { (old : S) × (new : S) × IsSettled S.polls S.cancels S.Output.is_last claim result.0 result.1 old new }
+        ensures registered { IfSome result.0 (λ polled. OnPending polled.0 (Covers cx.new (λ s. s ≡ self.now))) }
+        ensures lacks { IfNone result.0 (cx.new.lacks_waker ≡ true) }
         ensures kept { Keeps cx.old cx.new }
     {
-        let (polled, owed) = self.state.poll(&self.rt, claim, cx, &self.source, spare);
+        let (polled, fate, owed) = self.state.poll(&self.rt, claim, cx, &self.source, spare);
         owed.pay(&self.rt);
-        polled
+        (polled, fate)
     }
 
     /// Cancels the future that has this claim, as `call` makes a call, and answers what it leaves.

@@ -1,12 +1,12 @@
 //! The future of every primitive that threads share.
-ghost use Rattle.std.specs.Prelude.{◌≡◌, ℕ, Bool, Option, Err, Some, None, true, false, IfSome, IfNone, is_ok, is_some};
+ghost use Rattle.std.specs.Prelude.{◌≡◌, ℕ, Bool, Option, Err, Some, None, true, false, IfSome, IfNone, is_ok, is_some, is_none};
 ghost use Rattle.futures.specs.declared.task.Poll.{Poll};
 ghost use Rattle.futures.specs.declared.task.waker.Waker.{Waker};
 ghost use Rattle.futures.specs.Poll.{OnPending};
 ghost use Rattle.futures.specs.Task.{Covers, Keeps};
 ghost use Rattle.fi_parts.specs.declared.errors.Fault.{Fault};
 ghost use Rattle.fi_parts.specs.declared.phase.Leftover.{Leftover};
-ghost use Rattle.fi_sync.specs.Waiting.{polled, IsAnswer, IsLeftBy};
+ghost use Rattle.fi_sync.specs.Waiting.{ends, polled, IsAnswer, IsLeftBy, IsEndedBy};
 
 use crate::claim::{Cancel, Claim};
 use crate::monitor::HasMonitor;
@@ -73,7 +73,8 @@ pub trait PollSlot<K>: Cancel<K> {
         ensures lacks { IfNone result ((waker ≡ None) × (self.new ≡ self.old)) };
 }
 
-/// A future of the kind `K` of a primitive that threads share, which it reaches by a reference or an `Arc`. Its drop cancels it.
+/// A future of the kind `K` of a primitive that threads share, which it reaches by a reference or an `Arc`. The poll that ends it
+/// cancels it too, in the same hold of the lock, so that its drop takes no lock; the drop of another cancels it.
 ///
 /// A poll that is ready makes no waker. One that has to wait and can make none is refused with `NoMemory`: the future and its
 /// primitive are then as they were, and it may be polled again. Where it can make none and still has another task's from a poll
@@ -84,9 +85,8 @@ where
     M::State: PollSlot<K>,
 {
     monitor: M,
-    // None once it was cancelled.
+    // None once it has ended or was cancelled.
     claim: Option<Claim<K>>,
-    is_ended: bool,
     // A waker that the primitive has no use for. Its drop would wake its task, so the next poll uses it again. Where that poll is
     // another task's and can make no waker, this one is registered, and `Context::register` has the task polled again.
     spare: Option<Waker>,
@@ -96,7 +96,7 @@ impl<M: HasMonitor, K> Model for SlotFuture<M, K>
 where
     M::State: PollSlot<K>,
 {
-    ghost use Rattle.std.specs.Prelude.{◌||◌, is_none};
+    ghost use Rattle.std.specs.Prelude.{is_none};
     ghost use Rattle.fi_sync.specs.Waiting.{SharedFuture};
 
     ghost Value = { SharedFuture };
@@ -104,7 +104,7 @@ where
     ghost view = { λ future. record {
       source = M.source future.monitor;
       name = future.claim;
-      has_ended = future.is_ended || is_none future.claim;
+      has_ended = is_none future.claim;
     } };
 }
 
@@ -119,23 +119,24 @@ where
         SlotFuture {
             monitor,
             claim: Some(claim),
-            is_ended: false,
             spare: None,
         }
     }
 
     /// Returns `true` if the future was polled to its end, or cancelled. It takes no lock. Keeps `FusedFuture::is_terminated`.
     pub fn is_terminated(&self) -> bool
-        ensures { result ≡ self.now.has_ended }
+        ensures ended { result ≡ self.now.has_ended }
+        ensures nameless { result ≡ is_none self.now.name }
     {
-        self.is_ended || self.claim.is_none()
+        self.claim.is_none()
     }
 
-    /// Cancels the future, and answers what it leaves, if it was not cancelled before. It has ended then.
+    /// Cancels the future, and answers what it leaves, if it had not ended before. It has ended then.
     pub(crate) fn withdraw(&mut self) -> Option<<M::State as Cancel<K>>::Left>
         ensures ended { self.new ≡ record { source = self.old.source; name = None; has_ended = true } }
         ensures left { IfSome result (λ left. IsLeftBy M.State.cancels self.old.name left) }
         ensures lives { self.old.has_ended ≡ false → is_some result ≡ true }
+        ensures spent { self.old.has_ended ≡ true → result ≡ None }
     {
         let claim = self.claim.take()?;
         Some(self.monitor.monitor().cancel::<K>(claim))
@@ -157,21 +158,20 @@ where
         ensures spent { self.old.has_ended ≡ true → result ≡ Poll.Pending }
         ensures answered { IsAnswer M.State.polls (M.State.Output.refusal Fault.NoMemory) self.old.name self.old.has_ended
             cx.new.lacks_waker result }
+        ensures cancelled { IsEndedBy M.State.polls M.State.cancels (ends M.State.Output.is_last result) self.old.name result }
     {
         let monitor = self.monitor.monitor();
-        let claim = match &self.claim {
-            Some(claim) if !self.is_ended => claim,
-            _ => return cx.register(monitor.source(), &mut self.spare),
+        let Some(claim) = self.claim.take() else {
+            return cx.register(monitor.source(), &mut self.spare);
         };
-        let Some((answer, leftover)) = monitor.poll(claim, cx, &mut self.spare) else {
+        let (polled, fate) = monitor.poll(claim, cx, &mut self.spare);
+        fate.settle(&mut self.claim);
+        let Some((answer, leftover)) = polled else {
             return Poll::Ready(<M::State as PollSlot<K>>::Output::refused(Fault::NoMemory));
         };
         let back = leftover.displaced.flatten().or(leftover.unused.flatten());
         if back.is_some() {
             self.spare = back;
-        }
-        if let Poll::Ready(output) = &answer {
-            self.is_ended = output.ends();
         }
         answer
     }
@@ -185,7 +185,6 @@ where
         let SlotFuture {
             monitor,
             claim,
-            is_ended: _,
             spare,
         } = self;
         let left = match claim {

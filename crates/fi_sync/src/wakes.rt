@@ -4,13 +4,13 @@ ghost use Rattle.std.specs.Borrow.{MutBor};
 ghost use Rattle.futures.specs.Poll.{OnPending};
 ghost use Rattle.futures.specs.Task.{Covers, Keeps};
 ghost use Rattle.futures.specs.declared.task.waker.Waker.{Waker};
-ghost use Rattle.fi_sync.specs.Waiting.{IsPolled};
+ghost use Rattle.fi_sync.specs.Waiting.{is_over, IsPolled, IsSettled};
 ghost use Rattle.fi_sync.specs.Wakes.{TakesOldest};
 
 mod taken_apart;
 
-use crate::claim::Claim;
-use crate::slot_future::{PollSlot, SlotPolled};
+use crate::claim::{Claim, Fate};
+use crate::slot_future::{PollOutput, PollSlot, SlotPolled};
 use fi_parts::Slot;
 use futures::task::{Context, Poll, Source, Waker};
 use std::marker::Model;
@@ -75,19 +75,19 @@ impl<S: HasOutbox> Guarded<S> {
     /// Polls the future that has this claim, as `lend` makes a call. (The borrow checker doesn't cover a closure that does it.)
     ///
     /// A waker is made only if the poll has to wait and there is no spare one, in the same hold of the lock. If none can be made, the
-    /// answer is None and nothing has changed.
+    /// answer is None and nothing has changed. If the poll ends the future, that is cancelled too, in the same hold.
     pub fn poll<K, R: Wait>(
         &self,
         rt: &R,
-        claim: &Claim<K>,
+        claim: Claim<K>,
         cx: &mut Context<'_>,
         source: &Source,
         spare: &mut Option<Waker>,
-    ) -> (SlotPolled<S::Output>, Owed<'_, S>)
+    ) -> (SlotPolled<S::Output>, Fate<K, S::Left>, Owed<'_, S>)
     where
         S: PollSlot<K>,
-        ensures polled { (new : S) × (result.1 ≡ length (S.wakers new))
-            × IfSome result.0 (λ polled. (old : S) × IsPolled S.polls claim.now polled.0 old new) }
+        ensures polled { (old : S) × (new : S) × (result.2 ≡ length (S.wakers new))
+            × IsSettled S.polls S.cancels S.Output.is_last claim result.0 result.1 old new }
         ensures registered { IfSome result.0 (λ polled. OnPending polled.0 (Covers cx.new (λ s. s ≡ source.now.id))) }
         ensures lacks { IfNone result.0 (cx.new.lacks_waker ≡ true) }
         ensures kept { Keeps cx.old cx.new }
@@ -97,12 +97,12 @@ impl<S: HasOutbox> Guarded<S> {
             let _: Poll<()> = cx.register(source, spare);
         }
         let state = &mut *self.state.lock(rt);
-        let polled = poll_or_register(state, claim.slot(), cx, source, spare);
+        let (polled, fate) = poll_or_end(state, claim, cx, source, spare);
         let owed = Owed {
             state: self,
             count: state.wake_count(),
         };
-        (polled, owed)
+        (polled, fate, owed)
     }
 
     // Takes out the oldest waker, in a hold of the lock that is over when it comes back: a waker's wake and its drop could run its
@@ -141,6 +141,38 @@ impl<S: HasOutbox> Owed<'_, S> {
                 None => return,
             }
         }
+    }
+}
+
+// Polls the future that has this claim as `poll_or_register` does, and cancels it if it has ended then.
+fn poll_or_end<K, S: PollSlot<K>>(
+    state: &mut S,
+    claim: Claim<K>,
+    cx: &mut Context<'_>,
+    source: &Source,
+    spare: &mut Option<Waker>,
+) -> (SlotPolled<S::Output>, Fate<K, S::Left>)
+    requires registered { is_some spare.old ≡ true → Covers cx.old (λ s. s ≡ source.now.id) }
+    ensures settled { (old : S) × IsSettled S.polls S.cancels S.Output.is_last claim result.0 result.1 old state.new }
+    ensures registered { IfSome result.0 (λ polled. OnPending polled.0 (Covers cx.new (λ s. s ≡ source.now.id))) }
+    ensures lacks { IfNone result.0 (cx.new.lacks_waker ≡ true) }
+    ensures kept { Keeps cx.old cx.new }
+{
+    let polled = poll_or_register(state, claim.slot(), cx, source, spare);
+    if has_ended(&polled) {
+        let left = claim.cancel(state);
+        return (polled, Fate::Ended(left));
+    }
+    (polled, Fate::GoesOn(claim))
+}
+
+// Returns `true` if the answer of this poll ends its future.
+fn has_ended<A: PollOutput>(polled: &SlotPolled<A>) -> bool
+    ensures { result ≡ is_over A.is_last polled.now }
+{
+    match polled {
+        Some((Poll::Ready(output), _)) => output.ends(),
+        _ => false,
     }
 }
 

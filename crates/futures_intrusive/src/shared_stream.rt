@@ -1,10 +1,10 @@
 //! The stream of a channel that owns its receiver.
-ghost use Rattle.std.specs.Prelude.{◌≡◌, Option, IfOk, IfErr};
+ghost use Rattle.std.specs.Prelude.{◌≡◌, Option, IfOk, IfErr, is_none};
 ghost use Rattle.futures.specs.Poll.{OnPending};
 ghost use Rattle.futures.specs.Task.{Covers, Keeps};
 ghost use Rattle.futures.specs.declared.task.waker.Waker.{Waker};
-ghost use Rattle.fi_sync.specs.Streams.{IsStreamAnswer, streamed};
-ghost use Rattle.fi_sync.specs.Waiting.{IsNew};
+ghost use Rattle.fi_sync.specs.Streams.{IsStreamAnswer};
+ghost use Rattle.fi_sync.specs.Waiting.{IsNew, polled};
 ghost use Rattle.futures_intrusive.specs.SharedStreams.{PollsSharedStream};
 
 use crate::channel_ends::{GenericReceiver, SharedChannelState};
@@ -25,20 +25,15 @@ use std::sync::Wait;
 pub struct SharedStream<T: Drop, B: RingBuf<Item = T>, R: Wait + Drop> {
     // In this order they are dropped: a receive that was told of a value passes that on while the receiver is still counted.
     future: SharedFutureOf<SharedChannelState<T, B>, R, ChannelStreaming>,
-    is_ended: bool,
     receiver: GenericReceiver<T, B, R>,
 }
 
 impl<T: Drop, B: RingBuf<Item = T>, R: Wait + Drop> Model for SharedStream<T, B, R> {
-    ghost use Rattle.std.specs.Prelude.{◌≡◌, false};
     ghost use Rattle.fi_sync.specs.Waiting.{SharedFuture};
 
     ghost Value = { SharedFuture };
 
-    ghost view = { λ stream. record { source = stream.future.source; name = stream.future.name; has_ended = stream.is_ended } };
-
-    // The future itself never ends.
-    ghost invariant = { λ stream. stream.future.has_ended ≡ false };
+    ghost view = { λ stream. stream.future };
 }
 
 impl<T: Drop, B: RingBuf<Item = T>, R: Wait + Drop> GenericReceiver<T, B, R> {
@@ -55,7 +50,6 @@ impl<T: Drop, B: RingBuf<Item = T>, R: Wait + Drop> GenericReceiver<T, B, R> {
         match claimed {
             Ok(claim) => Ok(SharedStream {
                 future: SlotFuture::new(shared, claim),
-                is_ended: false,
                 receiver: self,
             }),
             Err(_) => Err(self),
@@ -68,18 +62,14 @@ impl<T: Drop, B: RingBuf<Item = T>, R: Wait + Drop> SharedStream<T, B, R> {
     pub fn poll_item(&mut self, cx: &mut Context<'_>) -> Poll<Option<Result<T, Fault>>>
         ensures registered { OnPending result (Covers cx.new (λ source. source ≡ self.new.source)) }
         ensures kept { Keeps cx.old cx.new }
-        ensures stands { self.new ≡ streamed self.old result }
+        ensures stands { self.new ≡ polled is_none self.old result }
         ensures answered { IsStreamAnswer (PollsSharedStream {T = T} {W = Option Waker}) self.old.name self.old.has_ended
             cx.new.lacks_waker result }
     {
-        if self.is_ended {
+        if self.future.is_terminated() {
             return Poll::Ready(None);
         }
-        let answer = self.future.poll(cx);
-        if let Poll::Ready(None) = &answer {
-            self.is_ended = true;
-        }
-        answer
+        self.future.poll(cx)
     }
 
     /// Closes the channel. As `GenericReceiver::close`. Keeps `SharedStream::close`.
@@ -91,7 +81,7 @@ impl<T: Drop, B: RingBuf<Item = T>, R: Wait + Drop> SharedStream<T, B, R> {
     pub fn is_terminated(&self) -> bool
         ensures { result ≡ self.now.has_ended }
     {
-        self.is_ended
+        self.future.is_terminated()
     }
 }
 

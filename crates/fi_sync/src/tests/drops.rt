@@ -1,6 +1,9 @@
-//! Values are let go with no lock held: their drops are their owners' code, and may use the same primitive.
+//! Values are let go with no lock held: their drops are their owners' code, and may use the same primitive. A future that has ended is
+//! dropped with no lock taken.
 
 use crate::{Channel, StateBroadcastChannel};
+use fi_parts::StateId;
+use futures::test::MockTask;
 use std::alloc::AllocError;
 use std::sync::atomic::{AtomicBool, Ordering};
 use std::thread;
@@ -92,5 +95,46 @@ fn an_unsent_value_is_let_go_without_the_lock(rt: HostRuntime) {
         meeting.was_called.store(true, Ordering::SeqCst);
     };
     let ((), ()) = thread::join(&rt, drops, closes);
+    assert!(rt; meeting.was_met.load(Ordering::SeqCst));
+}
+
+// A state whose clone lasts until the other thread's call is over, unless that never comes. Its clones are cloned at once.
+#[derive(Drop)]
+struct Host<'a> {
+    meeting: Option<&'a Meeting>,
+}
+
+impl Clone for Host<'_> {
+    fn clone(&self) -> Result<Self, AllocError> {
+        if let Some(meeting) = self.meeting {
+            meeting.has_begun.store(true, Ordering::SeqCst);
+            let is_met = was_set(&meeting.was_called);
+            meeting.was_met.store(is_met, Ordering::SeqCst);
+        }
+        Ok(Host { meeting: None })
+    }
+}
+
+// A receive that has ended is dropped while another thread clones the state, for which it holds the lock.
+#[test]
+fn an_ended_receive_is_dropped_without_the_lock(rt: HostRuntime) {
+    let meeting = &Meeting::new();
+    let task = MockTask::new(&rt).expect(&rt, "memory");
+    let channel = &StateBroadcastChannel::new(rt.alloc(), rt);
+    assert!(rt; channel.send(Host { meeting: None }).is_ok());
+    let mut receive = channel.receive(StateId::new()).expect(&rt, "memory");
+    assert!(rt; task.poll(&mut receive).is_ready());
+    let host = Host {
+        meeting: Some(meeting),
+    };
+    assert!(rt; channel.send(host).is_ok());
+    let clones = move || matches!(channel.try_receive(StateId::new()), Ok(Some(_)));
+    let drops = move || {
+        let _ = was_set(&meeting.has_begun);
+        drop(receive);
+        meeting.was_called.store(true, Ordering::SeqCst);
+    };
+    let (is_received, ()) = thread::join(&rt, clones, drops);
+    assert!(rt; is_received);
     assert!(rt; meeting.was_met.load(Ordering::SeqCst));
 }

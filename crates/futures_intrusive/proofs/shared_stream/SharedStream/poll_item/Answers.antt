@@ -1,29 +1,22 @@
-use Rattle.std.proofs.Common.{rules, ◌≡◌, false, Option}
+use Rattle.std.proofs.Common.{rules, ◌≡◌, true, false, subst, is_none, Option, Some, Err}
 use Rattle.futures.specs.declared.task.waker.Waker.{Waker}
+use Rattle.fi_parts.specs.declared.errors.Fault.{Fault}
 use Rattle.futures_intrusive.specs.SharedStreams.{PollsSharedStream}
-use Rattle.fi_sync.proofs.Answered.{streamed_by}
+use Rattle.fi_sync.specs.Waiting.{SharedFuture, IsAnswer}
+use Rattle.fi_sync.proofs.Answered.{streamed_by, spent_by}
 use Rattle.futures_intrusive.proofs.shared_stream.SharedStream.poll_item.Goals as goal
 
-pub returns-in-Ready-None-clause-answered : goal.returns-in-Ready-None-clause-answered
-returns-in-Ready-None-clause-answered g c =
-    let lives : c.args.self.now.has_ended ≡ false = search rules in
-    let inner : c.self.inside.future.has_ended ≡ false = search rules in
-    let is_own : c.self.inside.future.name ≡ c.args.self.now.name = search rules in
-    streamed_by (PollsSharedStream {T = g.row.T.Denot} {W = Option Waker}) c.args.self.now.name c.self.inside.future.name c.args.self.now.has_ended c.self.inside.future.has_ended
-    c.poll-answer.new.cx.lacks_waker c.poll-answer.result lives inner is_own c.poll-answer.ensures.answered
+pub returns-then-is_terminated-clause-stands : goal.returns-then-is_terminated-clause-stands
+returns-then-is_terminated-clause-stands g c =
+    let ended : c.args.self.now.has_ended ≡ true = search rules in
+    let nameless : is_none c.args.self.now.name ≡ true = search rules in
+    spent_by c.args.self.now.source c.args.self.now.name c.args.self.now.has_ended ended nameless
 
-pub returns-else-self-clause-answered : goal.returns-else-self-clause-answered
-returns-else-self-clause-answered g c =
+pub returns-clause-answered : goal.returns-clause-answered
+returns-clause-answered g c =
+    let own : c.self.inside.future ≡ c.args.self.now = search rules in
     let lives : c.args.self.now.has_ended ≡ false = search rules in
-    let inner : c.self.inside.future.has_ended ≡ false = search rules in
-    let is_own : c.self.inside.future.name ≡ c.args.self.now.name = search rules in
-    streamed_by (PollsSharedStream {T = g.row.T.Denot} {W = Option Waker}) c.args.self.now.name c.self.inside.future.name c.args.self.now.has_ended c.self.inside.future.has_ended
-    c.poll-answer.new.cx.lacks_waker c.poll-answer.result lives inner is_own c.poll-answer.ensures.answered
-
-pub returns-else-self-2-clause-answered : goal.returns-else-self-2-clause-answered
-returns-else-self-2-clause-answered g c =
-    let lives : c.args.self.now.has_ended ≡ false = search rules in
-    let inner : c.self.inside.future.has_ended ≡ false = search rules in
-    let is_own : c.self.inside.future.name ≡ c.args.self.now.name = search rules in
-    streamed_by (PollsSharedStream {T = g.row.T.Denot} {W = Option Waker}) c.args.self.now.name c.self.inside.future.name c.args.self.now.has_ended c.self.inside.future.has_ended
-    c.poll-answer.new.cx.lacks_waker c.poll-answer.result lives inner is_own c.poll-answer.ensures.answered
+    streamed_by (PollsSharedStream {T = g.row.T.Denot} {W = Option Waker}) c.args.self.now.name c.args.self.now.has_ended
+    c.poll.new.cx.lacks_waker c.poll.result lives
+    (subst (λ future. IsAnswer (PollsSharedStream {T = g.row.T.Denot} {W = Option Waker}) (Some (Err Fault.NoMemory))
+        (SharedFuture.name future) (SharedFuture.has_ended future) c.poll.new.cx.lacks_waker c.poll.result) own c.poll.ensures.answered)
