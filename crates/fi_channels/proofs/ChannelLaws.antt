@@ -668,7 +668,8 @@ module _ {T W : Type 0} where
         let sent : new.waiting.sends ≡ finished_side =
         step.1.2.1 ∙ did2.3.1 ∙ ap (λ (s : Waiters (Option T) W). exchange s name None) did2.2.1 in
         subst Sends (sym did.0) (
-          goes old new own (Then (OnSends (finishes name)) tells_oldest) step (tt, refl) ((tt, λ m d. tt, refl), λ m d. refl, refl, refl) was
+          goes old new own (Then (OnSends (finishes name)) tells_oldest) step (tt, refl)
+              ((tt, λ m d. tt, refl), λ m d. refl, refl, refl) was
               (keeps_at old new own finished_side (pop_oldest Told old.waiting.receives) step.0 sent
               (step.1.2.0.0 ∙ ap (pop_oldest Told) step.1.1.1)
               (told_one_more old new own finished_side was (owned-finished old.waiting.sends name Fresh fresh was.0.owned)

@@ -27,7 +27,12 @@ module _ {W : Type 0} where
   sends_are_fit = record { fresh = refl; registered = λ waker. refl; told = λ is. absurd (both_ways false refl is); complete = λ is. refl }
 
   receives_are_fit : AreFit (is_receive_phase {W = W}) can_take
-  receives_are_fit = record { fresh = refl; registered = λ waker. refl; told = λ is. refl; complete = λ is. absurd (both_ways false refl is) }
+  receives_are_fit = record {
+    fresh = refl;
+    registered = λ waker. refl;
+    told = λ is. refl;
+    complete = λ is. absurd (both_ways false refl is);
+  }
 
   send_lives : (phase : Option (Phase W)) → can_send phase ≡ true → is_some phase ≡ true
   send_lives None can = can
@@ -134,7 +139,8 @@ module _ {T W : Type 0} (old new : ChannelMachine T W) (was : Holds old) where
       (λ x did q lives. made_apart (name x) q (receive_phase old) did.1.0.0 lives)
 
   -- a poll of a receive
-  receive_poll_spares : {A : Type 0} (name : ℕ) (waker : W) (answer : Poll A) (q : ℕ) → q ≢ name → SparedBy (poll_change name waker answer) q
+  receive_poll_spares : {A : Type 0} (name : ℕ) (waker : W) (answer : Poll A) (q : ℕ) → q ≢ name →
+      SparedBy (poll_change name waker answer) q
   receive_poll_spares name waker Pending q ne = tt
   receive_poll_spares name waker (Ready x) q ne = ne
 

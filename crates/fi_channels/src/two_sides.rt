@@ -126,7 +126,10 @@ impl<D: Drop, E: Drop, W: Drop> TwoSides<D, E, W> {
         } }
     {
         let named = self.take_out_send(slot);
-        let entry = self.sends.remove(slot);
+        let entry = match self.sends.remove(slot) {
+            Some(entry) => entry,
+            None => unreachable!(),
+        };
         self.outbox.free(entry.ticket);
         let Future { asks, phase } = entry.future;
         (asks, last_waker(phase, named))
@@ -274,7 +277,10 @@ impl<D: Drop, E: Drop, W: Drop> TwoSides<D, E, W> {
         } }
     {
         let named = self.take_out_receive(slot);
-        let entry = self.receives.remove(slot);
+        let entry = match self.receives.remove(slot) {
+            Some(entry) => entry,
+            None => unreachable!(),
+        };
         self.outbox.free(entry.ticket);
         let phase = entry.future.phase;
         (phase.is_told(), last_waker(phase, named))

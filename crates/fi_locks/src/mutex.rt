@@ -287,10 +287,9 @@ impl<T: Drop, W: Drop> MutexState<T, W> {
         ensures pending { OnPending result.0 (can_be_polled (phase_at self.new slot.0) ≡ true) }
         ensures others { OthersStay can_be_polled slot.0 self.old self.new }
     {
-        match self.locks.phase(slot) {
-            Some(Phase::Registered(_)) => self.poll_registered(slot, waker),
-            Some(Phase::Told) => self.poll_told(slot, waker),
-            _ => self.poll_fresh(slot, waker),
+        match self.poll_checked(slot, waker) {
+            Ok(polled) => polled,
+            Err(_waker) => unreachable!(),
         }
     }
 
@@ -307,10 +306,12 @@ impl<T: Drop, W: Drop> MutexState<T, W> {
         ensures handed_back { IfErr result (λ back. back ≡ waker) }
         ensures others { OthersStay can_be_polled slot.0 self.old self.new }
     {
-        if !self.can_poll(slot) {
-            return Err(waker);
+        match self.locks.phase(slot) {
+            Some(Phase::Fresh) => Ok(self.poll_fresh(slot, waker)),
+            Some(Phase::Registered(_)) => Ok(self.poll_registered(slot, waker)),
+            Some(Phase::Told) => Ok(self.poll_told(slot, waker)),
+            None | Some(Phase::Complete | Phase::Ended) => Err(waker),
         }
-        Ok(self.try_wait(slot, waker))
     }
 
     /// Cancels the future under this slot as `remove_waiter` does, if one lives there. Else None, and nothing changes: so it asks its
@@ -321,10 +322,16 @@ impl<T: Drop, W: Drop> MutexState<T, W> {
         ensures own { self.new.own ≡ self.old.own }
         ensures others { OthersStay can_be_polled slot.0 self.old self.new }
     {
-        if !self.is_live(slot) {
-            return None;
+        let (future, named) = match self.locks.remove_future(slot) {
+            Some(left) => left,
+            None => return None,
+        };
+        let was_told = future.phase.is_told();
+        let waker = last_waker(future.phase, named);
+        if was_told {
+            tell_oldest(&mut self.locks, self.is_fair);
         }
-        self.remove_waiter(slot)
+        waker
     }
 
     /// Cancels the future under this slot, which is live, and gives back the waker that it had. If it was told, the oldest queued
@@ -336,13 +343,7 @@ impl<T: Drop, W: Drop> MutexState<T, W> {
         ensures displaced { result ≡ displaced_at self.old slot.0 }
         ensures others { OthersStay can_be_polled slot.0 self.old self.new }
     {
-        let (future, named) = self.locks.remove_future(slot);
-        let was_told = future.phase.is_told();
-        let waker = last_waker(future.phase, named);
-        if was_told {
-            tell_oldest(&mut self.locks, self.is_fair);
-        }
-        waker
+        self.leave(slot)
     }
 
     // Whether a newcomer has to wait, though the mutex may be free.

@@ -252,7 +252,10 @@ impl<W: Drop> SemaphoreState<W> {
         ensures pending { OnPending result.0 (can_be_polled (phase_at self.new slot.0) ≡ true) }
         ensures others { OthersStay can_be_polled slot.0 self.old self.new }
     {
-        self.fields.acquire_or_register(slot, waker)
+        match self.poll_checked(slot, waker) {
+            Ok(polled) => polled,
+            Err(_waker) => unreachable!(),
+        }
     }
 
     /// Polls the future under this slot as `acquire_or_register` does, if one lives there that has not ended. Else the waker comes
@@ -268,10 +271,7 @@ impl<W: Drop> SemaphoreState<W> {
         ensures handed_back { IfErr result (λ back. back ≡ waker) }
         ensures others { OthersStay can_be_polled slot.0 self.old self.new }
     {
-        if !self.can_poll(slot) {
-            return Err(waker);
-        }
-        Ok(self.acquire_or_register(slot, waker))
+        self.fields.poll_checked(slot, waker)
     }
 
     /// Cancels the future under this slot as `remove_waiter` does, if one lives there. Else None, and nothing changes: so it asks its
@@ -487,23 +487,26 @@ impl<W: Drop> Fields<W> {
         (Poll::Ready(need), Leftover::of(named, Some(waker)))
     }
 
-    fn acquire_or_register(&mut self, slot: Slot, waker: W) -> (Poll<usize>, Leftover<W>)
+    fn poll_checked(&mut self, slot: Slot, waker: W) -> Result<(Poll<usize>, Leftover<W>), W>
         requires sound { IsSound (machine_of self.old) }
         requires marked { IsMarked self.old }
-        requires live { can_be_polled (phase_of self.old.waits.side slot.0) ≡ true }
-        ensures polled { Polls (machine_of self.old) slot.0 waker result.0 (machine_of self.new) }
-        ensures displaced { result.1.displaced ≡ displaced self.old.waits.side self.old.waits.out slot.0 }
-        ensures unused { result.1.unused ≡ unused_after result.0 waker }
+        ensures polled { IfOk result (λ polled. Polls (machine_of self.old) slot.0 waker polled.0 (machine_of self.new)) }
+        ensures displaced { IfOk result (λ polled. polled.1.displaced ≡ displaced self.old.waits.side self.old.waits.out slot.0) }
+        ensures unused { IfOk result (λ polled. polled.1.unused ≡ unused_after polled.0 waker) }
         ensures marked { IsMarked self.new }
+        ensures refused { OnErr result ((can_be_polled (phase_of self.old.waits.side slot.0) ≡ false) × (self.new ≡ self.old)) }
+        ensures handed_back { IfErr result (λ back. back ≡ waker) }
     {
-        let future = self.waits.future(slot).unwrap();
+        let Some(future) = self.waits.future(slot) else {
+            return Err(waker);
+        };
         let need = future.asks;
         match &future.phase {
-            Phase::Registered(_) => return self.poll_registered(slot, need, waker),
-            Phase::Told => return self.poll_told(slot, need, waker),
-            _ => {}
+            Phase::Fresh => Ok(self.poll_fresh(slot, need, waker)),
+            Phase::Registered(_) => Ok(self.poll_registered(slot, need, waker)),
+            Phase::Told => Ok(self.poll_told(slot, need, waker)),
+            Phase::Complete | Phase::Ended => Err(waker),
         }
-        self.poll_fresh(slot, need, waker)
     }
 
     // A telling round follows the cancel of a future with this phase.
@@ -555,7 +558,10 @@ impl<W: Drop> Fields<W> {
         ensures marked { IsMarked self.new }
     {
         self.pass_over(slot);
-        let (future, named) = self.waits.remove_future(slot);
+        let (future, named) = match self.waits.remove_future(slot) {
+            Some(left) => left,
+            None => return None,
+        };
         let tells = self.tells_on_cancel(&future.phase);
         self.unpromise(future.phase.is_told(), future.asks);
         let waker = last_waker(future.phase, named);

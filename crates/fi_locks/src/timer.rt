@@ -1,5 +1,5 @@
 //! A timer.
-ghost use Rattle.std.specs.Prelude.{◌≡◌, ◌&&◌, not, nat_le, true, false, IfOk, IfErr, OnErr, is_some, length};
+ghost use Rattle.std.specs.Prelude.{◌≡◌, ◌&&◌, not, nat_le, true, false, IfOk, IfErr, OnErr, IfSome, is_some, length};
 ghost use Rattle.std.specs.Duration.{as_nanos};
 ghost use Rattle.fi_parts.specs.Waiting.{is_registered};
 ghost use Rattle.fi_parts.specs.Machine.{phase_at, displaced_at};
@@ -231,19 +231,10 @@ impl<W: Drop> TimerState<W> {
         ensures pending { OnPending result.0 (can_be_polled (phase_at self.new slot.0) ≡ true) }
         ensures others { OthersStay can_be_polled slot.0 self.old self.new }
     {
-        let (is_registered, is_early) = self.standing(slot, now);
-        let named = self.deadlines.take_out(slot);
-        if is_registered {
-            let before = self.deadlines.set_phase(slot, Phase::Registered(waker));
-            return (Poll::Pending, Leftover::of(before, None));
+        match self.poll_checked(slot, now, waker) {
+            Ok(polled) => polled,
+            Err(_waker) => unreachable!(),
         }
-        if is_early {
-            self.floor = self.floor.min(now);
-            self.deadlines.register(slot, waker);
-            return (Poll::Pending, Leftover::of(named, None));
-        }
-        self.deadlines.set_phase(slot, Phase::Ended);
-        (Poll::Ready(()), Leftover::of(named, Some(waker)))
     }
 
     /// Polls the future under this slot as `try_wait` does, if one lives there that has not ended. Else the waker comes back, and
@@ -263,10 +254,22 @@ impl<W: Drop> TimerState<W> {
         ensures handed_back { IfErr result (λ back. back ≡ waker) }
         ensures others { OthersStay can_be_polled slot.0 self.old self.new }
     {
-        if !self.can_poll(slot) {
-            return Err(waker);
+        let (is_registered, is_early) = match self.standing(slot, now) {
+            Some(standing) => standing,
+            None => return Err(waker),
+        };
+        let named = self.deadlines.take_out(slot);
+        if is_registered {
+            let before = self.deadlines.set_phase(slot, Phase::Registered(waker));
+            return Ok((Poll::Pending, Leftover::of(before, None)));
         }
-        Ok(self.try_wait(slot, now, waker))
+        if is_early {
+            self.floor = self.floor.min(now);
+            self.deadlines.register(slot, waker);
+            return Ok((Poll::Pending, Leftover::of(named, None)));
+        }
+        self.deadlines.set_phase(slot, Phase::Ended);
+        Ok((Poll::Ready(()), Leftover::of(named, Some(waker))))
     }
 
     /// Cancels the future under this slot as `remove_waiter` does, if one lives there. Else None, and nothing changes: so it asks its
@@ -276,10 +279,7 @@ impl<W: Drop> TimerState<W> {
             self.old result self.new }
         ensures others { OthersStay can_be_polled slot.0 self.old self.new }
     {
-        if !self.is_live(slot) {
-            return None;
-        }
-        self.remove_waiter(slot)
+        self.deadlines.remove(slot)
     }
 
     /// Cancels the future under this slot, which is live, and gives back the waker that it had. Nobody is told.
@@ -289,23 +289,26 @@ impl<W: Drop> TimerState<W> {
         ensures displaced { result ≡ displaced_at self.old slot.0 }
         ensures others { OthersStay can_be_polled slot.0 self.old self.new }
     {
-        self.deadlines.remove(slot)
+        self.leave(slot)
     }
 
-    // Whether the future under this slot is registered, and whether it is fresh and its expiry has not come: one look-up tells both.
-    fn standing(&self, slot: Slot, now: u64) -> (bool, bool)
-        ensures registered { result.0 ≡ is_registered (phase_at self.now slot.0) }
-        ensures early { result.1 ≡ (is_fresh (phase_at self.now slot.0)
-            && not (nat_le (expiry_of self.now.waiting.side slot.0) now)) }
+    // Whether the future under this slot is registered, and whether it is fresh and its expiry has not come. None where none lives
+    // there that can be polled. One look-up tells all.
+    fn standing(&self, slot: Slot, now: u64) -> Option<(bool, bool)>
+        ensures live { is_some result ≡ can_be_polled (phase_at self.now slot.0) }
+        ensures registered { IfSome result (λ found. found.0 ≡ is_registered (phase_at self.now slot.0)) }
+        ensures early { IfSome result (λ found. found.1 ≡ (is_fresh (phase_at self.now slot.0)
+            && not (nat_le (expiry_of self.now.waiting.side slot.0) now))) }
     {
         let future = match self.deadlines.future(slot) {
             Some(future) => future,
-            None => return (false, false),
+            None => return None,
         };
         match &future.phase {
-            Phase::Fresh => (false, future.asks.expiry > now),
-            Phase::Registered(_) => (true, false),
-            Phase::Told | Phase::Complete | Phase::Ended => (false, false),
+            Phase::Fresh => Some((false, future.asks.expiry > now)),
+            Phase::Registered(_) => Some((true, false)),
+            Phase::Told => Some((false, false)),
+            Phase::Complete | Phase::Ended => None,
         }
     }
 }

@@ -34,7 +34,8 @@ use Rattle.fi_parts.specs.MachineTable.{waker_change, WaiterRules, TableLine, po
 use Rattle.fi_parts.specs.Stays.{AllStay, OthersStay, IsApart}
 use Rattle.fi_parts.specs.declared.errors.Fault.{Fault}
 use Rattle.fi_parts.proofs.Effects.{After, AreNotified, IsOf, effect_after, effect_sound, notified_after, queues, oldest_are, all_are}
-use Rattle.fi_parts.proofs.Effects.{listed_are, front_are, polled_lives, AreFit, SparedBy, are_live, fit_one, stays_fit, IsFitIfPending, pending_is_fit, added_fresh}
+use Rattle.fi_parts.proofs.Effects.{listed_are, front_are, polled_lives, AreFit, SparedBy, are_live, fit_one, stays_fit}
+use Rattle.fi_parts.proofs.Effects.{IsFitIfPending, pending_is_fit, added_fresh}
 
 module _ {D W : Type 0} where
   -- one name changed: another is registered as before, and asks the same
@@ -275,7 +276,8 @@ module _ {S D W : Type 0} (rules : WaiterRules S D W) where
   pub removes : (name : ℕ) (old new : Machine S D W) → StepsTo old old.own (Removes name) new → TableLine rules (Leaves name) old new
   removes name old new did = line old.own (Removes name) old new did tt (λ asks lack. lack)
 
-  pub pops : (waker : Option W) (old new : Machine S D W) → StepsTo old old.own (PopsOldest waker) new → TableLine rules (gives waker) old new
+  pub pops : (waker : Option W) (old new : Machine S D W) → StepsTo old old.own (PopsOldest waker) new →
+      TableLine rules (gives waker) old new
   pops waker old new did = line old.own (PopsOldest waker) old new did tt (λ asks lack. lack)
 
   -- Who was fit before a line is fit after it, but for the one that it ends or removes.
@@ -375,6 +377,12 @@ module _ {S D W : Type 0} (rules : WaiterRules S D W) where
       AllowsEffect rules.places rules.phases old.waiting effect → StepsTo old own effect new → After effect old.waiting new.waiting
   phases_after own effect old new was allows steps =
       effect_after rules.places rules.phases rules.known effect old.waiting new.waiting allows was steps.1
+
+-- a call that was refused
+pub same_stays : {S D W : Type 0} (can_poll : Option (Phase W) → Bool) (name : ℕ) (old new : Machine S D W) → new ≡ old →
+    OthersStay can_poll name old new
+same_stays can_poll name old new same =
+    subst (OthersStay can_poll name old) (sym same) (record { live = λ q ne lives. lives; pollable = λ q ne fits. fits })
 
 -- Who lives or can be polled before a call does so after it, but for the one that it ends or removes.
 module _ {S D W : Type 0} (rules : WaiterRules S D W) (can_poll : Option (Phase W) → Bool) (can : AreFit rules.phases can_poll)

@@ -49,4 +49,5 @@ pub mod Deadlines
 pub mod Seats
 pub mod Polled
 pub mod WaiterPolls
+pub mod LinePolls
 pub mod Stays

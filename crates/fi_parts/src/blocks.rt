@@ -1,5 +1,7 @@
 //! The store of a list: live slots, each with a block of its own, some of which are linked by raw pointers.
-ghost use Rattle.std.specs.Prelude.{◌≡◌, ℕ, ◌+◌, ◌≤◌, ◌<◌, ◌^◌, length, List, ◌∷◌, ◌++◌, [], Some, None, true, false, IfOk, IfErr, OnErr, MatchOption, option_copied};
+ghost use Rattle.std.specs.Prelude.{◌≡◌, ℕ, ◌+◌, ◌≤◌, ◌<◌, ◌^◌, length, List, ◌∷◌, ◌++◌, [], Some, None, true, false};
+ghost use Rattle.std.specs.Prelude.{IfOk, IfErr, OnErr, IfNone, OnSome};
+ghost use Rattle.std.specs.Prelude.{MatchOption, option_copied};
 ghost use Rattle.std.specs.Option.{option_copied_mut};
 ghost use Rattle.std.specs.Borrow.{sem};
 ghost use Rattle.std.specs.FinMap as map;
@@ -190,21 +192,24 @@ impl<T> Blocks<T> {
         self.linked.free(at)
     }
 
-    /// Takes a live slot out of the list, if it is linked, and gives its value back; the slot is not live afterwards. As `unlink`
-    /// and then `free`, with one look-up.
-    pub fn unlink_and_free(&mut self, slot: usize) -> T
+    /// Takes a slot out of the list, if it is linked, and gives its value back; it is not live afterwards. None where it is not live.
+    /// As `unlink` and then `free`, with one look-up.
+    pub fn unlink_and_free(&mut self, slot: usize) -> Option<T>
     where
         T: Drop,
-        requires { IsLive self.old slot }
-        ensures value { item self.old slot ≡ Some result }
-        ensures live { self.new.live ≡ map.remove self.old.live slot }
-        ensures order { self.new.order ≡ without slot self.old.order }
+        ensures value { result ≡ item self.old slot }
+        ensures live { OnSome result (self.new.live ≡ map.remove self.old.live slot) }
+        ensures order { OnSome result (self.new.order ≡ without slot self.old.order) }
+        ensures absent { IfNone result (self.new ≡ self.old) }
         ensures visits { self.new.visits ≤ self.old.visits + 3 }
         ensures never_fewer { self.old.visits ≤ self.new.visits }
     {
-        let block = self.slab.remove(slot);
+        let block = match self.slab.try_remove(slot) {
+            Some(block) => block,
+            None => return None,
+        };
         self.linked.unlink(block);
-        self.linked.free(block)
+        Some(self.linked.free(block))
     }
 
     /// The next younger linked slot; none for the youngest.

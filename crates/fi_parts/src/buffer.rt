@@ -94,13 +94,16 @@ pub trait RingBuf: Drop {
 
     /// Puts the item behind the others. The caller asks `can_push` first.
     ///
-    /// Keeps `RingBuf::push`. Where `len == reserved` the buffer needs more memory: if it gets none, nothing changes and the item is handed back.
+    /// Keeps `RingBuf::push`. Where `len == reserved` the buffer needs more memory: if it gets none, nothing changes
+    /// and the item is handed back.
     fn push(&mut self, item: Self::Item) -> Result<(), NoRoom<Self::Item>>
         requires { length (bounded self.old).items < (bounded self.old).capacity }
         ensures ok { OnOk result (bounded self.new ≡ pushed (bounded self.old) item (bounded self.new).reserved) }
-        ensures err { IfErr result (λ back. (back.0 ≡ item) × (bounded self.new ≡ bounded self.old) × (length (bounded self.old).items ≡ (bounded self.old).reserved)) }
+        ensures err { IfErr result (λ back. (back.0 ≡ item) × (bounded self.new ≡ bounded self.old)
+            × (length (bounded self.old).items ≡ (bounded self.old).reserved)) }
         ensures grows { (bounded self.old).reserved ≤ (bounded self.new).reserved }
-        ensures stays { length (bounded self.old).items < (bounded self.old).reserved → (bounded self.new).reserved ≡ (bounded self.old).reserved }
+        ensures stays { length (bounded self.old).items < (bounded self.old).reserved → (bounded self.new).reserved
+            ≡ (bounded self.old).reserved }
         ensures fits { Fits (bounded self.new) };
 
     /// Takes out the oldest item. The caller asks `is_empty` first.

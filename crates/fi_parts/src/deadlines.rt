@@ -1,5 +1,7 @@
 //! Futures that wait for a moment, and those that are registered in a heap by expiry.
-ghost use Rattle.std.specs.Prelude.{◌≡◌, ◌≢◌, ℕ, [], Some, None, true, false, IfOk, IfErr, OnErr, length, drop, option_copied, MatchOption, MatchBool, nat_le, ◌<◌};
+ghost use Rattle.fi_parts.specs.Polled.{LeavesWhere};
+ghost use Rattle.std.specs.Prelude.{◌≡◌, ◌≢◌, ℕ, [], Some, None, true, false, IfOk, IfErr, OnErr, length, drop};
+ghost use Rattle.std.specs.Prelude.{option_copied, MatchOption, MatchBool, nat_le, ◌<◌, is_some};
 ghost use Rattle.std.specs.Option.{option_map};
 ghost use Rattle.std.specs.FinMap as map;
 ghost use Rattle.std.specs.FinSet as set;
@@ -201,13 +203,16 @@ impl<W: Drop> Deadlines<W> {
         self.waits.set_phase(slot, phase)
     }
 
-    /// Removes a live future from everything, and returns the waker that it had.
+    /// Removes a future from everything, and returns the waker that it had; None where none lives under this slot.
     pub fn remove(&mut self, slot: Slot) -> Option<W>
-        requires { IsLive self.old.side slot.0 }
-        ensures waker { result ≡ displaced self.old.side self.old.out slot.0 }
-        ensures removed { self.new ≡ record { side = without_future self.old.side slot.0; out = without_pair slot.0 self.old.out } }
+        ensures { LeavesWhere (is_some (phase_of self.old.side slot.0))
+            (self.new ≡ record { side = without_future self.old.side slot.0; out = without_pair slot.0 self.old.out })
+            (displaced self.old.side self.old.out slot.0) self.old result self.new }
     {
-        let (asks, waker) = self.waits.remove(slot);
+        let (asks, waker) = match self.waits.remove(slot) {
+            Some(left) => left,
+            None => return None,
+        };
         give_up(&mut self.heap, asks.seat);
         waker
     }

@@ -1,5 +1,6 @@
 //! One line of waiting futures: their phases, their queue, and their tickets in an outbox that may serve other lines too.
-ghost use Rattle.std.specs.Prelude.{◌≡◌, ℕ, ◌∷◌, ◌++◌, List, [], Some, None, true, false, Option, IfOk, OnErr, IfErr, IsSome, MatchOption, option_copied};
+ghost use Rattle.std.specs.Prelude.{◌≡◌, ℕ, ◌∷◌, ◌++◌, List, [], Some, None, true, false, Option, IfOk};
+ghost use Rattle.std.specs.Prelude.{OnErr, IfErr, IfSome, IfNone, OnSome, IsSome, MatchOption, option_copied};
 ghost use Rattle.std.specs.FinMap as map;
 ghost use Rattle.std.specs.FinSet as set;
 ghost use Rattle.fi_parts.specs.Order.{holds, without, youngest};
@@ -9,7 +10,9 @@ ghost use Rattle.fi_parts.specs.NamedPairs.{waker_in_pair};
 ghost use Rattle.fi_parts.specs.Waiting.{with_phase, exchange, phase_of, IsLive, insert_fresh, registered};
 ghost use Rattle.fi_parts.specs.Waiting.{without_future, asks_of, is_registered, waker_in, waker_or};
 ghost use Rattle.fi_parts.specs.LineModel.{empty_line};
-ghost use Rattle.fi_parts.specs.WaiterPolls.{phase_after_poll, poll_step, waiters_after_poll};
+ghost use Rattle.fi_parts.specs.Polled.{can_be_polled};
+ghost use Rattle.fi_parts.specs.WaiterPolls.{poll_step, waiters_after_poll};
+ghost use Rattle.fi_parts.specs.LinePolls.{phase_in_entry, PollsEntry};
 ghost use Rattle.fi_parts.specs.declared.line.Entry.{Entry};
 
 use crate::errors::{NoRoom, Slot};
@@ -80,7 +83,8 @@ fn swap_phase<D: Drop, W: Drop>(
 ) -> (Ticket, Phase<W>)
     requires { IsSome (item list.old slot.0) }
     ensures { (entry : Entry D W) × (item list.old slot.0 ≡ Some entry) × (result ≡ (entry.ticket, entry.future.phase))
-        × (list.new ≡ with_live list.old (map.insert list.old.live slot.0 (record entry { future = record entry.future { phase = phase } }))) }
+        × (list.new ≡ with_live list.old (map.insert list.old.live slot.0
+        (record entry { future = record entry.future { phase = phase } }))) }
 {
     let entry = list.get_mut(slot).unwrap();
     (entry.ticket, mem::replace(&mut entry.future.phase, phase))
@@ -96,27 +100,32 @@ fn set_youngest<D: Drop, W: Drop>(list: &mut LinkedList<Entry<D, W>>, phase: Pha
     entry.future.phase = phase;
 }
 
-// Polls a live future, which is looked up once.
+// Polls a future, which is looked up once. The waker comes back where none lives under this slot that has not ended.
 fn poll_phase<D: Drop, W: Drop>(
     list: &mut LinkedList<Entry<D, W>>,
     slot: Slot,
     waker: W,
     ends: bool,
-) -> PollStep<W>
-    requires { IsSome (item list.old slot.0) }
-    ensures { (entry : Entry D W) × (item list.old slot.0 ≡ Some entry) × (result ≡ poll_step ends entry.future.phase waker)
-        × (list.new ≡ with_live list.old (map.insert list.old.live slot.0
-        (record entry { future = record entry.future { phase = phase_after_poll ends entry.future.phase waker } }))) }
+) -> Result<PollStep<W>, W>
+    ensures polled { IfOk result (λ step. PollsEntry list.old slot.0 waker ends step list.new) }
+    ensures refused { OnErr result ((can_be_polled (phase_in_entry (item list.old slot.0)) ≡ false) × (list.new ≡ list.old)) }
+    ensures handed_back { IfErr result (λ back. back ≡ waker) }
 {
-    let entry = list.get_mut(slot).unwrap();
-    entry.future.phase.poll(waker, ends)
+    let Some(entry) = list.get_mut(slot) else {
+        return Err(waker);
+    };
+    if entry.future.phase.is_over() {
+        return Err(waker);
+    }
+    Ok(entry.future.phase.poll(waker, ends))
 }
 
 // Sets what a live future asks for, and takes what it asked for.
 fn swap_asks<D: Drop, W: Drop>(list: &mut LinkedList<Entry<D, W>>, slot: Slot, asks: D) -> D
     requires { IsSome (item list.old slot.0) }
     ensures { (entry : Entry D W) × (item list.old slot.0 ≡ Some entry) × (result ≡ entry.future.asks)
-        × (list.new ≡ with_live list.old (map.insert list.old.live slot.0 (record entry { future = record entry.future { asks = asks } }))) }
+        × (list.new ≡ with_live list.old (map.insert list.old.live slot.0
+        (record entry { future = record entry.future { asks = asks } }))) }
 {
     let entry = list.get_mut(slot).unwrap();
     mem::replace(&mut entry.future.asks, asks)
@@ -235,19 +244,25 @@ impl<D: Drop, W: Drop> Line<D, W> {
         (ticket, into_waker(was))
     }
 
-    /// Polls a live future. A registered one keeps its place with this newer waker; a fresh one is registered and goes to the queue's
-    /// end, unless it ends with this poll; any other ends.
-    pub fn poll(&mut self, slot: Slot, waker: W, ends: bool) -> PollStep<W>
-        requires live { IsLive self.old.side slot.0 }
-        requires apart { is_registered (phase_of self.old.side slot.0) ≡ false → holds slot.0 self.old.side.queue ≡ false }
-        ensures { (before : Phase W) × (phase_of self.old.side slot.0 ≡ Some before) × (result ≡ poll_step ends before waker)
-            × (self.new ≡ record self.old { side = waiters_after_poll ends before self.old.side slot.0 waker }) }
+    /// Polls a future. A registered one keeps its place with this newer waker; a fresh one is registered and goes to the queue's
+    /// end, unless it ends with this poll; any other ends. Where none lives under this slot that has not ended, the waker comes back
+    /// and nothing has changed.
+    pub fn poll(&mut self, slot: Slot, waker: W, ends: bool) -> Result<PollStep<W>, W>
+        requires { is_registered (phase_of self.old.side slot.0) ≡ false → holds slot.0 self.old.side.queue ≡ false }
+        ensures polled { IfOk result (λ step. (before : Phase W) × (phase_of self.old.side slot.0 ≡ Some before)
+            × (can_be_polled (Some before) ≡ true) × (step ≡ poll_step ends before waker)
+            × (self.new ≡ record self.old { side = waiters_after_poll ends before self.old.side slot.0 waker })) }
+        ensures refused { OnErr result ((can_be_polled (phase_of self.old.side slot.0) ≡ false) × (self.new ≡ self.old)) }
+        ensures handed_back { IfErr result (λ back. back ≡ waker) }
     {
-        let step = poll_phase(&mut self.list, slot, waker, ends);
+        let step = match poll_phase(&mut self.list, slot, waker, ends) {
+            Ok(step) => step,
+            Err(waker) => return Err(waker),
+        };
         if let PollStep::Joins = &step {
             self.list.add_front(slot);
         }
-        step
+        Ok(step)
     }
 
     /// Sets what a live future asks for, and returns what it asked for.
@@ -259,14 +274,14 @@ impl<D: Drop, W: Drop> Line<D, W> {
         swap_asks(&mut self.list, slot, asks)
     }
 
-    /// Removes a live future, also from the queue, and returns it with its ticket, which stays live in the outbox.
-    pub fn remove(&mut self, slot: Slot) -> Entry<D, W>
-        requires { IsLive self.old.side slot.0 }
-        ensures ticket { map.get self.old.tickets slot.0 ≡ Some result.ticket.0 }
-        ensures asked { asks_of self.old.side slot.0 ≡ Some result.future.asks }
-        ensures phase { phase_of self.old.side slot.0 ≡ Some result.future.phase }
-        ensures future { map.get self.old.side.live slot.0 ≡ Some result.future }
-        ensures removed { self.new ≡ record { side = without_future self.old.side slot.0; tickets = map.remove self.old.tickets slot.0 } }
+    /// Removes a future, also from the queue, and returns it with its ticket, which stays live in the outbox. None if none lives in
+    /// this slot.
+    pub fn remove(&mut self, slot: Slot) -> Option<Entry<D, W>>
+        ensures ticket { IfSome result (λ entry. map.get self.old.tickets slot.0 ≡ Some entry.ticket.0) }
+        ensures future { IfSome result (λ entry. map.get self.old.side.live slot.0 ≡ Some entry.future) }
+        ensures removed { OnSome result
+            (self.new ≡ record { side = without_future self.old.side slot.0; tickets = map.remove self.old.tickets slot.0 }) }
+        ensures absent { IfNone result ((phase_of self.old.side slot.0 ≡ None) × (self.new ≡ self.old)) }
     {
         self.list.remove_and_free(slot)
     }
@@ -294,7 +309,8 @@ impl<D: Drop, W: Drop> Line<D, W> {
     /// Takes the oldest future out of the queue; None if the queue is empty.
     pub fn leave_oldest(&mut self) -> Option<Slot>
         ensures { MatchOption result ((self.old.side.queue ≡ []) × (self.new ≡ self.old))
-            (λ slot. (others : List ℕ) × (self.old.side.queue ≡ slot.0 ∷ others) × (self.new ≡ record self.old { side = record self.old.side { queue = others } })) }
+            (λ slot. (others : List ℕ) × (self.old.side.queue ≡ slot.0 ∷ others) ×
+            (self.new ≡ record self.old { side = record self.old.side { queue = others } })) }
     {
         let slot = self.list.remove_last()?;
         Some(slot)

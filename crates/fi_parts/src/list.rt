@@ -1,5 +1,6 @@
 //! A list over live slots: who waits, the youngest first.
-ghost use Rattle.std.specs.Prelude.{◌≡◌, ℕ, ◌+◌, ◌≤◌, ◌<◌, ◌^◌, ◌==◌, ◌++◌, ◌∷◌, List, [], Some, None, true, false, IfOk, IfErr, IfSome, OnErr, length, option_copied, MatchOption};
+ghost use Rattle.std.specs.Prelude.{◌≡◌, ℕ, ◌+◌, ◌≤◌, ◌<◌, ◌^◌, ◌==◌, ◌++◌, ◌∷◌, List, [], Some, None, true, false, IfOk, IfErr};
+ghost use Rattle.std.specs.Prelude.{IfSome, IfNone, OnErr, OnSome, length, option_copied, MatchOption};
 ghost use Rattle.std.specs.Option.{option_copied_mut};
 ghost use Rattle.std.specs.Borrow.{sem};
 ghost use Rattle.std.specs.FinMap as map;
@@ -148,15 +149,15 @@ impl<T> LinkedList<T> {
         self.blocks.unlink(slot.0)
     }
 
-    /// Takes a live slot out of the list, if it is there, and gives its value back; the slot is not live afterwards. As `remove`
-    /// and then `free`, with one look-up.
-    pub fn remove_and_free(&mut self, slot: Slot) -> T
+    /// Takes a slot out of the list, if it is there, and gives its value back; it is not live afterwards. None where it is not live.
+    /// As `remove` and then `free`, with one look-up.
+    pub fn remove_and_free(&mut self, slot: Slot) -> Option<T>
     where
         T: Drop,
-        requires { IsLive self.old slot.0 }
-        ensures value { item self.old slot.0 ≡ Some result }
-        ensures live { self.new.live ≡ map.remove self.old.live slot.0 }
-        ensures order { self.new.order ≡ without slot.0 self.old.order }
+        ensures value { result ≡ item self.old slot.0 }
+        ensures live { OnSome result (self.new.live ≡ map.remove self.old.live slot.0) }
+        ensures order { OnSome result (self.new.order ≡ without slot.0 self.old.order) }
+        ensures absent { IfNone result (self.new ≡ self.old) }
         ensures visits { self.new.visits ≤ self.old.visits + 3 }
         ensures never_fewer { self.old.visits ≤ self.new.visits }
     {
@@ -200,7 +201,8 @@ impl<T> LinkedList<T> {
 
     /// Takes the youngest slot out; it stays live. None for an empty list. Keeps `LinkedList::remove_first`.
     pub fn remove_first(&mut self) -> Option<Slot>
-        ensures order { MatchOption result ((self.old.order ≡ []) × (self.new.order ≡ [])) (λ slot. self.old.order ≡ slot.0 ∷ self.new.order) }
+        ensures order { MatchOption result ((self.old.order ≡ []) × (self.new.order ≡ []))
+            (λ slot. self.old.order ≡ slot.0 ∷ self.new.order) }
         ensures live { self.new.live ≡ self.old.live }
         ensures taken { IfSome result (λ slot. IsLive self.new slot.0 × (holds slot.0 self.new.order ≡ false)) }
         ensures visits { self.new.visits ≤ self.old.visits + 3 }
@@ -214,7 +216,8 @@ impl<T> LinkedList<T> {
 
     /// Takes the oldest slot out; it stays live. None for an empty list. Keeps `LinkedList::remove_last`.
     pub fn remove_last(&mut self) -> Option<Slot>
-        ensures order { MatchOption result ((self.old.order ≡ []) × (self.new.order ≡ [])) (λ slot. self.old.order ≡ self.new.order ++ slot.0 ∷ []) }
+        ensures order { MatchOption result ((self.old.order ≡ []) × (self.new.order ≡ []))
+            (λ slot. self.old.order ≡ self.new.order ++ slot.0 ∷ []) }
         ensures live { self.new.live ≡ self.old.live }
         ensures taken { IfSome result (λ slot. IsLive self.new slot.0 × (holds slot.0 self.new.order ≡ false)) }
         ensures visits { self.new.visits ≤ self.old.visits + 3 }

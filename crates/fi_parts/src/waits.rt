@@ -1,10 +1,12 @@
 //! Futures that wait in a queue, and the wakers that are named to be woken.
-ghost use Rattle.std.specs.Prelude.{◌≡◌, ℕ, ◌++◌, ◌∷◌, List, [], Some, None, true, false, Option, IfOk, OnErr, IfErr, IsSome, MatchOption, length, drop, option_copied};
+ghost use Rattle.std.specs.Prelude.{◌≡◌, ℕ, ◌++◌, ◌∷◌, List, [], Some, None, true, false, Option};
+ghost use Rattle.std.specs.Prelude.{IfOk, OnErr, IfErr, IfSome, IfNone, OnSome, MatchOption, is_some, length, drop, option_copied};
 ghost use Rattle.std.specs.FinMap as map;
 ghost use Rattle.fi_parts.specs.Order.{holds, without};
 ghost use Rattle.fi_parts.specs.Pairs.{has, waker_of, without_pair, oldest};
+ghost use Rattle.fi_parts.specs.NamedPairs.{waker_in_pair};
 ghost use Rattle.fi_parts.specs.Noticed.{phase_after};
-ghost use Rattle.fi_parts.specs.Polled.{unused_after};
+ghost use Rattle.fi_parts.specs.Polled.{unused_after, can_be_polled};
 ghost use Rattle.fi_parts.specs.WaiterPolls.{PollsWaiter};
 ghost use Rattle.fi_parts.specs.Waiting.{with_phase, exchange, phase_of, IsLive, IsOrdered, IsOrderedBy, is_queued};
 ghost use Rattle.fi_parts.specs.Waiting.{told_one, is_registered, no_futures, insert_fresh, registered, without_future};
@@ -12,7 +14,7 @@ ghost use Rattle.fi_parts.specs.Waiting.{pair, asks_of, waker_in, notify_all, di
 
 use crate::errors::{NoRoom, Slot};
 use crate::line::{Line, last_waker, waker_from};
-use crate::outbox::Outbox;
+use crate::outbox::{Outbox, Ticket};
 use crate::phase::{Future, Leftover, Notice, Phase, PollStep};
 use futures::task::Poll;
 use std::alloc::Global;
@@ -37,6 +39,18 @@ impl<D, W> Model for Waits<D, W> {
     ghost view = { λ s. waiting_of s.line s.outbox };
 
     ghost invariant = { λ s. AreTied s.line s.outbox };
+}
+
+// Takes a ticket's pair out of the outbox, and gives its waker; None where it has none.
+fn take_pair<N: Drop, W: Drop>(outbox: &mut Outbox<(N, W)>, ticket: Ticket) -> Option<W>
+    ensures waker { result ≡ waker_in_pair (waker_of ticket.0 outbox.old.pairs) }
+    ensures tickets { outbox.new.tickets ≡ outbox.old.tickets }
+    ensures pairs { outbox.new.pairs ≡ without_pair ticket.0 outbox.old.pairs }
+{
+    if outbox.len() == 0 {
+        return None;
+    }
+    waker_from(outbox.take_out(ticket))
 }
 
 impl<D: Drop, W: Drop> Waits<D, W> {
@@ -101,22 +115,45 @@ impl<D: Drop, W: Drop> Waits<D, W> {
         waker_from(self.outbox.take_out(ticket))
     }
 
-    /// Polls a live future with this waker: a registered one stays pending and keeps its place; a fresh one is registered and goes to
-    /// the queue's end, unless it `ends` with this poll; any other ends. The wakers of no more use come back.
+    /// Polls a future with this waker, which is looked up once: a registered one stays pending and keeps its place; a fresh one is
+    /// registered and goes to the queue's end, unless it `ends` with this poll; any other ends. The wakers of no more use come back.
+    /// Where none lives under this slot that has not ended, this waker comes back and nothing has changed.
+    pub fn poll_checked(
+        &mut self,
+        slot: Slot,
+        waker: W,
+        ends: bool,
+    ) -> Result<(Poll<()>, Leftover<W>), W>
+        requires ordered { IsOrdered self.old.side self.old.out }
+        ensures polled { IfOk result (λ polled. PollsWaiter (phase_of self.old.side slot.0) ends self.old slot.0 waker polled.0 self.new) }
+        ensures displaced { IfOk result (λ polled. polled.1.displaced ≡ displaced self.old.side self.old.out slot.0) }
+        ensures unused { IfOk result (λ polled. polled.1.unused ≡ unused_after polled.0 waker) }
+        ensures live { IfOk result (λ _. can_be_polled (phase_of self.old.side slot.0) ≡ true) }
+        ensures refused { OnErr result ((can_be_polled (phase_of self.old.side slot.0) ≡ false) × (self.new ≡ self.old)) }
+        ensures handed_back { IfErr result (λ back. back ≡ waker) }
+    {
+        match self.line.poll(slot, waker, ends) {
+            Ok(PollStep::Stays(before)) => Ok((Poll::Pending, Leftover::of(Some(before), None))),
+            Ok(PollStep::Joins) => Ok((Poll::Pending, Leftover::of(self.take_out(slot), None))),
+            Ok(PollStep::Ends(waker)) => Ok((
+                Poll::Ready(()),
+                Leftover::of(self.take_out(slot), Some(waker)),
+            )),
+            Err(waker) => Err(waker),
+        }
+    }
+
+    /// Polls a future as `poll_checked` does, of which the caller has seen that it lives and has not ended.
     pub fn poll(&mut self, slot: Slot, waker: W, ends: bool) -> (Poll<()>, Leftover<W>)
         requires ordered { IsOrdered self.old.side self.old.out }
-        requires live { IsLive self.old.side slot.0 }
+        requires live { can_be_polled (phase_of self.old.side slot.0) ≡ true }
         ensures polled { PollsWaiter (phase_of self.old.side slot.0) ends self.old slot.0 waker result.0 self.new }
         ensures displaced { result.1.displaced ≡ displaced self.old.side self.old.out slot.0 }
         ensures unused { result.1.unused ≡ unused_after result.0 waker }
     {
-        match self.line.poll(slot, waker, ends) {
-            PollStep::Stays(before) => (Poll::Pending, Leftover::of(Some(before), None)),
-            PollStep::Joins => (Poll::Pending, Leftover::of(self.take_out(slot), None)),
-            PollStep::Ends(waker) => (
-                Poll::Ready(()),
-                Leftover::of(self.take_out(slot), Some(waker)),
-            ),
+        match self.poll_checked(slot, waker, ends) {
+            Ok(polled) => polled,
+            Err(_waker) => unreachable!(),
         }
     }
 
@@ -147,35 +184,43 @@ impl<D: Drop, W: Drop> Waits<D, W> {
         self.line.exchange(slot, asks)
     }
 
-    /// Takes a live future out of everything, and gives back what it asked for and the waker that it had.
-    pub fn remove(&mut self, slot: Slot) -> (D, Option<W>)
-        requires { IsLive self.old.side slot.0 }
-        ensures asked { asks_of self.old.side slot.0 ≡ Some result.0 }
-        ensures waker { result.1 ≡ displaced self.old.side self.old.out slot.0 }
-        ensures removed { self.new ≡ record { side = without_future self.old.side slot.0; out = without_pair slot.0 self.old.out } }
+    /// Takes a future out of everything, and gives back what it asked for and the waker that it had. None where none lives under this
+    /// slot. It is looked up once.
+    pub fn remove(&mut self, slot: Slot) -> Option<(D, Option<W>)>
+        ensures live { OnSome result (is_some (phase_of self.old.side slot.0) ≡ true) }
+        ensures asked { IfSome result (λ left. asks_of self.old.side slot.0 ≡ Some left.0) }
+        ensures waker { IfSome result (λ left. left.1 ≡ displaced self.old.side self.old.out slot.0) }
+        ensures removed { OnSome result
+            (self.new ≡ record { side = without_future self.old.side slot.0; out = without_pair slot.0 self.old.out }) }
+        ensures absent { IfNone result ((phase_of self.old.side slot.0 ≡ None) × (self.new ≡ self.old)) }
     {
-        let (future, named) = self.remove_future(slot);
+        let (future, named) = self.remove_future(slot)?;
         let Future { asks, phase } = future;
-        (asks, last_waker(phase, named))
+        Some((asks, last_waker(phase, named)))
     }
 
-    /// Takes a live future out of everything as `remove` does, and gives it back as it was, with the waker of its pair.
-    pub fn remove_future(&mut self, slot: Slot) -> (Future<D, W>, Option<W>)
-        requires { IsLive self.old.side slot.0 }
-        ensures future { map.get self.old.side.live slot.0 ≡ Some result.0 }
-        ensures waker { result.1 ≡ waker_of slot.0 self.old.out }
-        ensures removed { self.new ≡ record { side = without_future self.old.side slot.0; out = without_pair slot.0 self.old.out } }
+    /// Takes a future out of everything as `remove` does, and gives it back as it was, with the waker of its pair.
+    pub fn remove_future(&mut self, slot: Slot) -> Option<(Future<D, W>, Option<W>)>
+        ensures future { IfSome result (λ left. map.get self.old.side.live slot.0 ≡ Some left.0) }
+        ensures waker { IfSome result (λ left. left.1 ≡ waker_of slot.0 self.old.out) }
+        ensures removed { OnSome result
+            (self.new ≡ record { side = without_future self.old.side slot.0; out = without_pair slot.0 self.old.out }) }
+        ensures absent { IfNone result ((phase_of self.old.side slot.0 ≡ None) × (self.new ≡ self.old)) }
     {
-        let named = self.take_out(slot);
-        let entry = self.line.remove(slot);
+        let entry = match self.line.remove(slot) {
+            Some(entry) => entry,
+            None => return None,
+        };
+        let named = take_pair(&mut self.outbox, entry.ticket);
         self.outbox.free(entry.ticket);
-        (entry.future, named)
+        Some((entry.future, named))
     }
 
     /// Takes the oldest out of the queue; None where nobody waits.
     pub fn leave_oldest(&mut self) -> Option<Slot>
         ensures { MatchOption result ((self.old.side.queue ≡ []) × (self.new ≡ self.old))
-            (λ slot. (others : List ℕ) × (self.old.side.queue ≡ slot.0 ∷ others) × (self.new ≡ record self.old { side = record self.old.side { queue = others } })) }
+            (λ slot. (others : List ℕ) × (self.old.side.queue ≡ slot.0 ∷ others) ×
+            (self.new ≡ record self.old { side = record self.old.side { queue = others } })) }
     {
         let slot = self.line.leave_oldest()?;
         Some(slot)
@@ -209,7 +254,10 @@ impl<D: Drop, W: Drop> Waits<D, W> {
     pub fn notice(&mut self, slot: Slot, phase: Phase<W>)
         requires registered { is_registered (phase_of self.old.side slot.0) ≡ true }
         requires no_pair { has slot.0 self.old.out ≡ false }
-        ensures { self.new ≡ record { side = record self.old.side { live = with_phase self.old.side.live slot.0 phase }; out = self.old.out ++ pair self.old.side slot.0 } }
+        ensures { self.new ≡ record {
+          side = record self.old.side { live = with_phase self.old.side.live slot.0 phase };
+          out = self.old.out ++ pair self.old.side slot.0;
+        } }
     {
         let (ticket, waker) = self.line.notice(slot, phase);
         self.outbox.name(ticket, (slot.0, waker.unwrap()));

@@ -105,16 +105,11 @@ impl<W: Drop> Primitive for EventState<W> {
                 Ok(slot) => Answer::Made(slot),
                 Err(fault) => Answer::Refused(fault),
             },
-            EventCall::Poll(slot, waker) => {
-                if !self.can_poll(slot) {
-                    return Answer::Refused(Fault::NoSlot);
-                }
-                let (answer, _leftover) = self.try_wait(slot, waker);
-                match answer {
-                    Poll::Ready(_) => Answer::Ready,
-                    Poll::Pending => Answer::Pending,
-                }
-            }
+            EventCall::Poll(slot, waker) => match self.poll_checked(slot, waker) {
+                Ok((Poll::Ready(_), _)) => Answer::Ready,
+                Ok((Poll::Pending, _)) => Answer::Pending,
+                Err(_) => Answer::Refused(Fault::NoSlot),
+            },
             EventCall::Cancel(slot) => {
                 if !self.is_live(slot) {
                     return Answer::Refused(Fault::NoSlot);

@@ -111,16 +111,13 @@ impl<T: Drop, W: Drop> Primitive for MutexState<T, W> {
                 Ok(slot) => Answer::Made(slot),
                 Err(fault) => Answer::Refused(fault),
             },
-            MutexCall::Poll(slot, waker) => {
-                if !self.can_poll(slot) {
-                    return Answer::Refused(Fault::NoSlot);
-                }
-                let (answer, _leftover) = self.try_wait(slot, waker);
-                match answer {
+            MutexCall::Poll(slot, waker) => match self.poll_checked(slot, waker) {
+                Ok((answer, _)) => match answer {
                     Poll::Ready(value) => Answer::Item(value),
                     Poll::Pending => Answer::Pending,
-                }
-            }
+                },
+                Err(_) => Answer::Refused(Fault::NoSlot),
+            },
             MutexCall::Cancel(slot) => {
                 if !self.is_live(slot) {
                     return Answer::Refused(Fault::NoSlot);

@@ -155,13 +155,10 @@ impl<W: Drop> Primitive for SemaphoreState<W> {
 fn poll<W: Drop>(semaphore: &mut SemaphoreState<W>, slot: Slot, waker: W) -> Answer<u64, W>
     ensures { Step semaphore.old (calls.Poll slot waker) result semaphore.new }
 {
-    if !semaphore.can_poll(slot) {
-        return Answer::Refused(Fault::NoSlot);
-    }
-    let (answer, _leftover) = semaphore.acquire_or_register(slot, waker);
-    match answer {
-        Poll::Ready(_) => Answer::Ready,
-        Poll::Pending => Answer::Pending,
+    match semaphore.poll_checked(slot, waker) {
+        Ok((Poll::Ready(_), _)) => Answer::Ready,
+        Ok((Poll::Pending, _)) => Answer::Pending,
+        Err(_) => Answer::Refused(Fault::NoSlot),
     }
 }
 

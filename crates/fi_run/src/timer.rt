@@ -115,16 +115,11 @@ impl<W: Drop> Primitive for TimerState<W> {
                 Ok(slot) => Answer::Made(slot),
                 Err(fault) => Answer::Refused(fault),
             },
-            TimerCall::Poll(slot, now, waker) => {
-                if !self.can_poll(slot) {
-                    return Answer::Refused(Fault::NoSlot);
-                }
-                let (answer, _leftover) = self.try_wait(slot, now, waker);
-                match answer {
-                    Poll::Ready(_) => Answer::Ready,
-                    Poll::Pending => Answer::Pending,
-                }
-            }
+            TimerCall::Poll(slot, now, waker) => match self.poll_checked(slot, now, waker) {
+                Ok((Poll::Ready(_), _)) => Answer::Ready,
+                Ok((Poll::Pending, _)) => Answer::Pending,
+                Err(_) => Answer::Refused(Fault::NoSlot),
+            },
             TimerCall::Cancel(slot) => {
                 if !self.is_live(slot) {
                     return Answer::Refused(Fault::NoSlot);

@@ -6,11 +6,11 @@ ghost use Rattle.fi_sync.specs.Waiting.{PollsAt, leftover_at, CancelsAt};
 ghost use Rattle.fi_sync.specs.Blanks.{IsLockBlank};
 
 use crate::claim::Cancel;
-use crate::slot_future::{PollSlot, SlotPolled};
+use crate::slot_future::{PollSlot, SlotPolled, no_slot};
 use crate::tally::{Grant, Tally};
 use crate::wakes::{HasOutbox, PollWaker};
 use fi_locks::MutexState;
-use fi_parts::{Fault, Leftover, Slot};
+use fi_parts::{Fault, Slot};
 use futures::task::Poll;
 use std::alloc::Global;
 use std::marker::Model;
@@ -159,21 +159,19 @@ impl<T: Drop, L: Ledger> PollSlot<MutexLock> for CountedMutex<T, L> {
     ghost leaves = { leftover_at };
 
     fn poll_slot(&mut self, slot: Slot, waker: PollWaker) -> SlotPolled<Self::Output> {
-        if !self.state.can_poll(slot) {
-            let answer = Poll::Ready(Err(Fault::NoSlot));
-            return Some((answer, Leftover::of(None, Some(waker))));
-        }
-        if waker.is_none() && !self.state.ends_now(slot) {
+        if waker.is_none() && !self.state.ends_now(slot) && self.state.can_poll(slot) {
             return None;
         }
         let CountedMutex { state, tally } = self;
-        let (answer, leftover) = state.try_wait(slot, waker);
-        match answer {
-            Poll::Ready(value) => {
-                let hold = tally.hand_out(1);
-                Some((Poll::Ready(Ok(Locked { value, hold })), leftover))
-            }
-            Poll::Pending => Some((Poll::Pending, leftover)),
+        match state.poll_checked(slot, waker) {
+            Ok((answer, leftover)) => match answer {
+                Poll::Ready(value) => {
+                    let hold = tally.hand_out(1);
+                    Some((Poll::Ready(Ok(Locked { value, hold })), leftover))
+                }
+                Poll::Pending => Some((Poll::Pending, leftover)),
+            },
+            Err(waker) => no_slot(waker),
         }
     }
 }

@@ -6,11 +6,11 @@ ghost use Rattle.fi_sync.specs.Waiting.{PollsAt, leftover_at, CancelsAt};
 ghost use Rattle.fi_sync.specs.Blanks.{IsPermitBlank};
 
 use crate::claim::Cancel;
-use crate::slot_future::{PollSlot, SlotPolled};
+use crate::slot_future::{PollSlot, SlotPolled, no_slot};
 use crate::tally::{Grant, Tally};
 use crate::wakes::{HasOutbox, PollWaker};
 use fi_locks::SemaphoreState;
-use fi_parts::{Fault, Leftover, Slot};
+use fi_parts::{Fault, Slot};
 use futures::task::Poll;
 use std::alloc::Global;
 use std::marker::Model;
@@ -131,22 +131,21 @@ impl<L: Ledger> PollSlot<SemaphoreAcquire> for CountedSemaphore<L> {
     ghost leaves = { leftover_at };
 
     fn poll_slot(&mut self, slot: Slot, waker: PollWaker) -> SlotPolled<Self::Output> {
-        if !self.state.can_poll(slot) {
-            let answer = Poll::Ready(Err(Fault::NoSlot));
-            return Some((answer, Leftover::of(None, Some(waker))));
-        }
-        if waker.is_none() && !self.state.ends_now(slot) {
+        if waker.is_none() && !self.state.ends_now(slot) && self.state.can_poll(slot) {
             return None;
         }
         let CountedSemaphore { state, tally } = self;
-        let (answer, leftover) = state.acquire_or_register(slot, waker);
+        let polled = state.poll_checked(slot, waker);
         state.show();
-        match answer {
-            Poll::Ready(permits) => {
-                let grant = tally.hand_out(permits);
-                Some((Poll::Ready(Ok(grant)), leftover))
-            }
-            Poll::Pending => Some((Poll::Pending, leftover)),
+        match polled {
+            Ok((answer, leftover)) => match answer {
+                Poll::Ready(permits) => {
+                    let grant = tally.hand_out(permits);
+                    Some((Poll::Ready(Ok(grant)), leftover))
+                }
+                Poll::Pending => Some((Poll::Pending, leftover)),
+            },
+            Err(waker) => no_slot(waker),
         }
     }
 }

@@ -4,10 +4,10 @@ ghost use Rattle.fi_sync.specs.Waiting.{PollsAt, leftover_at, CancelsAt};
 
 use crate::claim::Cancel;
 use crate::monitor::Monitor;
-use crate::slot_future::{PollSlot, SlotFuture, SlotPolled};
+use crate::slot_future::{PollSlot, SlotFuture, SlotPolled, no_slot};
 use crate::wakes::PollWaker;
 use fi_channels::EventState;
-use fi_parts::{Fault, Leftover, Slot};
+use fi_parts::{Fault, Slot};
 use futures::task::Poll;
 
 /// The kind of an event's futures.
@@ -27,16 +27,13 @@ impl PollSlot<EventWait> for EventState<PollWaker> {
     ghost leaves = { leftover_at };
 
     fn poll_slot(&mut self, slot: Slot, waker: PollWaker) -> SlotPolled<Self::Output> {
-        if !self.can_poll(slot) {
-            let answer = Poll::Ready(Err(Fault::NoSlot));
-            return Some((answer, Leftover::of(None, Some(waker))));
-        }
-        if waker.is_none() && !self.ends_now(slot) {
+        if waker.is_none() && !self.ends_now(slot) && self.can_poll(slot) {
             return None;
         }
-        match self.try_wait(slot, waker) {
-            (Poll::Ready(()), leftover) => Some((Poll::Ready(Ok(())), leftover)),
-            (Poll::Pending, leftover) => Some((Poll::Pending, leftover)),
+        match self.poll_checked(slot, waker) {
+            Ok((Poll::Ready(()), leftover)) => Some((Poll::Ready(Ok(())), leftover)),
+            Ok((Poll::Pending, leftover)) => Some((Poll::Pending, leftover)),
+            Err(waker) => no_slot(waker),
         }
     }
 }

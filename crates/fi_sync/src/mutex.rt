@@ -194,7 +194,8 @@ impl<T: Drop, R: Wait, L: Ledger> DerefMut for MutexGuard<'_, T, R, L> {
 
 /// Locks a mutex. Its drop unregisters it; if it was told, the oldest queued future is told and woken in its place.
 ///
-/// Its output is the guard, once the mutex is free for it. Refused with `NoMemory` where it had to wait and no waker could be made; it may then be
+/// Its output is the guard, once the mutex is free for it. Refused with `NoMemory` where it had to wait and no waker
+/// could be made; it may then be
 /// polled again. Keeps `GenericMutexLockFuture` of futures-intrusive's `sync`.
 #[derive(Drop)]
 pub struct MutexLockFuture<'a, T: Drop, R: Wait, L: Ledger> {

@@ -6,11 +6,10 @@ ghost use Rattle.fi_sync.specs.Waiting.{PollsWhere, leftover_after};
 
 use crate::claim::Cancel;
 use crate::monitor::Monitor;
-use crate::slot_future::{PollSlot, SlotFuture, SlotPolled};
+use crate::slot_future::{PollSlot, SlotFuture, SlotPolled, no_slot};
 use crate::wakes::PollWaker;
 use fi_channels::ChannelReceiveAccess;
-use fi_parts::{Fault, Leftover, Slot};
-use futures::task::Poll;
+use fi_parts::{Fault, Slot};
 
 /// The kind of a channel's receives.
 pub struct ChannelReceive;
@@ -32,8 +31,7 @@ impl<C: ChannelReceiveAccess<Waker = PollWaker>> PollSlot<ChannelReceive> for C 
 
     fn poll_slot(&mut self, slot: Slot, waker: PollWaker) -> SlotPolled<Self::Output> {
         if !self.can_receive(slot) {
-            let answer = Poll::Ready(Err(Fault::NoSlot));
-            return Some((answer, Leftover::of(None, Some(waker))));
+            return no_slot(waker);
         }
         if waker.is_none() && !self.receive_ends_now(slot) {
             return None;

@@ -51,6 +51,14 @@ impl<T> PollOutput for Result<T, Fault> {
 /// What a poll under a slot answers, and the wakers of no more use. None where it would have to wait and has no waker.
 pub type SlotPolled<A> = Option<(Poll<A>, Leftover<PollWaker>)>;
 
+/// The answer where no future lives under a slot that can be polled: the waker comes back.
+pub(crate) fn no_slot<T>(waker: PollWaker) -> SlotPolled<Result<T, Fault>>
+    ensures { result ≡ Some (Poll.Ready (Err Fault.NoSlot), record { displaced = None; unused = Some waker }) }
+{
+    let answer = Poll::Ready(Err(Fault::NoSlot));
+    Some((answer, Leftover::of(None, Some(waker))))
+}
+
 /// A state whose futures of the kind `K` are polled under their slots.
 pub trait PollSlot<K>: Cancel<K> {
     /// What a poll gives that is ready.

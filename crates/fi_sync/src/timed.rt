@@ -10,10 +10,10 @@ ghost use Rattle.fi_sync.specs.Timed.{DelaysTimed, PollsTimed};
 ghost use Rattle.fi_sync.specs.Waiting.{PollsWhere, leftover_after};
 
 use crate::claim::Cancel;
-use crate::slot_future::{PollSlot, SlotPolled};
+use crate::slot_future::{PollSlot, SlotPolled, no_slot};
 use crate::wakes::{HasOutbox, PollWaker};
 use fi_locks::TimerState;
-use fi_parts::{Clock, Fault, Leftover, Slot};
+use fi_parts::{Clock, Fault, Slot};
 use futures::task::Poll;
 use std::alloc::Global;
 use std::sync::Arc;
@@ -140,20 +140,17 @@ impl<C: Clock> PollSlot<TimerWait> for Timed<C> {
     ghost leaves = { λ old name waker answer. leftover_after answer (displaced_at old.timer name) waker };
 
     fn poll_slot(&mut self, slot: Slot, waker: PollWaker) -> SlotPolled<Self::Output> {
-        if !self.timer.can_poll(slot) {
-            let answer = Poll::Ready(Err(Fault::NoSlot));
-            return Some((answer, Leftover::of(None, Some(waker))));
-        }
         let now = self.clock.now();
-        if waker.is_none() && !self.timer.ends_now(slot, now) {
+        if waker.is_none() && !self.timer.ends_now(slot, now) && self.timer.can_poll(slot) {
             return None;
         }
-        match self.timer.try_wait(slot, now, waker) {
-            (Poll::Ready(()), leftover) => Some((Poll::Ready(Ok(())), leftover)),
-            (Poll::Pending, leftover) => {
+        match self.timer.poll_checked(slot, now, waker) {
+            Ok((Poll::Ready(()), leftover)) => Some((Poll::Ready(Ok(())), leftover)),
+            Ok((Poll::Pending, leftover)) => {
                 self.rouse();
                 Some((Poll::Pending, leftover))
             }
+            Err(waker) => no_slot(waker),
         }
     }
 }

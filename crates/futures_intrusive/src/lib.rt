@@ -7,7 +7,8 @@
 //! - `channel::shared`: the same channels, whose senders and receivers are owned and counted instead of borrowed.
 //! - `timer`: wait for a moment of a clock. `buffer`: where a channel keeps its values.
 //!
-//! `list`, `heap`, `outbox`, `blocking` and `run` have what futures-intrusive keeps private or lacks. The fault of a refused call is `Fault`.
+//! `list`, `heap`, `outbox`, `blocking` and `run` have what futures-intrusive keeps private or lacks. The fault of a
+//! refused call is `Fault`.
 #![tactic(auto)]
 
 pub mod blocking;

@@ -20,7 +20,8 @@ use std::sync::Wait;
 /// The values of a channel, one after another, until it is closed and empty; then it answers its end, again and again.
 ///
 /// It is made of a receiver, which it keeps. Its drop drops its receive first, and then the receiver. An item is `Err(NoMemory)` if
-/// the poll had to wait and could make no waker; the stream goes on after it. Keeps `SharedStream` of futures-intrusive's `channel::shared`.
+/// the poll had to wait and could make no waker; the stream goes on after it. Keeps `SharedStream` of
+/// futures-intrusive's `channel::shared`.
 #[derive(Drop)]
 pub struct SharedStream<T: Drop, B: RingBuf<Item = T>, R: Wait + Drop> {
     // In this order they are dropped: a receive that was told of a value passes that on while the receiver is still counted.

@@ -64,7 +64,7 @@ impl<T> Clone for BlockPtr<T> {
 impl<T> Copy for BlockPtr<T> {}
 
 impl<T> BlockPtr<T> {
-    /// Where the block lies, in a row of blocks, that is so many further on.
+    /// A pointer to the place that is `count` blocks behind this one in its row.
     pub(crate) fn further(self, count: usize) -> BlockPtr<T>
         requires place { InBlock self.ptr }
         requires fits { FitsInBlock (block_row T.row) (count + 1) }

@@ -6,7 +6,8 @@ ghost use Rattle.fi_parts.specs.Links.{names, without};
 ghost use Rattle.fi_parts.specs.Order.{last_or};
 ghost use Rattle.fi_parts.specs.declared.blocks.block.BlockPtr.{BlockPtr};
 ghost use Rattle.fi_parts.specs.CountedBlocks.{item_in, slot_in, loose_block};
-ghost use Rattle.fi_parts.specs.LinkedBlocks.{block_at, data_of, links_at, with_links, with_older, with_younger, chain_of, IsChained, SameData, SameList, LendsBlockItem};
+ghost use Rattle.fi_parts.specs.LinkedBlocks.{block_at, data_of, links_at, with_links, with_older, with_younger};
+ghost use Rattle.fi_parts.specs.LinkedBlocks.{chain_of, IsChained, SameData, SameList, LendsBlockItem};
 
 use crate::blocks::block::{BlockPtr, Links, Neighbour};
 use crate::blocks::counted::CountedBlocks;

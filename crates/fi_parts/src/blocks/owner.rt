@@ -57,7 +57,8 @@ fn push_places<T>(stack: &mut Vec<BlockPtr<T>>, first: BlockPtr<T>, len: usize)
     requires place { InBlock first.ptr }
     requires room { vec_len stack.old + len ≤ vec_capacity stack.old }
     requires fits { FitsInBlock (block_row T.row) len }
-    ensures { (vs : List (BlockPtr T)) × (stack.new.items ≡ stack.old.items ++ vs) × ((p : Ptr) → times p (each pointed vs) ≡ times p (block_places T.row first.ptr len)) }
+    ensures { (vs : List (BlockPtr T)) × (stack.new.items ≡ stack.old.items ++ vs)
+        × ((p : Ptr) → times p (each pointed vs) ≡ times p (block_places T.row first.ptr len)) }
 {
     let mut left = len;
     while left > 0 {

@@ -10,7 +10,8 @@ use std::alloc::Global;
 use std::fmt;
 use std::marker::Model;
 
-/// A buffer of at most `N` items, with its room in a `Vec` of `N` slots. It takes that memory once: in `with_capacity`, or at the first `push` after `new`.
+/// A buffer of at most `N` items, with its room in a `Vec` of `N` slots. It takes that memory once: in `with_capacity`,
+/// or at the first `push` after `new`.
 ///
 /// Keeps `ArrayBuf` of futures-intrusive, whose room is an array. The capacity is always `N`: `with_capacity` ignores its number.
 ///

@@ -14,7 +14,8 @@ const LEAST: usize = 4;
 
 /// A buffer on the heap that takes memory as its items need it: at first none, and then twice as much at each growth, up to its capacity.
 ///
-/// Keeps `GrowingHeapBuf` of futures-intrusive. The capacity is 0 by `new`, and `capacity` by `with_capacity(alloc, capacity)`, which takes no memory.
+/// Keeps `GrowingHeapBuf` of futures-intrusive. The capacity is 0 by `new`, and `capacity` by `with_capacity(alloc,
+/// capacity)`, which takes no memory.
 ///
 /// # Examples
 ///

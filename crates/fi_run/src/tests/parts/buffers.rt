@@ -13,9 +13,12 @@ use std::test::*;
 /// Takes the oldest item, if there is one, and then puts the item behind the others: what a full channel does where a send waits.
 fn refill<B: RingBuf>(buffer: &mut B, item: B::Item) -> Result<Option<B::Item>, NoRoom<B::Item>>
     requires { 0 < (B.bounded buffer.old).capacity }
-    ensures some { IfOk result (λ oldest. IfSome oldest (λ first. first ∷ (B.bounded buffer.new).items ≡ (B.bounded buffer.old).items ++ item ∷ [])) }
-    ensures none { IfOk result (λ oldest. IfNone oldest (((B.bounded buffer.old).items ≡ []) × ((B.bounded buffer.new).items ≡ item ∷ []))) }
-    ensures err { IfErr result (λ back. (back.0 ≡ item) × (B.bounded buffer.new ≡ B.bounded buffer.old) × ((B.bounded buffer.old).items ≡ []) × ((B.bounded buffer.old).reserved ≡ 0)) }
+    ensures some { IfOk result (λ oldest. IfSome oldest (λ first. first ∷ (B.bounded buffer.new).items
+        ≡ (B.bounded buffer.old).items ++ item ∷ [])) }
+    ensures none { IfOk result (λ oldest. IfNone oldest (((B.bounded buffer.old).items ≡ [])
+        × ((B.bounded buffer.new).items ≡ item ∷ []))) }
+    ensures err { IfErr result (λ back. (back.0 ≡ item) × (B.bounded buffer.new ≡ B.bounded buffer.old)
+        × ((B.bounded buffer.old).items ≡ []) × ((B.bounded buffer.old).reserved ≡ 0)) }
     ensures capacity { (B.bounded buffer.new).capacity ≡ (B.bounded buffer.old).capacity }
     ensures grows { (B.bounded buffer.old).reserved ≤ (B.bounded buffer.new).reserved }
     ensures fits { Fits (B.bounded buffer.new) }

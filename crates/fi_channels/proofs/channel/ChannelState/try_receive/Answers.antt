@@ -13,4 +13,5 @@ pub returns-clause-all_stay : goal.returns-clause-all_stay
 returns-clause-all_stay g c =
     let old = machine_of g.B.RingBuf.bounded c.self.inside.fields in
     let new = machine_of g.B.RingBuf.bounded c.try_receive.new.self in
-    rw (← c.self.view_is) (all_stay old new c.self.invariant (tries_receive old new c.try_receive.result c.try_receive.ensures c.self.invariant))
+    rw (← c.self.view_is) (all_stay old new c.self.invariant
+    (tries_receive old new c.try_receive.result c.try_receive.ensures c.self.invariant))

@@ -13,4 +13,5 @@ pub returns-clause-all_stay : goal.returns-clause-all_stay
 returns-clause-all_stay g c =
     let old = machine_of g.B.RingBuf.bounded c.self.inside.fields in
     let new = machine_of g.B.RingBuf.bounded c.try_send.new.self in
-    rw (← c.self.view_is) (all_stay old new c.self.invariant (tries_send old new c.args.value c.try_send.result c.try_send.ensures c.self.invariant))
+    rw (← c.self.view_is) (all_stay old new c.self.invariant
+    (tries_send old new c.args.value c.try_send.result c.try_send.ensures c.self.invariant))

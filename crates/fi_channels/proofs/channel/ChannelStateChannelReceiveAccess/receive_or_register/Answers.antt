@@ -42,4 +42,5 @@ returns-clause-others g c =
     let old = machine_of g.B.RingBuf.bounded c.self.inside.fields in
     let new = machine_of g.B.RingBuf.bounded c.receive_or_register-answer.new.self in
     rw (← c.self.view_is) (polled_receive_stays old new c.self.invariant c.args.slot.0 c.args.waker c.receive_or_register-answer.result.0
-    (polls_receive old new c.args.slot.0 c.args.waker c.receive_or_register-answer.result.0 c.receive_or_register-answer.ensures.polled c.self.invariant).0)
+    (polls_receive old new c.args.slot.0 c.args.waker c.receive_or_register-answer.result.0
+    c.receive_or_register-answer.ensures.polled c.self.invariant).0)

@@ -9,22 +9,22 @@ use Rattle.fi_channels.proofs.two_sides.TwoSides.remove_send.Goals as goal
 
 pub free-requires-clause-live : goal.free-requires-clause-live
 free-requires-clause-live g c =
-    c.self.invariant.claimed (Send c.args.slot.0) c.remove-entry.result.ticket.0 c.remove-entry.ensures.ticket
+    c.self.invariant.claimed (Send c.args.slot.0) c.in-Some.entry.ticket.0 c.in-Some.ensures.ticket
 
 pub free-requires-clause-no_pair : goal.free-requires-clause-no_pair
 free-requires-clause-no_pair g c =
     let s = c.self.inside in
     unpaired_after same_waiter waiter_test (ticket_of_waiter s.sends.tickets s.receives.tickets) s.outbox
     c.self.invariant
-    (Send c.args.slot.0) c.remove-entry.result.ticket.0 c.args.self.now.out c.remove-entry.ensures.ticket
+    (Send c.args.slot.0) c.in-Some.entry.ticket.0 c.args.self.now.out c.in-Some.ensures.ticket
     (ap (λ b. TwoSidesModel.out b) (c.self.view_is ∙ c.take_out_send-named.ensures.rest))
 
 pub invariant_of-self : goal.invariant_of-self
 invariant_of-self g c =
     let s = c.self.inside in
-    rw (c.remove-entry.ensures.removed, c.free.ensures) (send-removed s.sends.tickets s.receives.tickets s.outbox
-    c.self.invariant c.args.slot.0 c.remove-entry.result.ticket.0 c.remove-entry.ensures.ticket
+    rw (c.in-Some.ensures.removed, c.free.ensures) (send-removed s.sends.tickets s.receives.tickets s.outbox
+    c.self.invariant c.args.slot.0 c.in-Some.entry.ticket.0 c.in-Some.ensures.ticket
     (unpaired_after same_waiter waiter_test
     (ticket_of_waiter s.sends.tickets s.receives.tickets) s.outbox c.self.invariant
-    (Send c.args.slot.0) c.remove-entry.result.ticket.0 c.args.self.now.out c.remove-entry.ensures.ticket
+    (Send c.args.slot.0) c.in-Some.entry.ticket.0 c.args.self.now.out c.in-Some.ensures.ticket
     (ap (λ b. TwoSidesModel.out b) (c.self.view_is ∙ c.take_out_send-named.ensures.rest))))

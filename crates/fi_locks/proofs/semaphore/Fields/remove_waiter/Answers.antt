@@ -90,41 +90,41 @@ module _ {W : Type 0} {old passed : Fields W} {name : ℕ} {future : Future ℕ 
 pub unpromise-requires : goal.unpromise-requires
 unpromise-requires g c is =
     let left =
-    has_left c.args.self.now c.pass_over.new.self c.args.slot.0 c.remove_future-future.result.0
-    c.remove_future-future.new.self c.requires.live c.pass_over.ensures.rest c.remove_future-future.ensures.future
-    c.remove_future-future.ensures.removed in
+    has_left c.args.self.now c.pass_over.new.self c.args.slot.0 c.in-Some.left.0
+    c.remove_future.new.self c.requires.live c.pass_over.ensures.rest c.in-Some.ensures.future
+    c.in-Some.ensures.removed in
     promised left c.is_told.result c.is_told.ensures c.requires.sound c.requires.marked is
 
 pub tell-requires-clause-sound : goal.tell-requires-clause-sound
 tell-requires-clause-sound g c =
     let left =
-    has_left c.args.self.now c.pass_over.new.self c.args.slot.0 c.remove_future-future.result.0
-    c.remove_future-future.new.self c.requires.live c.pass_over.ensures.rest c.remove_future-future.ensures.future
-    c.remove_future-future.ensures.removed in
+    has_left c.args.self.now c.pass_over.new.self c.args.slot.0 c.in-Some.left.0
+    c.remove_future.new.self c.requires.live c.pass_over.ensures.rest c.in-Some.ensures.future
+    c.in-Some.ensures.removed in
     rw c.unpromise.ensures (removed_sound left c.requires.sound)
 
 pub tell-requires-clause-marked : goal.tell-requires-clause-marked
 tell-requires-clause-marked g c =
     let left =
-    has_left c.args.self.now c.pass_over.new.self c.args.slot.0 c.remove_future-future.result.0
-    c.remove_future-future.new.self c.requires.live c.pass_over.ensures.rest c.remove_future-future.ensures.future
-    c.remove_future-future.ensures.removed in
+    has_left c.args.self.now c.pass_over.new.self c.args.slot.0 c.in-Some.left.0
+    c.remove_future.new.self c.requires.live c.pass_over.ensures.rest c.in-Some.ensures.future
+    c.in-Some.ensures.removed in
     rw c.unpromise.ensures (marked left c.is_told.result c.is_told.ensures c.requires.sound c.pass_over.ensures.marked)
 
 pub returns-else-tells-clause-marked : goal.returns-else-tells-clause-marked
 returns-else-tells-clause-marked g c =
     let left =
-    has_left c.args.self.now c.pass_over.new.self c.args.slot.0 c.remove_future-future.result.0
-    c.remove_future-future.new.self c.requires.live c.pass_over.ensures.rest c.remove_future-future.ensures.future
-    c.remove_future-future.ensures.removed in
+    has_left c.args.self.now c.pass_over.new.self c.args.slot.0 c.in-Some.left.0
+    c.remove_future.new.self c.requires.live c.pass_over.ensures.rest c.in-Some.ensures.future
+    c.in-Some.ensures.removed in
     rw c.unpromise.ensures (marked left c.is_told.result c.is_told.ensures c.requires.sound c.pass_over.ensures.marked)
 
 pub returns-then-tells-clause-cancelled : goal.returns-then-tells-clause-cancelled
 returns-then-tells-clause-cancelled g c =
     let left =
-    has_left c.args.self.now c.pass_over.new.self c.args.slot.0 c.remove_future-future.result.0
-    c.remove_future-future.new.self c.requires.live c.pass_over.ensures.rest c.remove_future-future.ensures.future
-    c.remove_future-future.ensures.removed in
+    has_left c.args.self.now c.pass_over.new.self c.args.slot.0 c.in-Some.left.0
+    c.remove_future.new.self c.requires.live c.pass_over.ensures.rest c.in-Some.ensures.future
+    c.in-Some.ensures.removed in
     cancelled left c.tells_on_cancel-tells.result c.tells_on_cancel-tells.ensures c.if-tells.true
     (machine_of c.tell.new.self)
     (subst (λ (p : Fields g.row.W.Denot). Tells (machine_of p) (machine_of c.tell.new.self)) c.unpromise.ensures

@@ -1,27 +1,37 @@
-use Rattle.std.proofs.Common.{sym, ap, ◌∙◌}
-use Rattle.fi_parts.specs.Waiting.{displaced_from}
+use Rattle.std.proofs.Common.{◌≡◌, ℕ, true, Option, Some, None, is_some, refl, sym, ap, ◌∙◌}
+use Rattle.std.specs.FinMap as map
+use Rattle.fi_parts.specs.declared.phase.Future.{Future}
 use Rattle.fi_parts.specs.Pairs.{waker_of}
-use Rattle.fi_parts.proofs.Seats.{lives_inside, seat_live, kept-forgotten, seen-forgotten, phase-unseated}
+use Rattle.fi_parts.specs.Polled.{LeavesWhere}
+use Rattle.fi_parts.specs.Seats.{deadlines_of}
+use Rattle.fi_parts.specs.Waiting.{Waiting, asks_of, asks_in, phase_of, phase_in, displaced, displaced_from, without_future}
+use Rattle.fi_parts.specs.Pairs.{without_pair}
+use Rattle.fi_parts.proofs.Seats.{seat_live, kept-forgotten, seen-forgotten, phase-unseated}
 use Rattle.fi_parts.proofs.deadlines.Deadlines.remove.Goals as goal
 
-pub remove-waker-requires : goal.remove-waker-requires
-remove-waker-requires g c = lives_inside c.self.inside.waits c.args.slot.0 (rw (← c.self.view_is) at c.requires)
+-- one that asks for something lives
+lives : {D W : Type 0} (future : Option (Future D W)) (asks : D) → asks_in future ≡ Some asks → is_some (phase_in future) ≡ true
+lives None asks is = cc
+lives (Some future) asks is = refl
 
-pub invariant_of-self : goal.invariant_of-self
-invariant_of-self g c =
-    rw c.remove-waker.ensures.removed
-    (kept-forgotten c.self.inside.waits.side.live c.self.inside.heap c.give_up.new.heap c.args.slot.0 c.remove-waker.result.0
-    c.self.invariant c.remove-waker.ensures.asked c.give_up.ensures.live c.give_up.ensures.elsewhere)
+pub invariant_of-self-2 : goal.invariant_of-self-2
+invariant_of-self-2 g c =
+    rw c.in-Some.ensures.removed
+    (kept-forgotten c.self.inside.waits.side.live c.self.inside.heap c.give_up.new.heap c.args.slot.0 c.in-Some.left.0
+    c.self.invariant c.in-Some.ensures.asked c.give_up.ensures.live c.give_up.ensures.elsewhere)
 
-pub give_up-requires : goal.give_up-requires
-give_up-requires g c = seat_live c.self.inside.waits.side.live c.self.inside.heap c.args.slot.0 c.remove-waker.result.0 c.self.invariant
-    c.remove-waker.ensures.asked
+pub returns-in-None : goal.returns-in-None
+returns-in-None g c =
+    let waits = c.self.inside.waits in
+    rw (← c.self.view_is, phase-unseated waits.side.live c.args.slot.0, c.in-None.ensures.absent.0)
+    (ap deadlines_of c.in-None.ensures.absent.1, refl)
 
-pub returns-clause-waker : goal.returns-clause-waker
-returns-clause-waker g c = rw (← c.self.view_is) (c.remove-waker.ensures.waker ∙
-    ap (λ p. displaced_from p (waker_of c.args.slot.0 c.self.inside.waits.out))
-    (sym (phase-unseated c.self.inside.waits.side.live c.args.slot.0)))
-
-pub returns-clause-removed : goal.returns-clause-removed
-returns-clause-removed g c =
-    rw (← c.self.view_is) (seen-forgotten c.self.inside.waits c.args.slot.0 c.remove-waker.new.self c.remove-waker.ensures.removed)
+pub returns : goal.returns
+returns g c =
+    let waits = c.self.inside.waits in
+    let phase = phase-unseated waits.side.live c.args.slot.0 in
+    rw (← c.self.view_is)
+    (rw (ap is_some phase ∙ lives (map.get waits.side.live c.args.slot.0) c.in-Some.left.0 c.in-Some.ensures.asked) (
+      seen-forgotten waits c.args.slot.0 c.remove.new.self c.in-Some.ensures.removed,
+      c.in-Some.ensures.waker ∙ ap (λ p. displaced_from p (waker_of c.args.slot.0 waits.out)) (sym phase),
+    ))

@@ -1,32 +1,54 @@
-use Rattle.fi_parts.proofs.Lines.{entry_lives}
-use Rattle.fi_parts.proofs.Lines.{its_ticket, its_future, its_phase, its_asks, seen-removed}
+use Rattle.std.proofs.Common.{◌≡◌, ℕ, Option, Some, None, IfSome, IfNone, OnSome, refl, sym, ap, ◌∙◌}
+use Rattle.fi_parts.specs.declared.line.Entry.{Entry}
+use Rattle.fi_parts.specs.LineModel.{line_of}
+use Rattle.fi_parts.specs.ListModel.{ListModel, item}
+use Rattle.fi_parts.specs.Order.{without}
+use Rattle.fi_parts.specs.Waiting.{phase_of, without_future}
+use Rattle.std.specs.FinMap as map
+use Rattle.fi_parts.proofs.Lines.{its_ticket, its_future, free_name, seen-removed}
 use Rattle.fi_parts.proofs.line.Line.remove.Goals as goal
 
-pub remove_and_free-requires : goal.remove_and_free-requires
-remove_and_free-requires g c = entry_lives c.self.inside.list.live c.args.slot.0 (rw (← c.self.view_is) at c.requires)
+module _ {D W : Type 0} (old : ListModel (Entry D W)) (name : ℕ) where
+  ticket : (result : Option (Entry D W)) → result ≡ item old name →
+      IfSome result (λ entry. map.get (line_of old).tickets name ≡ Some entry.ticket.0)
+  ticket (Some entry) is = its_ticket old name entry (sym is)
+  ticket None is = tt
+
+  future : (result : Option (Entry D W)) → result ≡ item old name →
+      IfSome result (λ entry. map.get (line_of old).side.live name ≡ Some entry.future)
+  future (Some entry) is = its_future old name entry (sym is)
+  future None is = tt
+
+  removed : (result : Option (Entry D W)) (new : ListModel (Entry D W)) →
+      OnSome result (new.live ≡ map.remove old.live name) → OnSome result (new.order ≡ without name old.order) →
+      OnSome result (line_of new ≡ record {
+        side = without_future (line_of old).side name;
+        tickets = map.remove (line_of old).tickets name;
+      })
+  removed (Some entry) new live order = seen-removed old name new live order
+  removed None new live order = tt
+
+  absent : (result : Option (Entry D W)) (new : ListModel (Entry D W)) → result ≡ item old name → IfNone result (new ≡ old) →
+      IfNone result ((phase_of (line_of old).side name ≡ None) × (line_of new ≡ line_of old))
+  absent (Some entry) new is same = tt
+  absent None new is same = (free_name old name (sym is), ap line_of same)
 
 pub returns-clause-ticket : goal.returns-clause-ticket
 returns-clause-ticket g c =
-    rw (← c.self.view_is)
-    (its_ticket c.self.inside.list c.args.slot.0 c.remove_and_free.result c.remove_and_free.ensures.value)
-
-pub returns-clause-asked : goal.returns-clause-asked
-returns-clause-asked g c =
-    rw (← c.self.view_is)
-    (its_asks c.self.inside.list c.args.slot.0 c.remove_and_free.result c.remove_and_free.ensures.value)
-
-pub returns-clause-phase : goal.returns-clause-phase
-returns-clause-phase g c =
-    rw (← c.self.view_is)
-    (its_phase c.self.inside.list c.args.slot.0 c.remove_and_free.result c.remove_and_free.ensures.value)
+    rw (← c.self.view_is) (ticket c.self.inside.list c.args.slot.0 c.remove_and_free.result c.remove_and_free.ensures.value)
 
 pub returns-clause-future : goal.returns-clause-future
 returns-clause-future g c =
-    rw (← c.self.view_is)
-    (its_future c.self.inside.list c.args.slot.0 c.remove_and_free.result c.remove_and_free.ensures.value)
+    rw (← c.self.view_is) (future c.self.inside.list c.args.slot.0 c.remove_and_free.result c.remove_and_free.ensures.value)
 
 pub returns-clause-removed : goal.returns-clause-removed
 returns-clause-removed g c =
     rw (← c.self.view_is)
-    (seen-removed c.self.inside.list c.args.slot.0 c.remove_and_free.new.self c.remove_and_free.ensures.live
+    (removed c.self.inside.list c.args.slot.0 c.remove_and_free.result c.remove_and_free.new.self c.remove_and_free.ensures.live
     c.remove_and_free.ensures.order)
+
+pub returns-clause-absent : goal.returns-clause-absent
+returns-clause-absent g c =
+    rw (← c.self.view_is)
+    (absent c.self.inside.list c.args.slot.0 c.remove_and_free.result c.remove_and_free.new.self c.remove_and_free.ensures.value
+    c.remove_and_free.ensures.absent)

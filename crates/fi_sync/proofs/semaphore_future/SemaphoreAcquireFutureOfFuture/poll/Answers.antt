@@ -9,7 +9,8 @@ pub returns-in-Some-clause-answered : goal.returns-in-Some-clause-answered
 returns-in-Some-clause-answered g c =
     let same : Ready (Ok c.of.result) ≡ c.poll.result = search rules in
     let own : c.self.inside.future ≡ c.args.self.now = search rules in
-    subst (λ future. IsAcquireAnswer (SharedFuture.name future) (SharedFuture.has_ended future) c.poll.new.cx.lacks_waker (Ready (Ok c.of.result))) own
+    subst (λ future. IsAcquireAnswer (SharedFuture.name future)
+    (SharedFuture.has_ended future) c.poll.new.cx.lacks_waker (Ready (Ok c.of.result))) own
     (subst (λ answer. IsAcquireAnswer c.self.inside.future.name c.self.inside.future.has_ended c.poll.new.cx.lacks_waker answer)
     (sym same) c.poll.ensures.answered)
 
@@ -17,7 +18,8 @@ pub returns-in-Ready-Err-clause-answered : goal.returns-in-Ready-Err-clause-answ
 returns-in-Ready-Err-clause-answered g c =
     let same : Ready (Err c.in-Ready-Err.fault) ≡ c.poll.result = search rules in
     let own : c.self.inside.future ≡ c.args.self.now = search rules in
-    subst (λ future. IsAcquireAnswer (SharedFuture.name future) (SharedFuture.has_ended future) c.poll.new.cx.lacks_waker (Ready (Err c.in-Ready-Err.fault))) own
+    subst (λ future. IsAcquireAnswer (SharedFuture.name future)
+    (SharedFuture.has_ended future) c.poll.new.cx.lacks_waker (Ready (Err c.in-Ready-Err.fault))) own
     (subst (λ answer. IsAcquireAnswer c.self.inside.future.name c.self.inside.future.has_ended c.poll.new.cx.lacks_waker answer)
     (sym same) c.poll.ensures.answered)
 

@@ -19,4 +19,4 @@ returns-clause-answered g c =
     streamed_by (PollsSharedStream {T = g.row.T.Denot} {W = Option Waker}) c.args.self.now.name c.args.self.now.has_ended
     c.poll.new.cx.lacks_waker c.poll.result lives
     (subst (λ future. IsAnswer (PollsSharedStream {T = g.row.T.Denot} {W = Option Waker}) (Some (Err Fault.NoMemory))
-        (SharedFuture.name future) (SharedFuture.has_ended future) c.poll.new.cx.lacks_waker c.poll.result) own c.poll.ensures.answered)
+    (SharedFuture.name future) (SharedFuture.has_ended future) c.poll.new.cx.lacks_waker c.poll.result) own c.poll.ensures.answered)

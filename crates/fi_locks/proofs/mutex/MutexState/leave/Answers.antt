@@ -1,11 +1,11 @@
-use Rattle.std.proofs.Common.{◌≡◌, ℕ, true, Option, Some, None, refl, ap, sym, ◌∙◌, subst, rules as lemmas}
+use Rattle.std.proofs.Common.{◌≡◌, ℕ, true, Option, Some, None, is_some, refl, ap, sym, ◌∙◌, subst, rules as lemmas}
 use Rattle.std.proofs.lemmas.Bool.{both_ways}
 use Rattle.std.specs.FinMap as map
 use Rattle.fi_parts.specs.declared.phase.Future.{Future}
 use Rattle.fi_parts.specs.declared.phase.Phase.{Phase}
 use Rattle.fi_parts.specs.declared.phase.Phase.TheVariants.{Fresh, Registered, Told, Complete, Ended}
 use Rattle.fi_parts.specs.Effects.{TakesEffect}
-use Rattle.fi_parts.specs.Machine.{phase_at}
+use Rattle.fi_parts.specs.Machine.{phase_at, displaced_at}
 use Rattle.fi_parts.specs.Pairs.{without_pair}
 use Rattle.fi_parts.specs.Places.{is_told}
 use Rattle.fi_parts.specs.PlaceRules.{queued_rule}
@@ -15,7 +15,7 @@ use Rattle.fi_parts.proofs.Machines.{others_stay}
 use Rattle.fi_parts.proofs.Waiting.{ordered-forgotten, lives_as}
 use Rattle.fi_locks.specs.Mutex.{MutexMachine, mutex_of, tells_oldest, Cancels, CancelsAs, can_be_polled}
 use Rattle.fi_locks.specs.MutexLaws.{rules, stays_well, cancelled}
-use Rattle.fi_locks.proofs.mutex.MutexState.remove_waiter.Goals as goal
+use Rattle.fi_locks.proofs.mutex.MutexState.leave.Goals as goal
 
 -- a told one is taken out of everything, and then the oldest is told
 cancels_told : {T W : Type 0} (old new : MutexMachine T W) (name : ℕ) (mid : Waiting (Unit {0}) W)
@@ -49,38 +49,39 @@ told_cancelled old new name future mid stood told left own tells =
 
 pub tell_oldest-requires : goal.tell_oldest-requires
 tell_oldest-requires g c =
-    rw c.remove_future-future.ensures.removed
+    rw c.in-Some.ensures.removed
     (ordered-forgotten (is_queued c.self.inside.is_fair) (queued_rule c.self.inside.is_fair) c.self.inside.locks.side
     c.self.inside.locks.out c.args.slot.0 c.self.invariant.0.ordered)
 
-pub invariant_of-self : goal.invariant_of-self
-invariant_of-self g c =
+pub invariant_of-self-then-was_told : goal.invariant_of-self-then-was_told
+invariant_of-self-then-was_told g c =
     let old = mutex_of c.self.inside.is_fair c.self.inside.value c.self.inside.locks in
     let new = mutex_of c.self.inside.is_fair c.self.inside.value c.tell_oldest.new.locks in
     let did =
-    told_cancelled old new c.args.slot.0 c.remove_future-future.result.0 c.remove_future-future.new.self
-    c.remove_future-future.ensures.future (sym c.is_told-was_told.ensures ∙ c.if-was_told.true)
-    c.remove_future-future.ensures.removed refl c.tell_oldest.ensures in
+    told_cancelled old new c.args.slot.0 c.in-Some.left.0 c.remove_future.new.self
+    c.in-Some.ensures.future (sym c.is_told-was_told.ensures ∙ c.if-was_told.true)
+    c.in-Some.ensures.removed refl c.tell_oldest.ensures in
     stays_well old new (cancelled old new c.self.invariant c.args.slot.0 did) c.self.invariant
 
-pub returns-then-was_told-clause-cancelled : goal.returns-then-was_told-clause-cancelled
-returns-then-was_told-clause-cancelled g c =
+pub returns-then-was_told-clause-left : goal.returns-then-was_told-clause-left
+returns-then-was_told-clause-left g c =
     let old = mutex_of c.self.inside.is_fair c.self.inside.value c.self.inside.locks in
     let new = mutex_of c.self.inside.is_fair c.self.inside.value c.tell_oldest.new.locks in
     let did =
-    told_cancelled old new c.args.slot.0 c.remove_future-future.result.0 c.remove_future-future.new.self
-    c.remove_future-future.ensures.future (sym c.is_told-was_told.ensures ∙ c.if-was_told.true)
-    c.remove_future-future.ensures.removed refl c.tell_oldest.ensures in
-    rw (← c.self.view_is) did
+    told_cancelled old new c.args.slot.0 c.in-Some.left.0 c.remove_future.new.self
+    c.in-Some.ensures.future (sym c.is_told-was_told.ensures ∙ c.if-was_told.true)
+    c.in-Some.ensures.removed refl c.tell_oldest.ensures in
+    let had : c.last_waker-waker.result ≡ displaced_at old c.args.slot.0 = search lemmas in
+    rw (← c.self.view_is) (rw (ap (λ o. is_some (phase_in o)) c.in-Some.ensures.future) (did, had))
 
 pub returns-then-was_told-clause-others : goal.returns-then-was_told-clause-others
 returns-then-was_told-clause-others g c =
     let old = mutex_of c.self.inside.is_fair c.self.inside.value c.self.inside.locks in
     let new = mutex_of c.self.inside.is_fair c.self.inside.value c.tell_oldest.new.locks in
     let did =
-    told_cancelled old new c.args.slot.0 c.remove_future-future.result.0 c.remove_future-future.new.self
-    c.remove_future-future.ensures.future (sym c.is_told-was_told.ensures ∙ c.if-was_told.true)
-    c.remove_future-future.ensures.removed refl c.tell_oldest.ensures in
+    told_cancelled old new c.args.slot.0 c.in-Some.left.0 c.remove_future.new.self
+    c.in-Some.ensures.future (sym c.is_told-was_told.ensures ∙ c.if-was_told.true)
+    c.in-Some.ensures.removed refl c.tell_oldest.ensures in
     rw (← c.self.view_is)
     (others_stay (rules old.own.is_fair) can_be_polled waits_are_fit old new c.self.invariant.0 c.args.slot.0
     (cancelled old new c.self.invariant c.args.slot.0 did).line)
@@ -88,14 +89,14 @@ returns-then-was_told-clause-others g c =
 pub invariant_of-self-else-was_told : goal.invariant_of-self-else-was_told
 invariant_of-self-else-was_told g c =
     let old = mutex_of c.self.inside.is_fair c.self.inside.value c.self.inside.locks in
-    let new = mutex_of c.self.inside.is_fair c.self.inside.value c.remove_future-future.new.self in
+    let new = mutex_of c.self.inside.is_fair c.self.inside.value c.remove_future.new.self in
     let did : Cancels old c.args.slot.0 new = search lemmas in
     stays_well old new (cancelled old new c.self.invariant c.args.slot.0 did) c.self.invariant
 
 pub returns-else-was_told-clause-others : goal.returns-else-was_told-clause-others
 returns-else-was_told-clause-others g c =
     let old = mutex_of c.self.inside.is_fair c.self.inside.value c.self.inside.locks in
-    let new = mutex_of c.self.inside.is_fair c.self.inside.value c.remove_future-future.new.self in
+    let new = mutex_of c.self.inside.is_fair c.self.inside.value c.remove_future.new.self in
     let did : Cancels old c.args.slot.0 new = search lemmas in
     rw (← c.self.view_is)
     (others_stay (rules old.own.is_fair) can_be_polled waits_are_fit old new c.self.invariant.0 c.args.slot.0

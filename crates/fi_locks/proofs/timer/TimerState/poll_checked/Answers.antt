@@ -9,7 +9,7 @@ use Rattle.fi_parts.proofs.Effects.{waits_are_fit}
 use Rattle.fi_parts.proofs.Machines.{line_preserves, polling_stays, pending_stays}
 use Rattle.fi_locks.specs.Timer.{TimerMachine, Polls, IsSound, OwesNoWake, can_be_polled}
 use Rattle.fi_locks.specs.TimerLaws.{rules, polled}
-use Rattle.fi_locks.proofs.timer.TimerState.try_wait.Goals as goal
+use Rattle.fi_locks.proofs.timer.TimerState.poll_checked.Goals as goal
 
 -- What holds after a poll of this future.
 record AfterPoll {W : Type 0} (old : TimerMachine W) (name : ℕ) (answer : Poll (Unit {0}))

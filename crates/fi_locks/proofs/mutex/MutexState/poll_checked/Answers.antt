@@ -7,7 +7,7 @@ use Rattle.fi_parts.proofs.Effects.{waits_are_fit}
 use Rattle.fi_parts.proofs.Machines.{polling_stays, pending_stays}
 use Rattle.fi_locks.specs.Mutex.{MutexMachine, Polls, IsSound, can_be_polled}
 use Rattle.fi_locks.specs.MutexLaws.{rules, poll_line}
-use Rattle.fi_locks.proofs.mutex.MutexState.try_wait.Goals as goal
+use Rattle.fi_locks.proofs.mutex.MutexState.poll_checked.Goals as goal
 
 -- What holds after a poll of this future.
 record AfterPoll {T W : Type 0} (old : MutexMachine T W) (name : ℕ) (answer : Poll T)
@@ -57,17 +57,17 @@ returns-in-Some-Told-clause-others g c =
     (after_poll c.args.self.now c.args.slot.0 c.args.waker c.poll_told.result.0 c.poll_told.new.self
     (subst (λ m. IsSound m) c.self.view_is c.self.invariant.0) c.poll_told.ensures.polled).others
 
-pub returns-in_default-clause-live : goal.returns-in_default-clause-live
-returns-in_default-clause-live g c =
+pub returns-in-Some-Fresh-clause-live : goal.returns-in-Some-Fresh-clause-live
+returns-in-Some-Fresh-clause-live g c =
     (after_poll c.args.self.now c.args.slot.0 c.args.waker c.poll_fresh.result.0 c.poll_fresh.new.self
     (subst (λ m. IsSound m) c.self.view_is c.self.invariant.0) c.poll_fresh.ensures.polled).live
 
-pub returns-in_default-clause-pending : goal.returns-in_default-clause-pending
-returns-in_default-clause-pending g c =
+pub returns-in-Some-Fresh-clause-pending : goal.returns-in-Some-Fresh-clause-pending
+returns-in-Some-Fresh-clause-pending g c =
     (after_poll c.args.self.now c.args.slot.0 c.args.waker c.poll_fresh.result.0 c.poll_fresh.new.self
     (subst (λ m. IsSound m) c.self.view_is c.self.invariant.0) c.poll_fresh.ensures.polled).pending
 
-pub returns-in_default-clause-others : goal.returns-in_default-clause-others
-returns-in_default-clause-others g c =
+pub returns-in-Some-Fresh-clause-others : goal.returns-in-Some-Fresh-clause-others
+returns-in-Some-Fresh-clause-others g c =
     (after_poll c.args.self.now c.args.slot.0 c.args.waker c.poll_fresh.result.0 c.poll_fresh.new.self
     (subst (λ m. IsSound m) c.self.view_is c.self.invariant.0) c.poll_fresh.ensures.polled).others
