@@ -1,4 +1,5 @@
 pub mod OldestTold
+pub mod MutexPolls
 pub mod MutexSteps
 pub mod SemaphoreMarks
 pub mod SemaphoreSteps

@@ -306,12 +306,13 @@ impl<T: Drop, W: Drop> MutexState<T, W> {
         ensures handed_back { IfErr result (λ back. back ≡ waker) }
         ensures others { OthersStay can_be_polled slot.0 self.old self.new }
     {
-        match self.locks.phase(slot) {
-            Some(Phase::Fresh) => Ok(self.poll_fresh(slot, waker)),
-            Some(Phase::Registered(_)) => Ok(self.poll_registered(slot, waker)),
-            Some(Phase::Told) => Ok(self.poll_told(slot, waker)),
-            None | Some(Phase::Complete | Phase::Ended) => Err(waker),
-        }
+        let polled = match self.locks.phase(slot) {
+            Some(Phase::Fresh) => self.poll_fresh(slot, waker),
+            Some(Phase::Registered(_)) => self.poll_registered(slot, waker),
+            Some(Phase::Told) => self.poll_told(slot, waker),
+            None | Some(Phase::Complete | Phase::Ended) => return Err(waker),
+        };
+        Ok(polled)
     }
 
     /// Cancels the future under this slot as `remove_waiter` does, if one lives there. Else None, and nothing changes: so it asks its

@@ -70,8 +70,9 @@ impl<W> Model for TimerState<W> {
 
     ghost view = { λ s. record { own = s.floor; waiting = s.deadlines } };
 
-    ghost invariant = { λ s. IsSound (record { own = s.floor; waiting = s.deadlines })
-        × OwesNoWake (record { own = s.floor; waiting = s.deadlines }) };
+    ghost invariant = { λ s.
+        let machine : TimerMachine W = record { own = s.floor; waiting = s.deadlines } in
+        IsSound machine × OwesNoWake machine };
 }
 
 impl<W: Drop> TimerState<W> {

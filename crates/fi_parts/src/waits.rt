@@ -115,9 +115,12 @@ impl<D: Drop, W: Drop> Waits<D, W> {
         waker_from(self.outbox.take_out(ticket))
     }
 
-    /// Polls a future with this waker, which is looked up once: a registered one stays pending and keeps its place; a fresh one is
-    /// registered and goes to the queue's end, unless it `ends` with this poll; any other ends. The wakers of no more use come back.
-    /// Where none lives under this slot that has not ended, this waker comes back and nothing has changed.
+    /// Polls a future with this waker: a registered one stays pending and keeps its place; a fresh one is registered and goes to the
+    /// queue's end, unless it `ends` with this poll; any other ends. The wakers of no more use come back. Where none lives under this
+    /// slot that has not ended, this waker comes back and nothing has changed.
+    ///
+    /// One look-up tests the future and changes its phase. Joining the queue takes one more, and so does the ticket of one that joins or
+    /// ends, while somebody is named to be woken.
     pub fn poll_checked(
         &mut self,
         slot: Slot,

@@ -84,10 +84,10 @@ pub trait PollSlot<K>: Cancel<K> {
 /// A future of the kind `K` of a primitive that threads share, which it reaches by a reference or an `Arc`. The poll that ends it
 /// cancels it too, in the same hold of the lock, so that its drop takes no lock; the drop of another cancels it.
 ///
-/// A poll that is ready makes no waker. One that has to wait and can make none is refused with `NoMemory`: the future and its
-/// primitive are then as they were, and it may be polled again. Where it can make none and still has another task's from a poll
-/// before, that one is registered instead, and this task is polled again. A future that has ended, or was cancelled, stays pending
-/// and changes nothing.
+/// A poll that is ready makes no waker, unless the future has another task's from a poll before: that one is exchanged first, which
+/// wakes the other task. A poll that has to wait and can make no waker is refused with `NoMemory`: the future and its primitive are
+/// then as they were, and it may be polled again; if it has another task's, that one is registered instead, and this task is polled
+/// again. A future that has ended, or was cancelled, stays pending, does nothing to its primitive, and keeps the poll's waker.
 pub struct SlotFuture<M: HasMonitor, K>
 where
     M::State: PollSlot<K>,

@@ -102,7 +102,7 @@ impl<C: Clock + Drop, R: Blocking> TimerService<C, R> {
     /// The thread sleeps until the next expiry, and is roused if a future comes to wait for an earlier one.
     /// An event wakes tasks, and no thread that sleeps with a time limit: so this one looks at the event every
     /// 10 milliseconds, and ends so much later at most. If several threads run one timer, only the one that
-    /// began last is roused.
+    /// began last is roused, and none any more once one of them has ended: then an earlier expiry is seen up to 10 milliseconds late.
     ///
     /// Refused with `NoMemory` if there is none for what the thread is roused by; then it did nothing.
     pub fn run(&self, until: &ManualResetEvent<R>) -> Result<(), Fault>

@@ -1,6 +1,6 @@
 use Rattle.std.proofs.Common.{rules as lemmas}
 use Rattle.fi_locks.specs.Mutex.{mutex_of, Polls}
-use Rattle.fi_locks.specs.MutexLaws.{stays_well, polled}
+use Rattle.fi_locks.proofs.MutexPolls.{after_poll}
 use Rattle.fi_locks.proofs.mutex.MutexState.poll_fresh.Goals as goal
 
 -- It was granted the mutex.
@@ -9,8 +9,7 @@ invariant_of-self g c =
     let old = mutex_of c.self.inside.is_fair c.self.inside.value c.self.inside.locks in
     let new = mutex_of c.self.inside.is_fair c.take.new.self c.grant.new.locks in
     let did : Polls old c.args.slot.0 c.args.waker c.grant.result.0 new = search lemmas in
-    stays_well old new
-    (polled old c.args.slot.0 c.args.waker c.grant.result.0 new c.self.invariant did) c.self.invariant
+    (after_poll old c.args.slot.0 c.args.waker c.grant.result.0 new c.self.invariant did).invariant
 
 -- It waits.
 pub invariant_of-self-2 : goal.invariant_of-self-2
@@ -19,5 +18,4 @@ invariant_of-self-2 g c =
     let waits = c.if-not-is_promised.self-inside in
     let new = mutex_of waits.is_fair waits.value c.register.new.locks in
     let did : Polls old c.args.slot.0 c.args.waker c.register.result.0 new = search lemmas in
-    stays_well old new
-    (polled old c.args.slot.0 c.args.waker c.register.result.0 new c.self.invariant did) c.self.invariant
+    (after_poll old c.args.slot.0 c.args.waker c.register.result.0 new c.self.invariant did).invariant

@@ -1,7 +1,7 @@
 use Rattle.std.proofs.Common.{rules as lemmas}
 use Rattle.futures.specs.declared.task.Poll.TheVariants.{Pending}
 use Rattle.fi_locks.specs.Mutex.{mutex_of, Polls}
-use Rattle.fi_locks.specs.MutexLaws.{stays_well, polled}
+use Rattle.fi_locks.proofs.MutexPolls.{after_poll}
 use Rattle.fi_locks.proofs.mutex.MutexState.poll_registered.Goals as goal
 
 -- It was granted the mutex.
@@ -10,8 +10,7 @@ invariant_of-self g c =
     let old = mutex_of c.self.inside.is_fair c.self.inside.value c.self.inside.locks in
     let new = mutex_of c.self.inside.is_fair c.take.new.self c.grant.new.locks in
     let did : Polls old c.args.slot.0 c.args.waker c.grant.result.0 new = search lemmas in
-    stays_well old new
-    (polled old c.args.slot.0 c.args.waker c.grant.result.0 new c.self.invariant did) c.self.invariant
+    (after_poll old c.args.slot.0 c.args.waker c.grant.result.0 new c.self.invariant did).invariant
 
 -- It waits.
 pub invariant_of-self-2 : goal.invariant_of-self-2
@@ -20,5 +19,4 @@ invariant_of-self-2 g c =
     let waits = c.if-not-self.self-inside in
     let new = mutex_of waits.is_fair waits.value c.set_phase-before.new.self in
     let did : Polls old c.args.slot.0 c.args.waker Pending new = search lemmas in
-    stays_well old new
-    (polled old c.args.slot.0 c.args.waker Pending new c.self.invariant did) c.self.invariant
+    (after_poll old c.args.slot.0 c.args.waker Pending new c.self.invariant did).invariant
