@@ -130,25 +130,25 @@ module _ {W : Type 0} where
       let p = some_phase (phase_of old name) did.0 in (
         Ended,
         refl,
-        subst (λ (s : Waiters ReceiveKind W). Becomes old s name (Some Ended)) (sym did.1)
+        subst (λ (s : Waiters ReceiveKind W). Becomes old s name (Some Ended)) (sym did.1.0)
             (becomes-with_phase old name Ended old.queue (lives_as old name p.0 p.1)),
-        ap (λ (s : Waiters ReceiveKind W). asks_of s name) did.1 ∙ asks-with_phase old.live name Ended name,
+        ap (λ (s : Waiters ReceiveKind W). asks_of s name) did.1.0 ∙ asks-with_phase old.live name Ended name,
       )
   given_becomes (Some Single) old new name out after did =
       let p = some_phase (phase_of old name) did.0 in (
         Ended,
         refl,
-        subst (λ (s : Waiters ReceiveKind W). Becomes old s name (Some Ended)) (sym did.1)
+        subst (λ (s : Waiters ReceiveKind W). Becomes old s name (Some Ended)) (sym did.1.0)
             (becomes-with_phase old name Ended old.queue (lives_as old name p.0 p.1)),
-        ap (λ (s : Waiters ReceiveKind W). asks_of s name) did.1 ∙ asks-with_phase old.live name Ended name,
+        ap (λ (s : Waiters ReceiveKind W). asks_of s name) did.1.0 ∙ asks-with_phase old.live name Ended name,
       )
   given_becomes (Some Stream) old new name out after did =
       let p = some_phase (phase_of old name) did.0 in (
         Fresh,
         refl,
-        subst (λ (s : Waiters ReceiveKind W). Becomes old s name (Some Fresh)) (sym did.1)
+        subst (λ (s : Waiters ReceiveKind W). Becomes old s name (Some Fresh)) (sym did.1.0)
             (becomes-with_phase old name Fresh old.queue (lives_as old name p.0 p.1)),
-        ap (λ (s : Waiters ReceiveKind W). asks_of s name) did.1 ∙ asks-with_phase old.live name Fresh name,
+        ap (λ (s : Waiters ReceiveKind W). asks_of s name) did.1.0 ∙ asks-with_phase old.live name Fresh name,
       )
 
   -- a receive of another phase than this is not told
@@ -199,7 +199,7 @@ module _ {T W : Type 0} where
       TakesOn Send same_waiter (completes_first None queue) side out new after → new ≡ complete_first None side queue
   completes [] side new out after is did = did.0
   completes (name ∷ others) side new out after is did =
-      did.3 ∙ ap (λ (names : List ℕ). noticed Complete (exchange side name None) name names) (ap (drop 1) (sym did.1 ∙ is))
+      did.3.0 ∙ ap (λ (names : List ℕ). noticed Complete (exchange side name None) name names) (ap (drop 1) (sym did.1 ∙ is))
 
   rest_of : (queue : List ℕ) (side : Waiters (Option T) W) → side.queue ≡ queue →
       (complete_first None side queue).queue ≡ drop 1 queue
@@ -318,7 +318,7 @@ module _ {T W : Type 0} where
         let side = old.waiting.sends in
         let becomes = becomes-made side name (Some value) in
         goes old.own (OnSends (Inserts name (Some value))) did tt tt was
-        (keeps_at old.own (insert_fresh side name (Some value)) old.waiting.receives did.0 did.1.0.1 did.1.1
+        (keeps_at old.own (insert_fresh side name (Some value)) old.waiting.receives did.0 did.1.0.1.0 did.1.1
         (sends_alone (insert_fresh side name (Some value)) (keeps_of was) (owned-made side name value was.0.owned) (omega arith)
         (not_joined side (insert_fresh side name (Some value)) name (Some Fresh) becomes refl)))
 
@@ -327,7 +327,7 @@ module _ {T W : Type 0} where
         let side = old.waiting.receives in
         let becomes = becomes-made side name kind in
         goes old.own (OnReceives (Inserts name kind)) did refl tt was
-        (keeps_at old.own old.waiting.sends (insert_fresh side name kind) did.0 did.1.1 did.1.0.1
+        (keeps_at old.own old.waiting.sends (insert_fresh side name kind) did.0 did.1.1 did.1.0.1.0
         (receives_alone (insert_fresh side name kind) name (Some Fresh) (keeps_of was) becomes (ap is_told did.1.0.0)
         (not_joined side (insert_fresh side name kind) name (Some Fresh) becomes refl)))
 
@@ -335,7 +335,7 @@ module _ {T W : Type 0} where
     cancels_send name answer did was =
         let side = old.waiting.sends in
         goes old.own (OnSends (Removes name)) did.1 tt tt was
-        (keeps_at old.own (without_future side name) old.waiting.receives did.1.0 did.1.1.0.1 did.1.1.1
+        (keeps_at old.own (without_future side name) old.waiting.receives did.1.0 did.1.1.0.1.0 did.1.1.1
         (sends_alone (without_future side name) (keeps_of was) (owned-forgotten side name was.0.owned) (shorter name side.queue)
         (not_joined side (without_future side name) name None (becomes-forgotten side name) refl)))
 
@@ -460,7 +460,7 @@ module _ {T W : Type 0} where
         let side = old.waiting.receives in
         let becomes = becomes-forgotten side name in
         goes old.own (OnReceives (Removes name)) step refl tt was
-        (keeps_at old.own old.waiting.sends (without_future side name) step.0 step.1.1 step.1.0.1
+        (keeps_at old.own old.waiting.sends (without_future side name) step.0 step.1.1 step.1.0.1.0
         (receives_alone (without_future side name) name None (keeps_of was) becomes (ap is_told is ∙ off)
         (not_joined side (without_future side name) name None becomes refl)))
 
@@ -471,7 +471,7 @@ module _ {T W : Type 0} where
         let side = old.waiting.receives in
         goes old.own (Then (OnReceives (Removes name)) tells_oldest) step (refl, refl) (tt, λ m did2. refl, refl, refl) was
         (keeps_at old.own old.waiting.sends (pop_oldest Told (without_future side name)) step.0 (step.1.2.1 ∙ step.1.1.1)
-        (step.1.2.0.0 ∙ ap (pop_oldest Told) step.1.1.0.1) (record {
+        (step.1.2.0.0 ∙ ap (pop_oldest Told) step.1.1.0.1.0) (record {
           owned = was.0.owned;
           buffer = was.0.buffer;
           told = passed_on side (without_pair name (receives_in old.waiting.out)) name (value_count old)
@@ -548,9 +548,9 @@ module _ {T W : Type 0} where
         let becomes = becomes-with_phase side name (Registered waker) (side.queue ++ name ∷ []) (lives_as side name p.0 p.1) in
         subst Receives (sym did.0) (
           goes old new old.own (OnReceives (Registers name waker)) step refl tt was
-              (keeps_at old new old.own old.waiting.sends (registered side name waker) step.0 step.1.1 step.1.0.1
+              (keeps_at old new old.own old.waiting.sends (registered side name waker) step.0 step.1.1 step.1.0.1.0
               (quiet_keeps (registered side name waker) is was)),
-          lives_received (registered side name waker) (Registered waker) step.1.0.1 becomes.here
+          lives_received (registered side name waker) (Registered waker) step.1.0.1.0 becomes.here
               (asks-with_phase side.live name (Registered waker) name),
         )
     takes_next None false answer is did was =
@@ -560,9 +560,9 @@ module _ {T W : Type 0} where
         let becomes = becomes-with_phase side name Ended side.queue (lives_as side name p.0 p.1) in
         subst Receives (sym did.0) (
           goes old new old.own (OnReceives (Ends name)) step refl tt was
-              (keeps_at old new old.own old.waiting.sends (ended side name) step.0 step.1.1 step.1.0.1 (quiet_keeps
+              (keeps_at old new old.own old.waiting.sends (ended side name) step.0 step.1.1 step.1.0.1.0 (quiet_keeps
               (ended side name) is was)),
-          lives_received (ended side name) Ended step.1.0.1 becomes.here (asks-with_phase side.live name Ended name),
+          lives_received (ended side name) Ended step.1.0.1.0 becomes.here (asks-with_phase side.live name Ended name),
         )
 
     receives_as : (phase : Option (Phase W)) (answer : Poll (Option T)) → receive_phase old name ≡ phase →
@@ -575,11 +575,11 @@ module _ {T W : Type 0} where
         let becomes = becomes-with_phase side name (Registered waker) side.queue (live_if_registered side name step.1.0.0) in
         subst Receives (sym did.0) (
           goes old new old.own (OnReceives (KeepsWaiting name waker)) step refl tt was
-              (keeps_at old new old.own old.waiting.sends (stays side name waker) step.0 step.1.1 step.1.0.1
+              (keeps_at old new old.own old.waiting.sends (stays side name waker) step.0 step.1.1 step.1.0.1.0
               (receives_alone old new (stays side name waker) name (Some (Registered waker)) (keeps_of old new was) becomes
               (registered_untold (receive_phase old name) step.1.0.0)
               (joined_before side (stays side name waker) name (Some (Registered waker)) becomes step.1.0.0))),
-          lives_received (stays side name waker) (Registered waker) step.1.0.1 becomes.here
+          lives_received (stays side name waker) (Registered waker) step.1.0.1.0 becomes.here
               (asks-with_phase side.live name (Registered waker) name),
         )
     receives_as phase answer is did was = absurd did
@@ -596,10 +596,10 @@ module _ {T W : Type 0} where
         let becomes = becomes-with_phase side name Ended side.queue (lives_as side name Ended is) in
         subst Receives (sym did.0) (
           goes old new old.own (OnReceives (Ends name)) step refl tt was
-              (keeps_at old new old.own old.waiting.sends (ended side name) step.0 step.1.1 step.1.0.1
+              (keeps_at old new old.own old.waiting.sends (ended side name) step.0 step.1.1 step.1.0.1.0
               (receives_alone old new (ended side name) name (Some Ended) (keeps_of old new was) becomes (ap is_told is)
               (not_joined side (ended side name) name (Some Ended) becomes refl))),
-          lives_received (ended side name) Ended step.1.0.1 becomes.here (asks-with_phase side.live name Ended name),
+          lives_received (ended side name) Ended step.1.0.1.0 becomes.here (asks-with_phase side.live name Ended name),
         )
     streams_as None answer is did was = absurd did
     streams_as (Some Fresh) answer is did was = receives_as (Some Fresh) answer is did was
@@ -651,7 +651,7 @@ module _ {T W : Type 0} where
         let did2 = step.1.0 in
         let becomes = finished_becomes Fresh fresh in
         let sent : new.waiting.sends ≡ finished_side =
-        did2.3.1 ∙ ap (λ (s : Waiters (Option T) W). exchange s name None) did2.2.1 in
+        did2.3.1.0 ∙ ap (λ (s : Waiters (Option T) W). exchange s name None) did2.2.1.0 in
         subst Sends (sym did.0) (
           goes old new old.own (OnSends (finishes name)) step tt (tt, λ m d. tt, refl) was
               (keeps_at old new old.own finished_side old.waiting.receives step.0 sent step.1.1
@@ -666,7 +666,7 @@ module _ {T W : Type 0} where
         let did2 = step.1.1.0 in
         let becomes = finished_becomes Fresh fresh in
         let sent : new.waiting.sends ≡ finished_side =
-        step.1.2.1 ∙ did2.3.1 ∙ ap (λ (s : Waiters (Option T) W). exchange s name None) did2.2.1 in
+        step.1.2.1 ∙ did2.3.1.0 ∙ ap (λ (s : Waiters (Option T) W). exchange s name None) did2.2.1.0 in
         subst Sends (sym did.0) (
           goes old new own (Then (OnSends (finishes name)) tells_oldest) step (tt, refl)
               ((tt, λ m d. tt, refl), λ m d. refl, refl, refl) was
@@ -684,7 +684,7 @@ module _ {T W : Type 0} where
         let joined = registered side name waker in
         let becomes = becomes-with_phase side name (Registered waker) joined.queue (lives_as side name Fresh fresh) in
         let longer : length (side.queue ++ name ∷ []) ≡ length side.queue + 1 = length-append side.queue (name ∷ []) in
-        let sent : new.waiting.sends ≡ joined = step.1.2.1 ∙ step.1.1.0.1 in
+        let sent : new.waiting.sends ≡ joined = step.1.2.1 ∙ step.1.1.0.1.0 in
         subst Sends (sym did.0) (
           goes old new old.own (Then (OnSends (Registers name waker)) tells_oldest) step (tt, refl) (tt, λ m d. refl, refl, refl) was
               (keeps_at old new old.own joined (pop_oldest Told old.waiting.receives) step.0 sent
@@ -709,11 +709,11 @@ module _ {T W : Type 0} where
         let becomes = becomes-with_phase side name (Registered waker) side.queue (lives_as side name (Registered before) is) in
         subst Sends (sym did.0) (
           goes old new old.own (OnSends (KeepsWaiting name waker)) step tt tt was
-              (keeps_at old new old.own (stays side name waker) old.waiting.receives step.0 step.1.0.1 step.1.1
+              (keeps_at old new old.own (stays side name waker) old.waiting.receives step.0 step.1.0.1.0 step.1.1
               (sends_alone old new (stays side name waker) (keeps_of old new was)
               (owned-with_phase side name (Registered before) (Registered waker) side.queue is refl was.0.owned) (omega arith)
               (joined_before side (stays side name waker) name (Some (Registered waker)) becomes step.1.0.0))),
-          lives_sent (stays side name waker) (Registered waker) step.1.0.1 becomes.here,
+          lives_sent (stays side name waker) (Registered waker) step.1.0.1.0 becomes.here,
         )
     sends_as (Some Complete) answer is did was =
         let step = did.1 in
@@ -721,11 +721,11 @@ module _ {T W : Type 0} where
         let becomes = becomes-with_phase side name Ended side.queue (lives_as side name Complete is) in
         subst Sends (sym did.0) (
           goes old new old.own (OnSends (Ends name)) step tt tt was
-              (keeps_at old new old.own (ended side name) old.waiting.receives step.0 step.1.0.1 step.1.1
+              (keeps_at old new old.own (ended side name) old.waiting.receives step.0 step.1.0.1.0 step.1.1
               (sends_alone old new (ended side name) (keeps_of old new was)
               (owned-with_phase side name Complete Ended side.queue is refl was.0.owned) (omega arith)
               (not_joined side (ended side name) name (Some Ended) becomes refl))),
-          lives_sent (ended side name) Ended step.1.0.1 becomes.here,
+          lives_sent (ended side name) Ended step.1.0.1.0 becomes.here,
         )
     sends_as phase answer is did was = absurd did
 
@@ -763,15 +763,15 @@ module _ {T W : Type 0} where
   -- a send, or a receive, that was just made may be polled
   pub send_pollable : (old new : ChannelMachine T W) (value : T) (name : ℕ) → MakesSend old value name new →
       can_send (send_phase new name) ≡ true
-  send_pollable old new value name did = ap (λ (s : Waiters (Option T) W). can_send (phase_of s name)) did.1.0.1
+  send_pollable old new value name did = ap (λ (s : Waiters (Option T) W). can_send (phase_of s name)) did.1.0.1.0
       ∙ ap can_send (becomes-made old.waiting.sends name (Some value)).here
 
   pub kind_made : (old new : ChannelMachine T W) (kind : ReceiveKind) (name : ℕ) → MakesReceive old kind name new →
       kind_of new name ≡ Some kind
-  kind_made old new kind name did = ap (λ (s : Waiters ReceiveKind W). asks_of s name) did.1.0.1
+  kind_made old new kind name did = ap (λ (s : Waiters ReceiveKind W). asks_of s name) did.1.0.1.0
       ∙ ap asks_in (get-insert_same old.waiting.receives.live name _)
 
   pub phase_made : (old new : ChannelMachine T W) (kind : ReceiveKind) (name : ℕ) → MakesReceive old kind name new →
       receive_phase new name ≡ Some Fresh
-  phase_made old new kind name did = ap (λ (s : Waiters ReceiveKind W). phase_of s name) did.1.0.1
+  phase_made old new kind name did = ap (λ (s : Waiters ReceiveKind W). phase_of s name) did.1.0.1.0
       ∙ (becomes-made old.waiting.receives name kind).here

@@ -178,8 +178,7 @@ module _ {T W : Type 0} (buffer : Bounded T) (waiters : ChannelWaiters T W) (is_
           (
             (
               lives_as waiters.receives name Told was,
-              ap (λ (v : ChannelWaiters T W). v.receives) is,
-              ap (λ (v : ChannelWaiters T W). v.out) is,
+              (ap (λ (v : ChannelWaiters T W). v.receives) is, ap (λ (v : ChannelWaiters T W). v.out) is),
             ),
             ap (λ (v : ChannelWaiters T W). v.sends) is,
           ),
@@ -198,9 +197,9 @@ module _ {T W : Type 0} (buffer : Bounded T) (waiters : ChannelWaiters T W) (is_
   given_by : (kind : Option ReceiveKind) → may_be_named (phase_of waiters.receives name) ≡ true →
       TakesOn Receive same_waiter (is_given kind name) waiters.receives waiters.out
       (record waiters.receives { live = with_phase waiters.receives.live name (phase_given kind) }) no_receive_pair.out
-  given_by None may = (may, refl, refl)
-  given_by (Some Single) may = (may, refl, refl)
-  given_by (Some Stream) may = (may, refl, refl)
+  given_by None may = (may, (refl, refl))
+  given_by (Some Single) may = (may, (refl, refl))
+  given_by (Some Stream) may = (may, (refl, refl))
 
   takes_given : (waker : W) → IsSound Old → may_be_named (phase_of waiters.receives name) ≡ true →
       (next : Option (T × Bounded T)) (value : T) (left : Bounded T) (taken new : ChannelWaiters T W) →
@@ -276,11 +275,13 @@ module _ {T W : Type 0} (buffer : Bounded T) (waiters : ChannelWaiters T W) (is_
           (
             (
               ap may_be_named was,
-              ap (λ (v : ChannelWaiters T W). v.receives) is
-                  ∙ ap (λ (live : map.FinMap nat_cmp (Future ReceiveKind W)). let after : Waiters ReceiveKind W =
-                  record waiters.receives { live = live } in after)
-                  (sym (with_phase-same waiters.receives.live name Ended was)),
-              ap (λ (v : ChannelWaiters T W). v.out) is,
+              (
+                ap (λ (v : ChannelWaiters T W). v.receives) is
+                    ∙ ap (λ (live : map.FinMap nat_cmp (Future ReceiveKind W)). let after : Waiters ReceiveKind W =
+                    record waiters.receives { live = live } in after)
+                    (sym (with_phase-same waiters.receives.live name Ended was)),
+                ap (λ (v : ChannelWaiters T W). v.out) is,
+              ),
             ),
             ap (λ (v : ChannelWaiters T W). v.sends) is,
           ),
@@ -322,11 +323,10 @@ module _ {T W : Type 0} (buffer : Bounded T) (waiters : ChannelWaiters T W) (is_
         (
           ended waiters.sends name,
           no_send_pair.out,
-          (ap may_be_named fresh, refl, refl),
+          (ap may_be_named fresh, (refl, refl)),
           (
             lives_as (ended waiters.sends name) name Ended becomes.here,
-            ap (λ (v : ChannelWaiters T W). v.sends) is,
-            ap (λ (v : ChannelWaiters T W). v.out) is,
+            (ap (λ (v : ChannelWaiters T W). v.sends) is, ap (λ (v : ChannelWaiters T W). v.out) is),
           ),
         ),
         ap (λ (v : ChannelWaiters T W). v.receives) is,
@@ -437,7 +437,7 @@ module _ {T W : Type 0} (buffer : Bounded T) (waiters : ChannelWaiters T W) (is_
           (
             mid,
             (
-              (ap may_be_named fresh, ap (λ (v : ChannelWaiters T W). v.sends) is, ap (λ (v : ChannelWaiters T W). v.out) is),
+              (ap may_be_named fresh, (ap (λ (v : ChannelWaiters T W). v.sends) is, ap (λ (v : ChannelWaiters T W). v.out) is)),
               ap (λ (v : ChannelWaiters T W). v.receives) is,
             ),
             tells mid new now,

@@ -5,23 +5,20 @@ use Rattle.std.proofs.lemmas.List.{append-nil}
 use Rattle.fi_parts.specs.declared.phase.Phase.{Phase}
 use Rattle.fi_channels.specs.declared.two_sides.Waiter.{Waiter}
 use Rattle.fi_channels.specs.declared.two_sides.Waiter.TheVariants.{Send, Receive}
-use Rattle.fi_parts.specs.Effects.{WaiterEffect, TakesEffect, oldest_notified, completes_first}
-use Rattle.fi_parts.specs.Effects.WaiterEffect.{NoChange, Inserts, Registers, RegistersApart, KeepsWaiting, Ends, EndsPlaced, Renews, Asks}
-use Rattle.fi_parts.specs.Effects.WaiterEffect.{Removes, NotifiesOldest, NotifiesAll, NotifiesListed, NotifiesFront, CompletesOldest}
-use Rattle.fi_parts.specs.Effects.WaiterEffect.{PopsOldest, AndThen}
+use Rattle.fi_parts.specs.Effects.{WaiterEffect, PairsChange, LeadsTo, TakesEffect, pairs_after, completes_first}
+use Rattle.fi_parts.specs.Effects.PairsChange.{Keep, TakeOut, Append}
+use Rattle.fi_parts.specs.Effects.WaiterEffect.{NoChange, NotifiesOldest, NotifiesAll, NotifiesFront, CompletesOldest, PopsOldest, AndThen}
 use Rattle.fi_parts.specs.Machine.{AllowsBasics}
-use Rattle.fi_parts.specs.NamedPairs.{without_by, first_waker}
-use Rattle.fi_parts.specs.Noticed.{phase_after}
-use Rattle.fi_parts.specs.Oldest.{pop_first, pair_of_first, pair_of_oldest, complete_first, complete_oldest}
-use Rattle.fi_parts.specs.Pairs.{without_pair}
+use Rattle.fi_parts.specs.NamedPairs.{first_waker}
+use Rattle.fi_parts.specs.Oldest.{pair_of_first, pair_of_oldest, complete_first, complete_oldest}
 use Rattle.fi_parts.specs.PlaceRules.{registered_rule}
-use Rattle.fi_channels.specs.TwoSidedEffects.{marked, TakesOn, TwoSidedEffect, waiting_sends, waiting_receives}
+use Rattle.fi_channels.specs.TwoSidedEffects.{marked, pairs_on, TakesOn, TwoSidedEffect, waiting_sends, waiting_receives}
 use Rattle.fi_channels.specs.TwoSidedEffects.{TakesTwoSided}
 use Rattle.fi_channels.specs.TwoSidedTable.{on_sends, on_receives, AllowsTwoSided}
 use Rattle.fi_channels.specs.TwoSidedEffects.TwoSidedEffect.{OnSends, OnReceives, PopsFirst, Then}
 use Rattle.fi_channels.specs.TwoSidesModel.{TwoSidesModel, AreBothSound}
 use Rattle.fi_channels.specs.Waiter.{same_waiter, sends_in, receives_in}
-use Rattle.fi_parts.specs.Waiting.{Waiters, Waiting, pair, named, named_all, AreSound}
+use Rattle.fi_parts.specs.Waiting.{Waiters, Waiting, AreSound}
 use Rattle.fi_parts.specs.WakerHistory.{WakerChange, HasWaker, gives}
 use Rattle.fi_parts.specs.WakerHistory.WakerChange.{NoEffect}
 use Rattle.fi_channels.proofs.BothSound.{both_sound-next_wake}
@@ -31,63 +28,65 @@ use Rattle.fi_channels.proofs.Sides.{sends-and_sends, sends-and_receives, receiv
 use Rattle.fi_parts.proofs.Waiting.{first_registered, live_if_registered}
 use Rattle.fi_parts.proofs.WakerHistories.{CarriesOn, carries, and_then, handed_carries}
 
--- The pairs of one side in an outbox: what taking out a pair of it, and naming, are to them.
-pub record IsView {W N : Type 0} (mark : ℕ → N) (same : N → N → Bool) (view : List (N × W) → List (ℕ × W)) : Type 0 where
-  pub without : (name : ℕ) (out : List (N × W)) → view (without_by same (mark name) out) ≡ without_pair name (view out)
-  pub append : (out : List (N × W)) (pairs : List (ℕ × W)) → view (out ++ marked mark pairs) ≡ view out ++ pairs
-
--- To the pairs of another side they are nothing.
-pub record IsOtherView {W N : Type 0} (mark : ℕ → N) (same : N → N → Bool) (view : List (N × W) → List (ℕ × W)) : Type 0 where
-  pub without : (name : ℕ) (out : List (N × W)) → view (without_by same (mark name) out) ≡ view out
-  pub append : (out : List (N × W)) (pairs : List (ℕ × W)) → view (out ++ marked mark pairs) ≡ view out
-
 module _ {D W : Type 0} where
   same_waiting : (new old : Waiters D W) (after out : List (ℕ × W)) → new ≡ old → after ≡ out →
       ◌≡◌ {A = Waiting D W} (record { side = new; out = after }) (record { side = old; out = out })
   same_waiting new old after out sides pairs = λ i. record { side = sides i; out = pairs i }
 
-  popped_first : (phase : Phase W) (side : Waiters D W) (out : List (ℕ × W)) (names : List ℕ) →
-      ◌≡◌ {A = Waiting D W} (record { side = pop_first phase side names; out = out ++ pair_of_first side names })
-      (oldest_notified phase names (record { side = side; out = out }))
-  popped_first phase side out [] = λ i. record { side = side; out = append-nil out i }
-  popped_first phase side out (name ∷ others) = refl
+  -- What an effect leads to has what follows from it.
+  leads : (P Q : Waiters D W → PairsChange W → Type 0) → ((new : Waiters D W) (change : PairsChange W) → P new change → Q new change) →
+      (effect : WaiterEffect D W) (side : Waiters D W) → LeadsTo effect side P → LeadsTo effect side Q
+  leads P Q follows NoChange side did = follows _ _ did
+  leads P Q follows (NotifiesOldest notice) side did = follows _ _ did
+  leads P Q follows (NotifiesAll notice) side did = follows _ _ did
+  leads P Q follows (NotifiesFront keeps front) side did = (did.0, did.1, follows _ _ did.2)
+  leads P Q follows (CompletesOldest name asks) side did = (did.0, did.1, did.2, follows _ _ did.3)
+  leads P Q follows (PopsOldest waker) side did = absurd did
+  leads P Q follows (AndThen one other) side did = absurd did
+  leads P Q follows effect side did = (did.0, follows _ _ did.1)
 
-module _ {D W N : Type 0} (mark : ℕ → N) (same : N → N → Bool) (view : List (N × W) → List (ℕ × W)) (is : IsView mark same view) where
+  -- It leads to one side, and to one change of the pairs.
+  led_to : (P : Waiters D W → PairsChange W → Type 0) (effect : WaiterEffect D W) (side : Waiters D W) → LeadsTo effect side P →
+      (new : Waiters D W) × (change : PairsChange W) × P new change
+  led_to P NoChange side did = (_, _, did)
+  led_to P (NotifiesOldest notice) side did = (_, _, did)
+  led_to P (NotifiesAll notice) side did = (_, _, did)
+  led_to P (NotifiesFront keeps front) side did = (_, _, did.2)
+  led_to P (CompletesOldest name asks) side did = (_, _, did.3)
+  led_to P (PopsOldest waker) side did = absurd did
+  led_to P (AndThen one other) side did = absurd did
+  led_to P effect side did = (_, _, did.1)
+
+module _ {D W N : Type 0} (mark : ℕ → N) (same : N → N → Bool) (view : List (N × W) → List (ℕ × W)) where
   abbrev seen : Waiters D W → List (N × W) → Waiting D W
   seen side out = record { side = side; out = view out }
 
-  taken_out : (name : ℕ) (old new : Waiters D W) (out after : List (N × W)) → new ≡ old → after ≡ without_by same (mark name) out →
-      seen new after ≡ record { side = old; out = without_pair name (view out) }
-  taken_out name old new out after sides pairs = same_waiting new old _ _ sides (ap view pairs ∙ is.without name out)
+  -- this side and these pairs are what an effect on this outbox led to
+  abbrev AreNow : Waiters D W → List (N × W) → List (N × W) → Waiters D W → PairsChange W → Type 0
+  AreNow new after out side change = (new ≡ side) × (after ≡ pairs_on mark same change out)
 
-  named_then : (old new : Waiters D W) (out after : List (N × W)) (pairs : List (ℕ × W)) → new ≡ old → after ≡ out ++ marked mark pairs →
-      seen new after ≡ record { side = old; out = view out ++ pairs }
-  named_then old new out after pairs sides appended = same_waiting new old _ _ sides (ap view appended ∙ is.append out pairs)
-
-  -- An effect on a side is that effect on its own pairs.
-  pub effect_seen : (effect : WaiterEffect D W) (old : Waiters D W) (out : List (N × W)) (new : Waiters D W) (after : List (N × W)) →
+  -- Where the changes of a side change its own pairs alike, an effect on the side is that effect on its own pairs.
+  pub effect_seen : ((change : PairsChange W) (out : List (N × W)) → view (pairs_on mark same change out) ≡ pairs_after change (view out)) →
+      (effect : WaiterEffect D W) (old : Waiters D W) (out : List (N × W)) (new : Waiters D W) (after : List (N × W)) →
       TakesOn mark same effect old out new after → TakesEffect effect (seen old out) (seen new after)
-  effect_seen NoChange old out new after did = same_waiting new old _ _ did.0 (ap view did.1)
-  effect_seen (Inserts name asks) old out new after did = (did.0, same_waiting new _ _ _ did.1 (ap view did.2))
-  effect_seen (Registers name waker) old out new after did = (did.0, taken_out name _ new out after did.1 did.2)
-  effect_seen (RegistersApart name waker) old out new after did = (did.0, taken_out name _ new out after did.1 did.2)
-  effect_seen (KeepsWaiting name waker) old out new after did = (did.0, taken_out name _ new out after did.1 did.2)
-  effect_seen (Ends name) old out new after did = (did.0, taken_out name _ new out after did.1 did.2)
-  effect_seen (EndsPlaced name) old out new after did = (did.0, taken_out name _ new out after did.1 did.2)
-  effect_seen (Renews name) old out new after did = (did.0, taken_out name _ new out after did.1 did.2)
-  effect_seen (Asks name asks) old out new after did = (did.0, same_waiting new _ _ _ did.1 (ap view did.2))
-  effect_seen (Removes name) old out new after did = (did.0, taken_out name _ new out after did.1 did.2)
-  effect_seen (NotifiesOldest notice) old out new after did =
-      named_then _ new out after (pair_of_oldest old) did.0 did.1 ∙ popped_first (phase_after notice) old (view out) old.queue
-  effect_seen (NotifiesAll notice) old out new after did = named_then _ new out after (named_all old) did.0 did.1
-  effect_seen (NotifiesListed notice names) old out new after did = (did.0, named_then _ new out after (named old.live names) did.1 did.2)
-  effect_seen (NotifiesFront keeps front) old out new after did =
-      (did.0, did.1, named_then _ new out after (named old.live front) did.2 did.3)
-  effect_seen (CompletesOldest name asks) old out new after did =
-      (did.0, did.1, did.2, named_then _ new out after (pair old name) did.3 did.4)
-  effect_seen (PopsOldest waker) old out new after did = absurd did
-  effect_seen (AndThen one other) old out new after did =
-      (seen did.0 did.1, effect_seen one old out did.0 did.1 did.2, effect_seen other did.0 did.1 new after did.3)
+  effect_seen changes (PopsOldest waker) old out new after did = absurd did
+  effect_seen changes (AndThen one other) old out new after did = (
+    seen did.0 did.1,
+    effect_seen changes one old out did.0 did.1 did.2,
+    effect_seen changes other did.0 did.1 new after did.3,
+  )
+  effect_seen changes effect old out new after did =
+      leads (AreNow new after out) (λ side change. seen new after ≡ record { side = side; out = pairs_after change (view out) })
+      (λ side change now. same_waiting new side _ _ now.0 (ap view now.1 ∙ changes change out)) effect old did
+
+  -- Where they change no pairs of the other side, it leaves these.
+  pub effect_unseen : ((change : PairsChange W) (out : List (N × W)) → view (pairs_on mark same change out) ≡ view out) →
+      (effect : WaiterEffect D W) (old : Waiters D W) (out : List (N × W)) (new : Waiters D W) (after : List (N × W)) →
+      TakesOn mark same effect old out new after → view after ≡ view out
+  effect_unseen keeps (AndThen one other) old out new after did =
+      effect_unseen keeps other did.0 did.1 new after did.3 ∙ effect_unseen keeps one old out did.0 did.1 did.2
+  effect_unseen keeps effect old out new after did =
+      let now = led_to (AreNow new after out) effect old did in ap view now.2.1 ∙ keeps now.1 out
 
 module _ {D W N : Type 0} (mark : ℕ → N) (same : N → N → Bool) where
   -- what the store's words for the completing of the oldest are
@@ -100,43 +99,32 @@ module _ {D W N : Type 0} (mark : ℕ → N) (same : N → N → Bool) where
           (out ++ marked mark (pair_of_first old names))
       each [] queue = (refl, append-nil out)
       each (name ∷ others) queue =
-          (others, queue, live_if_registered old name (first_registered old pairs name others was.ordered queue), refl, refl)
-
-module _ {D W N : Type 0} (mark : ℕ → N) (same : N → N → Bool) (view : List (N × W) → List (ℕ × W)) (is : IsOtherView mark same view) where
-  -- It leaves the pairs of the other side.
-  pub effect_unseen : (effect : WaiterEffect D W) (old : Waiters D W) (out : List (N × W)) (new : Waiters D W) (after : List (N × W)) →
-      TakesOn mark same effect old out new after → view after ≡ view out
-  effect_unseen NoChange old out new after did = ap view did.1
-  effect_unseen (Inserts name asks) old out new after did = ap view did.2
-  effect_unseen (Registers name waker) old out new after did = ap view did.2 ∙ is.without name out
-  effect_unseen (RegistersApart name waker) old out new after did = ap view did.2 ∙ is.without name out
-  effect_unseen (KeepsWaiting name waker) old out new after did = ap view did.2 ∙ is.without name out
-  effect_unseen (Ends name) old out new after did = ap view did.2 ∙ is.without name out
-  effect_unseen (EndsPlaced name) old out new after did = ap view did.2 ∙ is.without name out
-  effect_unseen (Renews name) old out new after did = ap view did.2 ∙ is.without name out
-  effect_unseen (Asks name asks) old out new after did = ap view did.2
-  effect_unseen (Removes name) old out new after did = ap view did.2 ∙ is.without name out
-  effect_unseen (NotifiesOldest notice) old out new after did = ap view did.1 ∙ is.append out (pair_of_oldest old)
-  effect_unseen (NotifiesAll notice) old out new after did = ap view did.1 ∙ is.append out (named_all old)
-  effect_unseen (NotifiesListed notice names) old out new after did = ap view did.2 ∙ is.append out (named old.live names)
-  effect_unseen (NotifiesFront keeps front) old out new after did = ap view did.3 ∙ is.append out (named old.live front)
-  effect_unseen (CompletesOldest name asks) old out new after did = ap view did.4 ∙ is.append out (pair old name)
-  effect_unseen (PopsOldest waker) old out new after did = absurd did
-  effect_unseen (AndThen one other) old out new after did =
-      effect_unseen other did.0 did.1 new after did.3 ∙ effect_unseen one old out did.0 did.1 did.2
+          (others, queue, live_if_registered old name (first_registered old pairs name others was.ordered queue), (refl, refl))
 
 module _ {W : Type 0} where
-  sends_seen : IsView {W = W} Send same_waiter sends_in
-  sends_seen = record { without = sends-without; append = sends-and_sends }
+  sends_seen : (change : PairsChange W) (out : List (Waiter × W)) →
+      sends_in (pairs_on Send same_waiter change out) ≡ pairs_after change (sends_in out)
+  sends_seen Keep out = refl
+  sends_seen (TakeOut name) out = sends-without name out
+  sends_seen (Append pairs) out = sends-and_sends out pairs
 
-  receives_seen : IsView {W = W} Receive same_waiter receives_in
-  receives_seen = record { without = receives-without; append = receives-and_receives }
+  receives_seen : (change : PairsChange W) (out : List (Waiter × W)) →
+      receives_in (pairs_on Receive same_waiter change out) ≡ pairs_after change (receives_in out)
+  receives_seen Keep out = refl
+  receives_seen (TakeOut name) out = receives-without name out
+  receives_seen (Append pairs) out = receives-and_receives out pairs
 
-  sends_unseen : IsOtherView {W = W} Receive same_waiter sends_in
-  sends_unseen = record { without = sends-without_receive; append = sends-and_receives }
+  sends_unseen : (change : PairsChange W) (out : List (Waiter × W)) →
+      sends_in (pairs_on Receive same_waiter change out) ≡ sends_in out
+  sends_unseen Keep out = refl
+  sends_unseen (TakeOut name) out = sends-without_receive name out
+  sends_unseen (Append pairs) out = sends-and_receives out pairs
 
-  receives_unseen : IsOtherView {W = W} Send same_waiter receives_in
-  receives_unseen = record { without = receives-without_send; append = receives-and_sends }
+  receives_unseen : (change : PairsChange W) (out : List (Waiter × W)) →
+      receives_in (pairs_on Send same_waiter change out) ≡ receives_in out
+  receives_unseen Keep out = refl
+  receives_unseen (TakeOut name) out = receives-without_send name out
+  receives_unseen (Append pairs) out = receives-and_sends out pairs
 
 module _ {D E W : Type 0} where
   -- An effect on the sends is that effect on the sends with their pairs, and the receives with theirs stay; and the reverse.

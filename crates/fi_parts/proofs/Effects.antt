@@ -11,18 +11,19 @@ use Rattle.fi_parts.specs.declared.phase.Phase.TheVariants.{Fresh, Registered, T
 use Rattle.fi_parts.specs.declared.phase.Notice.{Notice}
 use Rattle.fi_parts.specs.declared.phase.Notice.TheVariants.{Tell, Renew}
 use Rattle.fi_parts.specs.Noticed.{phase_after}
+use Rattle.fi_parts.specs.Oldest.{pop_first, pair_of_first}
 use Rattle.fi_parts.specs.Order.{holds}
 use Rattle.fi_parts.specs.PlaceRules.{IsPlaceRule, IsUntold}
 use Rattle.fi_parts.specs.Places.{is_told}
 use Rattle.fi_parts.specs.Waiting.{Waiters, Waiting, phase_of, is_registered, may_be_named, exchange, noticed, pair, pair_of, IsOrderedBy}
-use Rattle.fi_parts.specs.Waiting.{AreSoundBy}
+use Rattle.fi_parts.specs.Waiting.{AreSoundBy, named, with_phases}
 use Rattle.fi_parts.proofs.Waiting.{Becomes, becomes-made, becomes-with_phase, becomes-forgotten, noticed_phase, lives_as, notices}
 use Rattle.fi_parts.proofs.Waiting.{live_if_registered}
 use Rattle.fi_parts.proofs.Notified.{AllBecome, MayNotify, may_notify-front, may_notify-listed, may_notify-none}
-use Rattle.fi_parts.proofs.Notified.{notified-none, notified-one, phases-notified}
+use Rattle.fi_parts.proofs.Notified.{notified-one, phases-notified}
 use Rattle.fi_parts.proofs.Sound.{sound_by-made, sound_by-ended, sound_by-registered, sound_by-registered_apart, sound_by-stays}
 use Rattle.fi_parts.proofs.Sound.{sound_by-set_phase, sound_by-forgotten, sound_by-drop, sound_by-without_place, sound_by-notified}
-use Rattle.fi_parts.specs.Effects.{WaiterEffect, TakesEffect, first_of, oldest_notified, notified}
+use Rattle.fi_parts.specs.Effects.{WaiterEffect, TakesEffect, first_of, notified}
 use Rattle.fi_parts.specs.Effects.WaiterEffect.{NoChange, Inserts, Registers, RegistersApart, KeepsWaiting, Ends, EndsPlaced, Renews}
 use Rattle.fi_parts.specs.Effects.WaiterEffect.{NotifiesOldest, NotifiesAll, NotifiesListed, NotifiesFront, PopsOldest, AndThen}
 use Rattle.fi_parts.specs.Effects.WaiterEffect.{Asks, Removes, CompletesOldest}
@@ -166,13 +167,15 @@ module _ {D W : Type 0} {place : Option (Phase W) → Bool} (rule : IsPlaceRule 
 
   oldest_by : (phase : Phase W) (names : List ℕ) (old new : Waiting D W) → known (Some phase) ≡ true → may_be_named (Some phase) ≡ true →
       place (Some phase) ≡ false → IsOrderedBy place old.side old.out → old.side.queue ≡ names →
-      new ≡ oldest_notified phase names old → AreNotified place known phase (first_of names) old new
+      new ≡ record { side = pop_first phase old.side names; out = old.out ++ pair_of_first old.side names } →
+      AreNotified place known phase (first_of names) old new
+  unfolding named with_phases
   oldest_by phase [] old new is may off was queue did = record {
     queue = old.side.queue;
     is_known = is;
     may_be = may;
     may = may_notify-none place rule phase old was;
-    is = did ∙ sym (notified-none phase old);
+    is = did;
   }
   oldest_by phase (n ∷ others) old new is may off was queue did =
       leaving phase (n ∷ []) others old new is may off was queue (did ∙ notified-one phase n others old)

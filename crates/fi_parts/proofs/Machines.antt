@@ -11,6 +11,7 @@ use Rattle.fi_parts.specs.declared.phase.Phase.{Phase}
 use Rattle.fi_parts.specs.declared.phase.Phase.TheVariants.{Fresh, Registered, Told, Complete, Ended}
 use Rattle.fi_parts.specs.declared.phase.Notice.{Notice}
 use Rattle.fi_parts.specs.Noticed.{phase_after}
+use Rattle.fi_parts.specs.Oldest.{pop_first}
 use Rattle.fi_parts.specs.Order.{holds}
 use Rattle.fi_parts.specs.Waiting.{Waiters, Waiting, phase_of, phase_in, asks_of}
 use Rattle.fi_parts.specs.Waiting.{asks_in, is_registered, no_futures, insert_fresh, without_future}
@@ -23,7 +24,7 @@ use Rattle.fi_parts.specs.WakerHistory.{WakerChange, gives}
 use Rattle.fi_parts.specs.WakerHistory.WakerChange.{Leaves, NoEffect}
 use Rattle.fi_parts.proofs.PairsWithin.{if_true, if_false}
 use Rattle.fi_parts.proofs.Results.{either, of_made}
-use Rattle.fi_parts.specs.Effects.{WaiterEffect, TakesEffect, oldest_notified}
+use Rattle.fi_parts.specs.Effects.{WaiterEffect, TakesEffect}
 use Rattle.fi_parts.specs.MachineTable.{keeps_asks}
 use Rattle.fi_parts.specs.Effects.WaiterEffect.{NoChange, Inserts, Registers, RegistersApart, KeepsWaiting, Ends, EndsPlaced, Renews}
 use Rattle.fi_parts.specs.Effects.WaiterEffect.{NotifiesOldest, NotifiesAll, NotifiesListed, NotifiesFront, PopsOldest, AndThen}
@@ -45,10 +46,10 @@ module _ {D W : Type 0} where
   asks_forgotten : (side : Waiters D W) (name : ℕ) (q : ℕ) → q ≢ name → asks_of (without_future side name) q ≡ asks_of side q
   asks_forgotten side name q ne = ap asks_in (get-remove_other side.live name q ne)
 
-  oldest_asks : (phase : Phase W) (names : List ℕ) (w : Waiting D W) (q : ℕ) →
-      asks_of (oldest_notified phase names w).side q ≡ asks_of w.side q
-  oldest_asks phase [] w q = refl
-  oldest_asks phase (n ∷ others) w q = asks-with_phase w.side.live n phase q
+  oldest_asks : (phase : Phase W) (names : List ℕ) (side : Waiters D W) (q : ℕ) →
+      asks_of (pop_first phase side names) q ≡ asks_of side q
+  oldest_asks phase [] side q = refl
+  oldest_asks phase (n ∷ others) side q = asks-with_phase side.live n phase q
 
   asks_asking : (name : ℕ) (asks : D) (side : Waiters D W) (q : ℕ) → IsLive side name →
       asks_of (exchange side name asks) q ≡ (if name == q then Some asks else asks_of side q)
@@ -100,7 +101,7 @@ module _ {D W : Type 0} where
     | inr ne ↦ asks_to new _ q did.1 ∙ asks_forgotten old.side name q (λ e. ne (sym e))
         ∙ sym (if_false (name == q) None (asks_of old.side q) (ne_eqb name q ne))
   ]
-  asks_after (NotifiesOldest notice) old new did q = asks_to new _ q did ∙ oldest_asks (phase_after notice) old.side.queue old q
+  asks_after (NotifiesOldest notice) old new did q = asks_to new _ q did ∙ oldest_asks (phase_after notice) old.side.queue old.side q
   asks_after (NotifiesAll notice) old new did q = asks_to new _ q did ∙ asks-with_phases (phase_after notice) old.side.queue old.side.live q
   asks_after (NotifiesListed notice names) old new did q =
       asks_to new _ q did.1 ∙ asks-with_phases (phase_after notice) names old.side.live q

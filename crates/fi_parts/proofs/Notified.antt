@@ -9,12 +9,12 @@ use Rattle.std.specs.FinMap as map
 use Rattle.fi_parts.specs.declared.phase.Phase.{Phase}
 use Rattle.fi_parts.specs.declared.phase.Phase.TheVariants.{Fresh, Registered, Told, Complete, Ended}
 use Rattle.fi_parts.specs.declared.phase.Future.{Future}
-use Rattle.fi_parts.specs.Effects.{oldest_notified, notified, AreRegistered}
+use Rattle.fi_parts.specs.Effects.{notified, AreRegistered}
 use Rattle.fi_parts.specs.Order.{holds, Apart}
 use Rattle.fi_parts.specs.Pairs.{has, PairsApart}
 use Rattle.fi_parts.specs.PlaceRules.{IsPlaceRule}
 use Rattle.fi_parts.specs.Waiting.{Waiters, Waiting, phase_in, phase_of, is_registered, may_be_named, with_phase, pair_of, pair, IsLive}
-use Rattle.fi_parts.specs.Waiting.{IsOrderedBy, named, with_phases}
+use Rattle.fi_parts.specs.Waiting.{IsOrderedBy, noticed, named, with_phases}
 use Rattle.fi_parts.proofs.Slots.{eqb_same, holds-append, Apart-front, Apart-back, Apart-disjoint}
 use Rattle.fi_parts.proofs.Waiting.{placed, live_if_placed, live_if_registered, no_pair, phase-with_phases, phase-held}
 
@@ -84,16 +84,9 @@ pub record MayNotify {D W : Type 0} (place : Option (Phase W) → Bool) (phase :
   pub queue_once : Apart queue
 
 module _ {D W : Type 0} where
-  -- to notify nobody changes nothing
-  pub notified-none : (phase : Phase W) (old : Waiting D W) → notified phase [] old.side.queue old ≡ old
-  unfolding named with_phases
-  notified-none phase old =
-      let out : old.out ++ named old.side.live [] ≡ old.out = append-nil old.out in
-      λ i. record { side = old.side; out = out i }
-
   -- one is notified
   pub notified-one : (phase : Phase W) (name : ℕ) (others : List ℕ) (old : Waiting D W) →
-      oldest_notified phase (name ∷ others) old ≡ notified phase (name ∷ []) others old
+      record { side = noticed phase old.side name others; out = old.out ++ pair old.side name } ≡ notified phase (name ∷ []) others old
   unfolding named with_phases
   notified-one phase name others old =
       let pairs : pair old.side name ≡ pair old.side name ++ [] = sym (append-nil _) in

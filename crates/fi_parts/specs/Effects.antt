@@ -1,15 +1,16 @@
 -- What a call does to the futures that wait.
-use Rattle.std.specs.Prelude.{◌≡◌, ℕ, Bool, true, Option, None, List, [], ◌∷◌, ◌++◌, drop}
+use Rattle.std.specs.Prelude.{◌≡◌, ℕ, Bool, true, Option, None, List, [], ◌∷◌, ◌++◌, drop, if◌then◌else◌}
 use Rattle.fi_parts.specs.declared.phase.Phase.{Phase}
-use Rattle.fi_parts.specs.declared.phase.Phase.TheVariants.{Fresh, Complete, Ended}
+use Rattle.fi_parts.specs.declared.phase.Phase.TheVariants.{Fresh, Told, Complete, Ended}
 use Rattle.fi_parts.specs.declared.phase.Notice.{Notice}
 use Rattle.fi_parts.specs.Noticed.{phase_after}
 use Rattle.fi_parts.specs.Order.{holds, Apart}
+use Rattle.fi_parts.specs.Oldest.{pop_oldest, pair_of_oldest}
 use Rattle.fi_parts.specs.Pairs.{without_pair, oldest}
 use Rattle.fi_parts.specs.Waiting.{Waiters, Waiting, phase_of, is_registered, may_be_named}
 use Rattle.fi_parts.specs.Waiting.{IsLive, no_futures, insert_fresh, registered, stays, ended}
-use Rattle.fi_parts.specs.Waiting.{without_future, exchange, with_phase, noticed, pair, named, with_phases, notify_all, without_place}
-use Rattle.fi_parts.specs.Waiting.{front_told}
+use Rattle.fi_parts.specs.Waiting.{without_future, exchange, with_phase, noticed, pair, named, named_all, with_phases, without_place}
+use Rattle.fi_parts.specs.Waiting.{clear_queue}
 
 -- Names are slots, D is what a future asks for, W a waker.
 pub data WaiterEffect (D W : Type 0) : Type 0 where
@@ -48,18 +49,27 @@ pub data WaiterEffect (D W : Type 0) : Type 0 where
   -- one after the other
   AndThen : WaiterEffect D W → WaiterEffect D W → WaiterEffect D W
 
+-- What an effect does to the pairs that name who is to be woken.
+pub data PairsChange (W : Type 0) : Type 0 where
+  -- nothing
+  Keep : PairsChange W
+  -- the pair of this name is taken out, if it has one
+  TakeOut : ℕ → PairsChange W
+  -- these are appended
+  Append : List (ℕ × W) → PairsChange W
+
+-- the pairs after this change
+abbrev pub pairs_after : {W : Type 0} → PairsChange W → List (ℕ × W) → List (ℕ × W)
+pairs_after Keep out = out
+pairs_after (TakeOut name) out = without_pair name out
+pairs_after (Append pairs) out = out ++ pairs
+
 -- the first of these, if there is one
 abbrev pub first_of : List ℕ → List ℕ
 first_of [] = []
 first_of (name ∷ others) = name ∷ []
 
 module _ {D W : Type 0} where
-  -- the oldest of this queue is named and gets this phase; the others stay in the queue
-  abbrev pub oldest_notified : Phase W → List ℕ → Waiting D W → Waiting D W
-  oldest_notified phase [] waiting = waiting
-  oldest_notified phase (name ∷ others) waiting =
-      record { side = noticed phase waiting.side name others; out = waiting.out ++ pair waiting.side name }
-
   -- it is fresh
   abbrev pub renewed : Waiters D W → ℕ → Waiters D W
   renewed side name = record side { live = with_phase side.live name Fresh }
@@ -76,39 +86,38 @@ module _ {D W : Type 0} where
     pub registered : (name : ℕ) → holds name names ≡ true → is_registered (phase_of side name) ≡ true
     pub once : Apart names
 
-  -- This effect led from old to new. A poll or a cancel takes out the future's pair first.
+  -- The effect may happen to these waiters, and `Now` holds of the waiters and of the change of the pairs that it leads to. A poll or a
+  -- cancel takes out the future's pair. The popping of a pair, and one effect after the other, are told in TakesEffect.
+  abbrev pub LeadsTo : WaiterEffect D W → Waiters D W → (Waiters D W → PairsChange W → Type 0) → Type 0
+  LeadsTo NoChange side Now = Now side Keep
+  LeadsTo (Inserts name asks) side Now = (phase_of side name ≡ None) × Now (insert_fresh side name asks) Keep
+  LeadsTo (Registers name waker) side Now =
+      (may_be_named (phase_of side name) ≡ true) × Now (registered side name waker) (TakeOut name)
+  LeadsTo (RegistersApart name waker) side Now =
+      (may_be_named (phase_of side name) ≡ true) × Now (stays side name waker) (TakeOut name)
+  LeadsTo (KeepsWaiting name waker) side Now =
+      (is_registered (phase_of side name) ≡ true) × Now (stays side name waker) (TakeOut name)
+  LeadsTo (Ends name) side Now = (may_be_named (phase_of side name) ≡ true) × Now (ended side name) (TakeOut name)
+  LeadsTo (EndsPlaced name) side Now = IsLive side name × Now (without_place Ended side name) (TakeOut name)
+  LeadsTo (Renews name) side Now = (may_be_named (phase_of side name) ≡ true) × Now (renewed side name) (TakeOut name)
+  LeadsTo (Asks name asks) side Now = IsLive side name × Now (exchange side name asks) Keep
+  LeadsTo (Removes name) side Now = IsLive side name × Now (without_future side name) (TakeOut name)
+  LeadsTo (NotifiesOldest notice) side Now = Now (pop_oldest (phase_after notice) side) (Append (pair_of_oldest side))
+  LeadsTo (NotifiesAll notice) side Now = Now (clear_queue (phase_after notice) side) (Append (named_all side))
+  LeadsTo (NotifiesListed notice names) side Now = AreRegistered side names
+      × Now (record side { live = with_phases side.live names (phase_after notice) }) (Append (named side.live names))
+  LeadsTo (NotifiesFront keeps front) side Now = (rest : List ℕ) × (side.queue ≡ front ++ rest)
+      × Now (record { live = with_phases side.live front Told; queue = if keeps then side.queue else rest })
+      (Append (named side.live front))
+  LeadsTo (CompletesOldest name asks) side Now = (others : List ℕ) × (side.queue ≡ name ∷ others) × IsLive side name
+      × Now (noticed Complete (exchange side name asks) name others) (Append (pair side name))
+  LeadsTo effect side Now = ⊥
+
+  -- This effect led from old to new.
   abbrev pub TakesEffect : WaiterEffect D W → Waiting D W → Waiting D W → Type 0
-  TakesEffect NoChange old new = new ≡ old
-  TakesEffect (Inserts name asks) old new = (phase_of old.side name ≡ None) × (new ≡ record old { side = insert_fresh old.side name asks })
-  TakesEffect (Registers name waker) old new =
-      (may_be_named (phase_of old.side name) ≡ true) × (new ≡ record {
-        side =
-            registered old.side name waker;
-        out = without_pair name old.out;
-      })
-  TakesEffect (RegistersApart name waker) old new =
-      (may_be_named (phase_of old.side name) ≡ true) × (new ≡ record { side = stays old.side name waker; out = without_pair name old.out })
-  TakesEffect (KeepsWaiting name waker) old new =
-      (is_registered (phase_of old.side name) ≡ true) × (new ≡ record { side = stays old.side name waker; out = without_pair name old.out })
-  TakesEffect (Ends name) old new =
-      (may_be_named (phase_of old.side name) ≡ true) × (new ≡ record { side = ended old.side name; out = without_pair name old.out })
-  TakesEffect (EndsPlaced name) old new =
-      IsLive old.side name × (new ≡ record { side = without_place Ended old.side name; out = without_pair name old.out })
-  TakesEffect (Renews name) old new =
-      (may_be_named (phase_of old.side name) ≡ true) × (new ≡ record { side = renewed old.side name; out = without_pair name old.out })
-  TakesEffect (Asks name asks) old new = IsLive old.side name × (new ≡ record old { side = exchange old.side name asks })
-  TakesEffect (Removes name) old new =
-      IsLive old.side name × (new ≡ record { side = without_future old.side name; out = without_pair name old.out })
-  TakesEffect (NotifiesOldest notice) old new = new ≡ oldest_notified (phase_after notice) old.side.queue old
-  TakesEffect (NotifiesAll notice) old new = new ≡ notify_all (phase_after notice) old
-  TakesEffect (NotifiesListed notice names) old new =
-      AreRegistered old.side names × (new ≡ notified (phase_after notice) names old.side.queue old)
-  TakesEffect (NotifiesFront keeps front) old new =
-      (rest : List ℕ) × (old.side.queue ≡ front ++ rest) × (new ≡ front_told keeps old front rest)
-  TakesEffect (CompletesOldest name asks) old new = (others : List ℕ) × (old.side.queue ≡ name ∷ others) × IsLive old.side name
-      × (new ≡ record { side = noticed Complete (exchange old.side name asks) name others; out = old.out ++ pair old.side name })
   TakesEffect (PopsOldest waker) old new = (waker ≡ oldest old.out) × (new ≡ record old { out = drop 1 old.out })
   TakesEffect (AndThen one other) old new = (mid : Waiting D W) × TakesEffect one old mid × TakesEffect other mid new
+  TakesEffect effect old new = LeadsTo effect old.side (λ side change. new ≡ record { side = side; out = pairs_after change old.out })
 
   -- the oldest of this queue completes, if there is one
   abbrev pub completes_first : D → List ℕ → WaiterEffect D W

@@ -174,7 +174,7 @@ module _ {T W : Type 0} where
           let ends = step.1.0 in
           subst (λ a. Left (sent name a) offers taken old.own.is_open) (sym did.0)
           (left_by before offers taken old.own (finished name) step.0
-          (ends.3.1 ∙ ap (λ (s : Waiters (Option T) W). exchange s name None) ends.2.1) refl
+          (ends.3.1.0 ∙ ap (λ (s : Waiters (Option T) W). exchange s name None) ends.2.1.0) refl
           (steps.finished_follows old was before offers taken items held name fresh))
       fresh_sends name waker true true (Some value) answer fresh has owns did =
           let step = did.3 in
@@ -185,7 +185,7 @@ module _ {T W : Type 0} where
           (ap is_registered fresh) in
           subst (λ a. Left (sent name a) offers taken old.own.is_open) (sym did.0)
           (stored did.1 value sends (released_by name (accepts_once name None (offers name) before)) did.2 step.0
-          (step.1.2.1 ∙ ends.3.1 ∙ ap (λ (s : Waiters (Option T) W). exchange s name None) ends.2.1)
+          (step.1.2.1 ∙ ends.3.1.0 ∙ ap (λ (s : Waiters (Option T) W). exchange s name None) ends.2.1.0)
           (subst (λ (xs : List (Accepted T)). Follows xs offers taken (items ++ value ∷ []) sends)
           (sym (ap (released_by name) (if_false (waits_with name before) before (before ++ one_from None (offers name)) nowhere
           ∙ ap (λ o. before ++ one_from None o) (held.offered name value owns)) ∙ released_stored name before value nowhere))
@@ -197,7 +197,7 @@ module _ {T W : Type 0} where
           subst (λ a. Left (sent name a) offers taken old.own.is_open) (sym did.0)
           (left_by (accepts_once name (Some name) (offers name) before) offers taken old.own
           (registered old.waiting.sends name waker) step.0
-          (step.1.2.1 ∙ step.1.1.0.1) refl
+          (step.1.2.1 ∙ step.1.1.0.1.0) refl
           (steps.registered_follows old was before offers taken items held name waker value fresh owns))
 
       sends_as : (name : ℕ) (waker : W) (phase : Option (Phase W)) (answer : polls.Poll (Result (Unit {0}) (SendFault T))) →
@@ -209,12 +209,12 @@ module _ {T W : Type 0} where
           subst (λ a. Left (sent name a) offers taken old.own.is_open) (sym did.0)
           (left_by (accepts_once name (Some name) (offers name) before) offers taken old.own
           (stays old.waiting.sends name waker) did.1.0
-          did.1.1.0.1 refl (steps.stays_follows old was before offers taken items held name waker older is))
+          did.1.1.0.1.0 refl (steps.stays_follows old was before offers taken items held name waker older is))
       sends_as name waker (Some Complete) answer is did =
           subst (λ a. Left (sent name a) offers taken old.own.is_open) (sym did.0)
           (left_by (released_by name (accepts_once name None (offers name) before)) offers taken old.own
           (ended old.waiting.sends name) did.1.0
-          did.1.1.0.1 refl (steps.ended_follows old was before offers taken items held name is))
+          did.1.1.0.1.0 refl (steps.ended_follows old was before offers taken items held name is))
       sends_as name waker phase answer is did = absurd did
 
       -- the oldest value was taken
@@ -321,7 +321,7 @@ module _ {T W : Type 0} where
       follows call (Refused fault) did = unchanged did.1
       follows (Send value) (Made slot) did =
           left_by before (λ name. offered_step {T = T} {W = W} name (Send value) (Made slot) (offers name)) taken old.own
-          (insert_fresh old.waiting.sends slot.0 (Some value)) did.0 did.1.0.1 refl
+          (insert_fresh old.waiting.sends slot.0 (Some value)) did.0 did.1.0.1.0 refl
           (steps.made_follows old was before offers taken items held value slot.0
           (λ name. offered_step {T = T} {W = W} name (Send value) (Made slot) (offers name)) did.1.0.0
           (if_true (slot.0 == slot.0) (Some value) (offers slot.0) (eq-eqb slot.0 slot.0 refl))
@@ -344,10 +344,10 @@ module _ {T W : Type 0} where
       follows (PollNext slot waker) End did = streams_as slot.0 waker (receive_phase old slot.0) (polled.Ready None) did.1
       follows (CancelSend slot) (Item value) did =
           left_by (withdrawn_by slot.0 before) offers taken old.own
-          (without_future old.waiting.sends slot.0) did.1.0 did.1.1.0.1 refl
+          (without_future old.waiting.sends slot.0) did.1.0 did.1.1.0.1.0 refl
           (steps.withdrawn_follows old was before offers taken items held slot.0 value (sym did.0))
       follows (CancelSend slot) Nothing did =
-          left_by (released_by slot.0 before) offers taken old.own (without_future old.waiting.sends slot.0) did.1.0 did.1.1.0.1 refl
+          left_by (released_by slot.0 before) offers taken old.own (without_future old.waiting.sends slot.0) did.1.0 did.1.1.0.1.0 refl
           (steps.left_follows old was before offers taken items held slot.0 (sym did.0))
       follows (CancelReceive slot) Done did = cancels_as slot.0 (receive_phase old slot.0) did
       follows (TrySend value) Done did =

@@ -206,21 +206,21 @@ module _ {T W : Type 0} (old new : ChannelMachine T W) where
         QuietBut before side name × (kind ≡ Some kinds.Stream → phase_of side name ≡ Some Fresh)
     given_at None name side out rest did =
         let p = some_phase (phase_of before name) did.0 in (
-          subst (λ (s : Waiters ReceiveKind W). QuietBut before s name) (sym did.1)
+          subst (λ (s : Waiters ReceiveKind W). QuietBut before s name) (sym did.1.0)
               (quiet_phase before name Ended p.0 before.queue p.1),
           λ is. absurd (cc is),
         )
     given_at (Some kinds.Single) name side out rest did =
         let p = some_phase (phase_of before name) did.0 in (
-          subst (λ (s : Waiters ReceiveKind W). QuietBut before s name) (sym did.1)
+          subst (λ (s : Waiters ReceiveKind W). QuietBut before s name) (sym did.1.0)
               (quiet_phase before name Ended p.0 before.queue p.1),
           λ is. absurd (cc is),
         )
     given_at (Some kinds.Stream) name side out rest did =
         let p = some_phase (phase_of before name) did.0 in (
-          subst (λ (s : Waiters ReceiveKind W). QuietBut before s name) (sym did.1)
+          subst (λ (s : Waiters ReceiveKind W). QuietBut before s name) (sym did.1.0)
               (quiet_phase before name Fresh p.0 before.queue p.1),
-          λ is. ap (λ (s : Waiters ReceiveKind W). phase_of s name) did.1
+          λ is. ap (λ (s : Waiters ReceiveKind W). phase_of s name) did.1.0
               ∙ (becomes-with_phase before name Fresh before.queue (lives_as before name p.0 p.1)).here,
         )
 
@@ -256,14 +256,14 @@ module _ {T W : Type 0} (old new : ChannelMachine T W) where
         let step = did.1 in
         let p = some_phase (receive_phase old name) step.1.0.0 in
         subst (Polled name) (sym did.0) (
-          to_quiet_but (registered before name waker) name step.1.0.1
+          to_quiet_but (registered before name waker) name step.1.0.1.0
               (quiet_phase before name (Registered waker) p.0 (registered before name waker).queue p.1),
           λ is. tt,
         )
     polled_next name waker None false answer did =
         let step = did.1 in
         let p = some_phase (receive_phase old name) step.1.0.0 in
-        subst (Polled name) (sym did.0) (ends name p.0 p.1 step.1.0.1)
+        subst (Polled name) (sym did.0) (ends name p.0 p.1 step.1.0.1.0)
 
     polled_as : (name : ℕ) (waker : W) (phase : Option (Phase W)) (answer : polls.Poll (Option T)) →
         receive_phase old name ≡ phase →
@@ -272,7 +272,7 @@ module _ {T W : Type 0} (old new : ChannelMachine T W) where
     polled_as name waker (Some Told) answer is did = polled_next name waker (next_of old) old.own.is_open answer did
     polled_as name waker (Some (Registered older)) answer is did =
         subst (Polled name) (sym did.0) (
-          to_quiet_but (stays before name waker) name did.1.1.0.1
+          to_quiet_but (stays before name waker) name did.1.1.0.1.0
               (quiet_phase before name (Registered waker) (Registered older) before.queue is),
           λ kind. tt,
         )
@@ -281,7 +281,7 @@ module _ {T W : Type 0} (old new : ChannelMachine T W) where
     streamed_as : (name : ℕ) (waker : W) (phase : Option (Phase W)) (answer : polls.Poll (Option T)) →
         receive_phase old name ≡ phase →
         StreamsAs phase old name waker answer new → Polled name answer
-    streamed_as name waker (Some Ended) answer is did = subst (Polled name) (sym did.0) (ends name Ended is did.1.1.0.1)
+    streamed_as name waker (Some Ended) answer is did = subst (Polled name) (sym did.0) (ends name Ended is did.1.1.0.1.0)
     streamed_as name waker None answer is did = absurd did
     streamed_as name waker (Some Fresh) answer is did = polled_as name waker (Some Fresh) answer is did
     streamed_as name waker (Some (Registered older)) answer is did = polled_as name waker
@@ -297,14 +297,14 @@ module _ {T W : Type 0} (old new : ChannelMachine T W) where
 
     quiet_cancels : (name : ℕ) (phase : Option (Phase W)) → CancelsReceiveAs phase old name new → QuietBut before after name
     quiet_cancels name (Some Told) did =
-        to_quiet_but (pop_oldest Told (without_future before name)) name (did.1.2.0.0 ∙ ap (pop_oldest Told) did.1.1.0.1)
+        to_quiet_but (pop_oldest Told (without_future before name)) name (did.1.2.0.0 ∙ ap (pop_oldest Told) did.1.1.0.1.0)
         (quiet_passed before pairs name was.0.waiters.receives)
-    quiet_cancels name None did = to_quiet_but (without_future before name) name did.1.0.1 (quiet_forgotten before name)
-    quiet_cancels name (Some Fresh) did = to_quiet_but (without_future before name) name did.1.0.1 (quiet_forgotten before name)
-    quiet_cancels name (Some (Registered older)) did = to_quiet_but (without_future before name) name did.1.0.1
+    quiet_cancels name None did = to_quiet_but (without_future before name) name did.1.0.1.0 (quiet_forgotten before name)
+    quiet_cancels name (Some Fresh) did = to_quiet_but (without_future before name) name did.1.0.1.0 (quiet_forgotten before name)
+    quiet_cancels name (Some (Registered older)) did = to_quiet_but (without_future before name) name did.1.0.1.0
         (quiet_forgotten before name)
-    quiet_cancels name (Some Complete) did = to_quiet_but (without_future before name) name did.1.0.1 (quiet_forgotten before name)
-    quiet_cancels name (Some Ended) did = to_quiet_but (without_future before name) name did.1.0.1 (quiet_forgotten before name)
+    quiet_cancels name (Some Complete) did = to_quiet_but (without_future before name) name did.1.0.1.0 (quiet_forgotten before name)
+    quiet_cancels name (Some Ended) did = to_quiet_but (without_future before name) name did.1.0.1.0 (quiet_forgotten before name)
 
     quiet_closes : (is_open : Bool) (status : CloseStatus) → ClosesAt is_open old status new → Quiet before after
     quiet_closes true status did = to_quiet (clear_queue Fresh before) (did.1.1.2.1 ∙ did.1.1.1.0.0)
@@ -346,10 +346,10 @@ module _ {T W : Type 0} (old new : ChannelMachine T W) where
   streams_stand was (Send value) (Back given NoMemory) did last name stood =
       all_stand was last name (receives_same (ap (λ (m : ChannelMachine T W). m.waiting.receives) did.1)) stood
   streams_stand was Receive (Made slot) did last name stood =
-      but_stands was slot.0 name last GaveNone (to_quiet_but (insert_fresh before slot.0 kinds.Single) slot.0 did.1.0.1
+      but_stands was slot.0 name last GaveNone (to_quiet_but (insert_fresh before slot.0 kinds.Single) slot.0 did.1.0.1.0
       (quiet_made before slot.0 kinds.Single)) tt stood
   streams_stand was Stream (Made slot) did last name stood =
-      but_stands was slot.0 name last GaveNone (to_quiet_but (insert_fresh before slot.0 kinds.Stream) slot.0 did.1.0.1
+      but_stands was slot.0 name last GaveNone (to_quiet_but (insert_fresh before slot.0 kinds.Stream) slot.0 did.1.0.1.0
       (quiet_made before slot.0 kinds.Stream)) tt stood
   streams_stand was (PollSend slot waker) Pending did last name stood =
       all_stand was last name (quiet_sends was slot.0 waker _ polled.Pending did) stood
