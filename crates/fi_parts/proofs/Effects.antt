@@ -508,21 +508,9 @@ module _ {D W : Type 0} {place : Option (Phase W) → Bool} (rule : IsPlaceRule 
   pub pending_is_fit : (effect : WaiterEffect D W) (old new : Waiting D W) → AllowsEffect rule known old effect →
       AreSoundBy place known old.side old.out → TakesEffect effect old new → After effect old new →
       IsFitIfPending (waker_change effect) new
-  pending_is_fit NoChange old new is sound taken now = tt
-  pending_is_fit (Inserts name asks) old new is sound taken now = tt
   pending_is_fit (Registers name waker) old new is sound taken now = ap fit now.here ∙ can.registered waker
   pending_is_fit (RegistersApart name waker) old new is sound taken now = ap fit now.here ∙ can.registered waker
   pending_is_fit (KeepsWaiting name waker) old new is sound taken now = ap fit now.here ∙ can.registered waker
-  pending_is_fit (Ends name) old new is sound taken now = tt
-  pending_is_fit (EndsPlaced name) old new is sound taken now = tt
-  pending_is_fit (Renews name) old new is sound taken now = tt
-  pending_is_fit (Asks name asks) old new is sound taken now = tt
-  pending_is_fit (Removes name) old new is sound taken now = tt
-  pending_is_fit (NotifiesOldest notice) old new is sound taken now = tt
-  pending_is_fit (NotifiesAll notice) old new is sound taken now = tt
-  pending_is_fit (NotifiesListed notice names) old new is sound taken now = tt
-  pending_is_fit (NotifiesFront keeps front) old new is sound taken now = tt
-  pending_is_fit (CompletesOldest name asks) old new is sound taken now = tt
   pending_is_fit (PopsOldest waker) old new is sound taken now = given_away waker new
   pending_is_fit (AndThen one other) old new is sound taken now =
       let mid = taken.0 in
@@ -532,3 +520,4 @@ module _ {D W : Type 0} {place : Option (Phase W) → Bool} (rule : IsPlaceRule 
       (pending_is_fit one old mid is.0 sound taken.1 (effect_after rule known knows one old mid is.0 sound taken.1))
       (λ q. stays_fit other mid new allows sound_then taken.2 (effect_after rule known knows other mid new allows sound_then taken.2) q
       (subst (λ (e : WakerChange W). SparedBy e q) (sym is.2) tt))
+  pending_is_fit effect old new is sound taken now = tt

@@ -117,21 +117,10 @@ module _ {D W : Type 0} where
       SparedBy (waker_change effect) q → asks_of new.side q ≡ asks_of old.side q
   asks_stay (Inserts name asks) old new keeps did q spared = asks_to new _ q did.1 ∙ asks_made old.side name asks q spared
   asks_stay (Removes name) old new keeps did q spared = asks_to new _ q did.1 ∙ asks_forgotten old.side name q spared
-  asks_stay NoChange old new keeps did q spared = asks_after NoChange old new did q
-  asks_stay (Registers name waker) old new keeps did q spared = asks_after (Registers name waker) old new did q
-  asks_stay (RegistersApart name waker) old new keeps did q spared = asks_after (RegistersApart name waker) old new did q
-  asks_stay (KeepsWaiting name waker) old new keeps did q spared = asks_after (KeepsWaiting name waker) old new did q
-  asks_stay (Ends name) old new keeps did q spared = asks_after (Ends name) old new did q
-  asks_stay (EndsPlaced name) old new keeps did q spared = asks_after (EndsPlaced name) old new did q
-  asks_stay (Renews name) old new keeps did q spared = asks_after (Renews name) old new did q
-  asks_stay (NotifiesOldest notice) old new keeps did q spared = asks_after (NotifiesOldest notice) old new did q
-  asks_stay (NotifiesAll notice) old new keeps did q spared = asks_after (NotifiesAll notice) old new did q
-  asks_stay (NotifiesListed notice names) old new keeps did q spared = asks_after (NotifiesListed notice names) old new did q
-  asks_stay (NotifiesFront stays front) old new keeps did q spared = asks_after (NotifiesFront stays front) old new did q
-  asks_stay (PopsOldest waker) old new keeps did q spared = asks_after (PopsOldest waker) old new did q
   asks_stay (Asks name asks) old new keeps did q spared = absurd (both_ways false refl keeps)
   asks_stay (CompletesOldest name asks) old new keeps did q spared = absurd (both_ways false refl keeps)
   asks_stay (AndThen one other) old new keeps did q spared = absurd (both_ways false refl keeps)
+  asks_stay effect old new keeps did q spared = asks_after effect old new did q
 
 module _ {S D W : Type 0} (rules : WaiterRules S D W) where
   abbrev Lack : S → Waiting D W → Type 0
