@@ -9,7 +9,8 @@ use Rattle.fi_parts.specs.declared.phase.Phase.{Phase}
 use Rattle.fi_channels.specs.declared.two_sides.Waiter.{Waiter}
 use Rattle.fi_channels.specs.declared.two_sides.Waiter.TheVariants.{Send, Receive}
 use Rattle.fi_channels.proofs.Sides.{sends-without_receive, receives-without}
-use Rattle.fi_channels.proofs.Sides.{sends-and_receives, receives-and_receives}
+use Rattle.fi_channels.proofs.Sides.{sends-and_receives}
+use Rattle.fi_channels.specs.SideLaws.{receives-and_receives}
 use Rattle.fi_parts.proofs.Sound.{sound-empty, sound-without_pair, sound-drop, sound-forgotten, sound-emptied}
 
 module _ {D W : Type 0} (allowed : Option (Phase W) → Bool) (side : Waiters D W) where

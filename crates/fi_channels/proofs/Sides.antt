@@ -1,11 +1,16 @@
 -- The pairs of one side among those of both.
-use Rattle.std.proofs.Common.{◌≡◌, ℕ, Bool, true, false, not, eqb, ◌||◌, List, [], ◌∷◌, ◌++◌, Some, cond, refl, ap}
+use Rattle.std.proofs.Common.{◌≡◌, ℕ, Bool, true, false, not, eqb, List, [], ◌∷◌, ◌++◌, None, cond, refl, ap}
 use Rattle.std.proofs.lemmas.Bool.{eqb-true, eq-eqb}
-use Rattle.fi_parts.specs.Pairs.{has, waker_of, without_pair}
+use Rattle.std.specs.Ordering.{nat_cmp}
+use Rattle.std.specs.FinMap as finmap
+use Rattle.std.specs.FinSet as set
+use Rattle.fi_parts.specs.Tied.{IsTied}
+use Rattle.fi_parts.specs.Pairs.{without_pair}
 use Rattle.fi_channels.specs.declared.two_sides.Waiter.{Waiter}
 use Rattle.fi_channels.specs.declared.two_sides.Waiter.TheVariants.{Send, Receive}
-use Rattle.fi_parts.specs.NamedPairs.{IsNameTest, has_by, waker_by, without_by}
-use Rattle.fi_channels.specs.Waiter.{same_waiter, of_sends, of_receives, sends_in, receives_in}
+use Rattle.fi_parts.specs.NamedPairs.{IsNameTest, without_by}
+use Rattle.fi_channels.specs.Waiter.{same_waiter, ticket_of_waiter, of_sends, of_receives, sends_in, receives_in}
+use Rattle.fi_parts.proofs.Tied.{tied_empty}
 
 is_same : (a b : Waiter) → same_waiter a b ≡ true → a ≡ b
 is_same (Send a) (Send b) e = ap Send (eqb-true a b e)
@@ -21,27 +26,6 @@ pub waiter_test : IsNameTest same_waiter
 waiter_test = record { is_same = is_same; same_as = same_as }
 
 module _ {W : Type 0} where
-  pub has-sends : (n : ℕ) (out : List (Waiter × W)) → has_by same_waiter (Send n) out ≡ has n (sends_in out)
-  has-sends n [] = refl
-  has-sends n ((Send m, w) ∷ ps) = ap (λ b. eqb n m || b) (has-sends n ps)
-  has-sends n ((Receive m, w) ∷ ps) = has-sends n ps
-
-  pub has-receives : (n : ℕ) (out : List (Waiter × W)) → has_by same_waiter (Receive n) out ≡ has n (receives_in out)
-  has-receives n [] = refl
-  has-receives n ((Send m, w) ∷ ps) = has-receives n ps
-  has-receives n ((Receive m, w) ∷ ps) = ap (λ b. eqb n m || b) (has-receives n ps)
-
-  pub waker-sends : (n : ℕ) (out : List (Waiter × W)) → waker_by same_waiter (Send n) out ≡ waker_of n (sends_in out)
-  waker-sends n [] = refl
-  waker-sends n ((Send m, w) ∷ ps) = ap (λ o. cond (eqb n m) (Some w) o) (waker-sends n ps)
-  waker-sends n ((Receive m, w) ∷ ps) = waker-sends n ps
-
-  pub waker-receives : (n : ℕ) (out : List (Waiter × W)) →
-      waker_by same_waiter (Receive n) out ≡ waker_of n (receives_in out)
-  waker-receives n [] = refl
-  waker-receives n ((Send m, w) ∷ ps) = waker-receives n ps
-  waker-receives n ((Receive m, w) ∷ ps) = ap (λ o. cond (eqb n m) (Some w) o) (waker-receives n ps)
-
   pub sends-without : (n : ℕ) (out : List (Waiter × W)) →
       sends_in (without_by same_waiter (Send n) out) ≡ without_pair n (sends_in out)
   sends-without n [] = refl
@@ -92,20 +76,6 @@ module _ {W : Type 0} where
       step false rest = rest
   sends-without_receive n ((Send m, w) ∷ ps) = ap (λ qs. (m, w) ∷ qs) (sends-without_receive n ps)
 
-  pub sends-and_sends : (out : List (Waiter × W)) (ps : List (ℕ × W)) →
-      sends_in (out ++ of_sends ps) ≡ sends_in out ++ ps
-  sends-and_sends [] [] = refl
-  sends-and_sends [] (p ∷ ps) = ap (λ qs. p ∷ qs) (sends-and_sends [] ps)
-  sends-and_sends ((Send m, w) ∷ out) ps = ap (λ qs. (m, w) ∷ qs) (sends-and_sends out ps)
-  sends-and_sends ((Receive m, w) ∷ out) ps = sends-and_sends out ps
-
-  pub receives-and_receives : (out : List (Waiter × W)) (ps : List (ℕ × W)) →
-      receives_in (out ++ of_receives ps) ≡ receives_in out ++ ps
-  receives-and_receives [] [] = refl
-  receives-and_receives [] (p ∷ ps) = ap (λ qs. p ∷ qs) (receives-and_receives [] ps)
-  receives-and_receives ((Receive m, w) ∷ out) ps = ap (λ qs. (m, w) ∷ qs) (receives-and_receives out ps)
-  receives-and_receives ((Send m, w) ∷ out) ps = receives-and_receives out ps
-
   pub receives-and_sends : (out : List (Waiter × W)) (ps : List (ℕ × W)) →
       receives_in (out ++ of_sends ps) ≡ receives_in out
   receives-and_sends [] [] = refl
@@ -119,3 +89,10 @@ module _ {W : Type 0} where
   sends-and_receives [] (p ∷ ps) = sends-and_receives [] ps
   sends-and_receives ((Send m, w) ∷ out) ps = ap (λ qs. (m, w) ∷ qs) (sends-and_receives out ps)
   sends-and_receives ((Receive m, w) ∷ out) ps = sends-and_receives out ps
+
+none_yet : (q : Waiter) → ticket_of_waiter finmap.empty finmap.empty q ≡ None
+none_yet (Send n) = finmap.get-empty nat_cmp n
+none_yet (Receive n) = finmap.get-empty nat_cmp n
+
+pub no_waiters-tied : (W : Type 0) → IsTied {W = W} (ticket_of_waiter finmap.empty finmap.empty) set.empty []
+no_waiters-tied W = tied_empty (ticket_of_waiter finmap.empty finmap.empty) none_yet

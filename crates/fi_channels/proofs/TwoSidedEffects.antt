@@ -24,7 +24,8 @@ use Rattle.fi_parts.specs.WakerHistory.WakerChange.{NoEffect}
 use Rattle.fi_channels.proofs.BothSound.{both_sound-next_wake}
 use Rattle.fi_parts.proofs.Effects.{effect_after, effect_sound}
 use Rattle.fi_channels.proofs.Sides.{sends-without, sends-without_receive, receives-without, receives-without_send}
-use Rattle.fi_channels.proofs.Sides.{sends-and_sends, sends-and_receives, receives-and_sends, receives-and_receives}
+use Rattle.fi_channels.proofs.Sides.{sends-and_receives, receives-and_sends}
+use Rattle.fi_channels.specs.SideLaws.{sends-and_sends, receives-and_receives}
 use Rattle.fi_parts.proofs.Waiting.{first_registered, live_if_registered}
 use Rattle.fi_parts.proofs.WakerHistories.{CarriesOn, carries, and_then, handed_carries}
 

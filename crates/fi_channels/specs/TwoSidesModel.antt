@@ -1,9 +1,6 @@
 -- Sends and receives that wait, over one outbox.
 use Rattle.std.specs.Prelude.{Bool, Option, List, [], ◌++◌}
-use Rattle.fi_parts.specs.LineModel.{LineModel}
-use Rattle.fi_parts.specs.Pairs.{OutboxModel}
-use Rattle.fi_parts.specs.Tied.{out_of, IsTied}
-use Rattle.fi_channels.specs.Waiter.{ticket_of_waiter, of_sends, of_receives, sends_in, receives_in}
+use Rattle.fi_channels.specs.Waiter.{of_sends, of_receives, sends_in, receives_in}
 use Rattle.fi_parts.specs.Waiting.{Waiters, no_futures, clear_queue, named_all, AreSound}
 use Rattle.fi_parts.specs.declared.phase.Phase.{Phase}
 use Rattle.fi_channels.specs.declared.two_sides.Waiter.{Waiter}
@@ -15,13 +12,6 @@ pub record TwoSidesModel (D E W : Type 0) : Type 0 where
   pub out : List (Waiter × W)
 
 module _ {D E W : Type 0} where
-  abbrev pub two_sides_of : LineModel D W → LineModel E W → OutboxModel (Waiter × W) → TwoSidesModel D E W
-  two_sides_of sends receives box = record { sends = sends.side; receives = receives.side; out = out_of box.pairs }
-
-  -- The tickets of both lines and the pairs of the outbox go together.
-  abbrev pub AreBothTied : LineModel D W → LineModel E W → OutboxModel (Waiter × W) → Type 0
-  AreBothTied sends receives box = IsTied (ticket_of_waiter sends.tickets receives.tickets) box.tickets box.pairs
-
   -- nobody waits
   abbrev pub no_waiters : TwoSidesModel D E W
   no_waiters = record { sends = no_futures; receives = no_futures; out = [] }

@@ -16,9 +16,9 @@ ghost use Rattle.fi_channels.specs.Cleared.{ClosesAndClears};
 use crate::access::Sent;
 use crate::channel_errors::{SendFault, TryReceiveError, TrySendError};
 use crate::clearable::Clearable;
-use crate::two_sides::TwoSides;
+use crate::two_sides::{Receives, Sends, TwoSides};
 use fi_parts::buffer::RingBuf;
-use fi_parts::{CloseStatus, Fault, Leftover, NoRoom, Notice, Phase, Slot};
+use fi_parts::{CloseStatus, Fault, Future, Leftover, NoRoom, Notice, Phase, Slot, last_waker};
 use futures::task::Poll;
 use std::alloc::Global;
 
@@ -80,7 +80,7 @@ impl<T: Drop, B: RingBuf<Item = T>, W: Drop> ChannelFields<T, B, W> {
     pub fn can_send(&self, slot: Slot) -> bool
         ensures { result ≡ can_send (phase_of self.now.waiters.sends slot.0) }
     {
-        match self.waiters.send_phase(slot) {
+        match self.waiters.phase::<Sends>(slot) {
             Some(Phase::Fresh | Phase::Registered(_) | Phase::Complete) => true,
             None | Some(Phase::Told | Phase::Ended) => false,
         }
@@ -90,14 +90,14 @@ impl<T: Drop, B: RingBuf<Item = T>, W: Drop> ChannelFields<T, B, W> {
     pub fn has_send(&self, slot: Slot) -> bool
         ensures { result ≡ is_some (phase_of self.now.waiters.sends slot.0) }
     {
-        self.waiters.send_phase(slot).is_some()
+        self.waiters.phase::<Sends>(slot).is_some()
     }
 
     /// Returns `true` if a receive lives under this slot that has not ended, and is no stream.
     pub fn can_receive(&self, slot: Slot) -> bool
         ensures { result ≡ can_receive (asks_of self.now.waiters.receives slot.0) (phase_of self.now.waiters.receives slot.0) }
     {
-        let future = match self.waiters.receive_future(slot) {
+        let future = match self.waiters.future::<Receives>(slot) {
             Some(future) => future,
             None => return false,
         };
@@ -111,7 +111,7 @@ impl<T: Drop, B: RingBuf<Item = T>, W: Drop> ChannelFields<T, B, W> {
     pub fn can_stream(&self, slot: Slot) -> bool
         ensures { result ≡ can_stream (asks_of self.now.waiters.receives slot.0) (phase_of self.now.waiters.receives slot.0) }
     {
-        match self.waiters.receive_future(slot) {
+        match self.waiters.future::<Receives>(slot) {
             Some(future) => matches!(future.asks, ReceiveKind::Stream),
             None => false,
         }
@@ -121,14 +121,14 @@ impl<T: Drop, B: RingBuf<Item = T>, W: Drop> ChannelFields<T, B, W> {
     pub fn has_receive(&self, slot: Slot) -> bool
         ensures { result ≡ is_some (phase_of self.now.waiters.receives slot.0) }
     {
-        self.waiters.receive_phase(slot).is_some()
+        self.waiters.phase::<Receives>(slot).is_some()
     }
 
     /// Whether a poll of the send under this slot would be ready now.
     pub fn send_ends_now(&self, slot: Slot) -> bool
         ensures { WouldBeReady (PollsSend (machine_of B.bounded self.now) slot.0) result }
     {
-        match self.waiters.send_phase(slot) {
+        match self.waiters.phase::<Sends>(slot) {
             Some(Phase::Fresh) => !self.is_open || self.buffer.can_push(),
             Some(Phase::Complete) => true,
             None | Some(Phase::Registered(_) | Phase::Told | Phase::Ended) => false,
@@ -142,7 +142,7 @@ impl<T: Drop, B: RingBuf<Item = T>, W: Drop> ChannelFields<T, B, W> {
         if !self.buffer.is_empty() {
             return true;
         }
-        match self.waiters.oldest_send_asks() {
+        match self.waiters.oldest_asks::<Sends>() {
             Some(value) => value.is_some(),
             None => false,
         }
@@ -152,7 +152,7 @@ impl<T: Drop, B: RingBuf<Item = T>, W: Drop> ChannelFields<T, B, W> {
     pub fn receive_ends_now(&self, slot: Slot) -> bool
         ensures { WouldBeReady (PollsReceive (machine_of B.bounded self.now) slot.0) result }
     {
-        match self.waiters.receive_phase(slot) {
+        match self.waiters.phase::<Receives>(slot) {
             Some(Phase::Fresh | Phase::Told) => self.has_next() || !self.is_open,
             None | Some(Phase::Registered(_) | Phase::Complete | Phase::Ended) => false,
         }
@@ -162,7 +162,7 @@ impl<T: Drop, B: RingBuf<Item = T>, W: Drop> ChannelFields<T, B, W> {
     pub fn next_ends_now(&self, slot: Slot) -> bool
         ensures { WouldBeReady (PollsNext (machine_of B.bounded self.now) slot.0) result }
     {
-        match self.waiters.receive_phase(slot) {
+        match self.waiters.phase::<Receives>(slot) {
             Some(Phase::Fresh | Phase::Told) => self.has_next() || !self.is_open,
             Some(Phase::Ended) => true,
             None | Some(Phase::Registered(_) | Phase::Complete) => false,
@@ -175,7 +175,7 @@ impl<T: Drop, B: RingBuf<Item = T>, W: Drop> ChannelFields<T, B, W> {
         ensures refused { OnErr result (machine_of B.bounded self.new ≡ machine_of B.bounded self.old) }
         ensures handed_back { IfErr result (λ failed. failed.0 ≡ value) }
     {
-        let back = match self.waiters.insert_send(Some(value)) {
+        let back = match self.waiters.insert::<Sends>(Some(value)) {
             Ok(slot) => return Ok(slot),
             Err(NoRoom(back)) => back,
         };
@@ -188,7 +188,7 @@ impl<T: Drop, B: RingBuf<Item = T>, W: Drop> ChannelFields<T, B, W> {
         ensures refused { OnErr result (machine_of B.bounded self.new ≡ machine_of B.bounded self.old) }
         ensures fault { IfErr result (λ fault. fault ≡ Fault.NoMemory) }
     {
-        match self.waiters.insert_receive(kind) {
+        match self.waiters.insert::<Receives>(kind) {
             Ok(slot) => Ok(slot),
             Err(_) => Err(Fault::NoMemory),
         }
@@ -201,10 +201,10 @@ impl<T: Drop, B: RingBuf<Item = T>, W: Drop> ChannelFields<T, B, W> {
         ensures flag { self.new.is_open ≡ self.old.is_open }
     {
         if self.buffer.is_empty() {
-            return self.waiters.complete_oldest_send(None).flatten();
+            return self.waiters.complete_oldest::<Sends>(None).flatten();
         }
         let value = self.buffer.pop();
-        let next = match self.waiters.complete_oldest_send(None).flatten() {
+        let next = match self.waiters.complete_oldest::<Sends>(None).flatten() {
             Some(next) => next,
             None => return Some(value),
         };
@@ -235,24 +235,24 @@ impl<T: Drop, B: RingBuf<Item = T>, W: Drop> ChannelFields<T, B, W> {
         ensures displaced { result.1.displaced ≡ displaced_receive (machine_of B.bounded self.old) slot.0 }
         ensures unused { result.1.unused ≡ unused_after result.0 waker }
     {
-        let named = self.waiters.take_out_receive(slot);
-        let future = self.waiters.receive_future(slot).unwrap();
+        let named = self.waiters.take_out::<Receives>(slot);
+        let future = self.waiters.future::<Receives>(slot).unwrap();
         let kind = future.asks;
         if let Phase::Registered(_) = &future.phase {
             let before = self
                 .waiters
-                .set_receive_phase(slot, Phase::Registered(waker));
+                .set_phase::<Receives>(slot, Phase::Registered(waker));
             return (Poll::Pending, Leftover::of(before, None));
         }
         if let Some(value) = self.take_next() {
-            self.waiters.set_receive_phase(slot, phase_given(kind));
+            self.waiters.set_phase::<Receives>(slot, phase_given(kind));
             return (Poll::Ready(Some(value)), Leftover::of(named, Some(waker)));
         }
         if self.is_open {
-            self.waiters.register_receive(slot, waker);
+            self.waiters.register::<Receives>(slot, waker);
             return (Poll::Pending, Leftover::of(named, None));
         }
-        self.waiters.set_receive_phase(slot, Phase::Ended);
+        self.waiters.set_phase::<Receives>(slot, Phase::Ended);
         (Poll::Ready(None), Leftover::of(named, Some(waker)))
     }
 
@@ -264,8 +264,8 @@ impl<T: Drop, B: RingBuf<Item = T>, W: Drop> ChannelFields<T, B, W> {
         ensures displaced { result.1.displaced ≡ displaced_receive (machine_of B.bounded self.old) slot.0 }
         ensures unused { result.1.unused ≡ unused_after result.0 waker }
     {
-        if let Some(Phase::Ended) = self.waiters.receive_phase(slot) {
-            let named = self.waiters.take_out_receive(slot);
+        if let Some(Phase::Ended) = self.waiters.phase::<Receives>(slot) {
+            let named = self.waiters.take_out::<Receives>(slot);
             return (Poll::Ready(None), Leftover::of(named, Some(waker)));
         }
         self.receive_or_register(slot, waker)
@@ -278,9 +278,11 @@ impl<T: Drop, B: RingBuf<Item = T>, W: Drop> ChannelFields<T, B, W> {
         ensures cancelled { CancelsReceive (machine_of B.bounded self.old) slot.0 (machine_of B.bounded self.new) }
         ensures displaced { result ≡ displaced_receive (machine_of B.bounded self.old) slot.0 }
     {
-        let (was_told, waker) = self.waiters.remove_receive(slot);
+        let (future, named) = self.waiters.remove::<Receives>(slot);
+        let was_told = future.phase.is_told();
+        let waker = last_waker(future.phase, named);
         if was_told {
-            self.waiters.tell_oldest_receive();
+            self.waiters.tell_oldest::<Receives>();
         }
         waker
     }
@@ -300,7 +302,7 @@ impl<T: Drop, B: RingBuf<Item = T>, W: Drop> ChannelFields<T, B, W> {
         if let Err(NoRoom(value)) = self.buffer.push(value) {
             return Err(TrySendError::NoMemory(value));
         }
-        self.waiters.tell_oldest_receive();
+        self.waiters.tell_oldest::<Receives>();
         Ok(())
     }
 
@@ -313,13 +315,13 @@ impl<T: Drop, B: RingBuf<Item = T>, W: Drop> ChannelFields<T, B, W> {
         ensures displaced { result.1.displaced ≡ displaced_by_send result.0 (displaced_send (machine_of B.bounded self.old) slot.0) }
         ensures unused { result.1.unused ≡ unused_after result.0 waker }
     {
-        match self.waiters.send_phase(slot) {
+        match self.waiters.phase::<Sends>(slot) {
             Some(Phase::Fresh) => return self.send_fresh(slot, waker),
             Some(Phase::Registered(_)) => return self.send_registered(slot, waker),
             _ => {}
         }
-        let named = self.waiters.take_out_send(slot);
-        self.waiters.set_send_phase(slot, Phase::Ended);
+        let named = self.waiters.take_out::<Sends>(slot);
+        self.waiters.set_phase::<Sends>(slot, Phase::Ended);
         (Poll::Ready(Ok(())), Leftover::of(named, Some(waker)))
     }
 
@@ -331,8 +333,10 @@ impl<T: Drop, B: RingBuf<Item = T>, W: Drop> ChannelFields<T, B, W> {
         ensures displaced { result.1.displaced ≡ displaced_by_send result.0 (displaced_send (machine_of B.bounded self.old) slot.0) }
         ensures unused { result.1.unused ≡ unused_after result.0 waker }
     {
-        self.waiters.take_out_send(slot);
-        let before = self.waiters.set_send_phase(slot, Phase::Registered(waker));
+        self.waiters.take_out::<Sends>(slot);
+        let before = self
+            .waiters
+            .set_phase::<Sends>(slot, Phase::Registered(waker));
         (Poll::Pending, Leftover::of(before, None))
     }
 
@@ -345,31 +349,31 @@ impl<T: Drop, B: RingBuf<Item = T>, W: Drop> ChannelFields<T, B, W> {
         ensures unused { result.1.unused ≡ unused_after result.0 waker }
     {
         if !self.is_open {
-            let named = self.waiters.take_out_send(slot);
-            self.waiters.set_send_phase(slot, Phase::Ended);
-            let value = self.waiters.exchange_send(slot, None).unwrap();
+            let named = self.waiters.take_out::<Sends>(slot);
+            self.waiters.set_phase::<Sends>(slot, Phase::Ended);
+            let value = self.waiters.exchange::<Sends>(slot, None).unwrap();
             return (
                 Poll::Ready(Err(SendFault::Closed(value))),
                 Leftover::of(named, Some(waker)),
             );
         }
         if !self.buffer.can_push() {
-            let named = self.waiters.take_out_send(slot);
-            self.waiters.register_send(slot, waker);
-            self.waiters.tell_oldest_receive();
+            let named = self.waiters.take_out::<Sends>(slot);
+            self.waiters.register::<Sends>(slot, waker);
+            self.waiters.tell_oldest::<Receives>();
             return (Poll::Pending, Leftover::of(named, None));
         }
-        let value = self.waiters.exchange_send(slot, None).unwrap();
+        let value = self.waiters.exchange::<Sends>(slot, None).unwrap();
         if let Err(NoRoom(value)) = self.buffer.push(value) {
-            self.waiters.exchange_send(slot, Some(value));
+            self.waiters.exchange::<Sends>(slot, Some(value));
             return (
                 Poll::Ready(Err(SendFault::Fault(Fault::NoMemory))),
                 Leftover::of(None, Some(waker)),
             );
         }
-        let named = self.waiters.take_out_send(slot);
-        self.waiters.set_send_phase(slot, Phase::Ended);
-        self.waiters.tell_oldest_receive();
+        let named = self.waiters.take_out::<Sends>(slot);
+        self.waiters.set_phase::<Sends>(slot, Phase::Ended);
+        self.waiters.tell_oldest::<Receives>();
         (Poll::Ready(Ok(())), Leftover::of(named, Some(waker)))
     }
 
@@ -379,7 +383,9 @@ impl<T: Drop, B: RingBuf<Item = T>, W: Drop> ChannelFields<T, B, W> {
         ensures cancelled { CancelsSend (machine_of B.bounded self.old) slot.0 result.0 (machine_of B.bounded self.new) }
         ensures displaced { result.1 ≡ displaced_send (machine_of B.bounded self.old) slot.0 }
     {
-        self.waiters.remove_send(slot)
+        let (future, named) = self.waiters.remove::<Sends>(slot);
+        let Future { asks, phase } = future;
+        (asks, last_waker(phase, named))
     }
 
     /// Closes the channel, if it is open: names all receives that wait and then all sends.
@@ -391,8 +397,8 @@ impl<T: Drop, B: RingBuf<Item = T>, W: Drop> ChannelFields<T, B, W> {
             return CloseStatus::AlreadyClosed;
         }
         self.is_open = false;
-        self.waiters.notice_all_receives(Notice::Renew);
-        self.waiters.notice_all_sends(Notice::Renew);
+        self.waiters.notice_all::<Receives>(Notice::Renew);
+        self.waiters.notice_all::<Sends>(Notice::Renew);
         CloseStatus::NewlyClosed
     }
 

@@ -1,19 +1,20 @@
 //! Two sides of waiting futures, sends and receives, over one outbox: the wakers of both stand there in one order.
-ghost use Rattle.std.specs.Prelude.{◌≡◌, ℕ, ◌++◌, ◌∷◌, List, [], Some, None, true, false, Option, IfOk};
-ghost use Rattle.std.specs.Prelude.{OnErr, IfErr, IsSome, MatchOption, length, drop, option_copied};
+ghost use Rattle.std.specs.Prelude.{◌≡◌, ℕ, ◌∷◌, List, [], Some, None, true, false, Option, IfOk};
+ghost use Rattle.std.specs.Prelude.{OnErr, IfErr, MatchOption, length, drop, option_copied};
+ghost use Rattle.std.specs.Borrow.{sem};
 ghost use Rattle.std.specs.FinMap as map;
 ghost use Rattle.fi_parts.specs.Order.{holds};
 ghost use Rattle.fi_parts.specs.Noticed.{phase_after};
 ghost use Rattle.fi_parts.specs.Waiting.{with_phase, exchange, phase_of, IsLive, IsOrdered, is_registered};
-ghost use Rattle.fi_parts.specs.Waiting.{insert_fresh, registered, without_future, pair, asks_of, waker_in, waker_or};
-ghost use Rattle.fi_channels.specs.declared.two_sides.Waiter.TheVariants.{Send, Receive};
+ghost use Rattle.fi_parts.specs.Waiting.{insert_fresh, registered, without_future, pair, asks_of, waker_in};
 ghost use Rattle.fi_parts.specs.NamedPairs.{has_by, waker_by, without_by, first_waker};
-ghost use Rattle.fi_parts.specs.Places.{is_told};
 ghost use Rattle.fi_parts.specs.Oldest.{pop_oldest, pair_of_oldest, asks_of_oldest, complete_oldest};
-ghost use Rattle.fi_channels.specs.Waiter.{same_waiter, of_sends, of_receives, sends_in, receives_in};
-ghost use Rattle.fi_channels.specs.TwoSidesModel.{no_waiters, notify_sends, notify_receives};
+ghost use Rattle.fi_channels.specs.Waiter.{same_waiter};
+ghost use Rattle.fi_channels.specs.TwoSidesModel.{no_waiters};
+ghost use Rattle.fi_channels.specs.SideView.{SideView, IsSide, change, change_naming, notify, sends_side, receives_side};
+ghost use Rattle.fi_channels.specs.SideLending.{LendsLine};
 
-use fi_parts::{Future, Line, NoRoom, Notice, Outbox, Phase, Slot, last_waker, waker_from};
+use fi_parts::{Future, Line, NoRoom, Notice, Outbox, Phase, Slot, release, waker_from};
 use std::alloc::Global;
 use std::marker::Model;
 
@@ -26,26 +27,107 @@ pub enum Waiter {
     Receive(usize),
 }
 
+/// The lines of both sides.
+#[derive(Drop)]
+pub struct Lines<D, E, W> {
+    sends: Line<D, W>,
+    receives: Line<E, W>,
+}
+
+/// The side of the sends.
+pub struct Sends;
+
+/// The side of the receives.
+pub struct Receives;
+
+/// One of the two sides. The calls of `TwoSides` are said once, for either.
+pub trait Side<D, E, W>: 'static {
+    /// What a future of this side asks for.
+    type Asks: Drop;
+
+    /// Which line, futures and pairs are this side's.
+    ghost side: { SideView D E Self.Asks W };
+
+    /// The future in this slot of this side.
+    fn waiter(slot: Slot) -> Waiter
+        ensures { result ≡ side.waiter slot.0 };
+
+    /// The line of this side.
+    fn line(lines: &Lines<D, E, W>) -> &Line<Self::Asks, W>
+        ensures { result.now ≡ side.line lines.now };
+
+    /// The line of this side, to be changed.
+    fn line_mut(lines: &mut Lines<D, E, W>) -> &mut Line<Self::Asks, W>
+        ensures* writes_back { sem 𝓛 (LendsLine D.row E.row Self.Asks.row W.row side lines.entry result) }
+        ensures value { result.now ≡ side.line lines.old };
+
+    ghost is_side: { IsSide side };
+}
+
+impl<D: Drop, E, W> Side<D, E, W> for Sends {
+    ghost use Rattle.fi_channels.specs.SideLaws.{sends_are_a_side};
+
+    type Asks = D;
+
+    ghost side = { sends_side };
+
+    fn waiter(slot: Slot) -> Waiter {
+        Waiter::Send(slot.0)
+    }
+
+    fn line(lines: &Lines<D, E, W>) -> &Line<D, W> {
+        &lines.sends
+    }
+
+    fn line_mut(lines: &mut Lines<D, E, W>) -> &mut Line<D, W> {
+        &mut lines.sends
+    }
+
+    ghost is_side = { sends_are_a_side };
+}
+
+impl<D, E: Drop, W> Side<D, E, W> for Receives {
+    ghost use Rattle.fi_channels.specs.SideLaws.{receives_are_a_side};
+
+    type Asks = E;
+
+    ghost side = { receives_side };
+
+    fn waiter(slot: Slot) -> Waiter {
+        Waiter::Receive(slot.0)
+    }
+
+    fn line(lines: &Lines<D, E, W>) -> &Line<E, W> {
+        &lines.receives
+    }
+
+    fn line_mut(lines: &mut Lines<D, E, W>) -> &mut Line<E, W> {
+        &mut lines.receives
+    }
+
+    ghost is_side = { receives_are_a_side };
+}
+
 /// Sends and receives by slot, each side with a queue of those that wait, and the wakers to be woken.
 /// `D` is what a send asks for, `E` what a receive asks for.
 #[derive(Drop)]
 pub struct TwoSides<D, E, W> {
-    sends: Line<D, W>,
-    receives: Line<E, W>,
+    lines: Lines<D, E, W>,
     outbox: Outbox<(Waiter, W)>,
 }
 
 impl<D, E, W> Model for TwoSides<D, E, W> {
-    ghost use Rattle.fi_channels.specs.TwoSidesModel.{TwoSidesModel, two_sides_of, AreBothTied};
+    ghost use Rattle.fi_channels.specs.TwoSidesModel.{TwoSidesModel};
+    ghost use Rattle.fi_channels.specs.SideView.{two_sides_of, AreBothTied};
     ghost use Rattle.fi_channels.specs.TwoSidedCode.{two_sides_code};
 
     ghost Value = { TwoSidesModel D E W };
 
     ghost coded = { two_sides_code D.code E.code W.code };
 
-    ghost view = { λ s. two_sides_of s.sends s.receives s.outbox };
+    ghost view = { λ s. two_sides_of s.lines s.outbox };
 
-    ghost invariant = { λ s. AreBothTied s.sends s.receives s.outbox };
+    ghost invariant = { λ s. AreBothTied s.lines s.outbox };
 }
 
 impl<D: Drop, E: Drop, W: Drop> TwoSides<D, E, W> {
@@ -54,282 +136,161 @@ impl<D: Drop, E: Drop, W: Drop> TwoSides<D, E, W> {
         ensures { result ≡ no_waiters }
     {
         TwoSides {
-            sends: Line::new(alloc),
-            receives: Line::new(alloc),
+            lines: Lines {
+                sends: Line::new(alloc),
+                receives: Line::new(alloc),
+            },
             outbox: Outbox::new(alloc),
         }
     }
 
-    /// The phase of a send; None if none lives in this slot.
-    pub fn send_phase(&self, slot: Slot) -> Option<&Phase<W>>
-        ensures { option_copied result ≡ phase_of self.now.sends slot.0 }
+    /// The phase of a future; None if none lives in this slot.
+    pub fn phase<'a, S: Side<D, E, W>>(&'a self, slot: Slot) -> Option<&'a Phase<W>>
+    where
+        S::Asks: 'a,
+        ensures { option_copied result ≡ phase_of (S.side.waiters self.now) slot.0 }
     {
-        self.sends.phase(slot)
+        S::line(&self.lines).phase(slot)
     }
 
-    /// Inserts a fresh send, in a slot that was not live.
+    /// A future: what it asks for, and its phase; None if none lives in this slot.
+    pub fn future<S: Side<D, E, W>>(&self, slot: Slot) -> Option<&Future<S::Asks, W>>
+        ensures { option_copied result ≡ map.get (S.side.waiters self.now).live slot.0 }
+    {
+        S::line(&self.lines).future(slot)
+    }
+
+    /// What the oldest future asks for that is queued; None if none is.
+    pub fn oldest_asks<S: Side<D, E, W>>(&self) -> Option<&S::Asks>
+        ensures { option_copied result ≡ asks_of_oldest (S.side.waiters self.now) }
+    {
+        let slot = S::line(&self.lines).oldest()?;
+        S::line(&self.lines).asks(slot)
+    }
+
+    /// Inserts a fresh future, in a slot that was not live.
     ///
     /// Refused if there is no memory for it or its ticket; then what it asks for comes back, and nothing has changed.
-    pub fn insert_send(&mut self, asks: D) -> Result<Slot, NoRoom<D>>
-        ensures was_free { IfOk result (λ slot. phase_of self.old.sends slot.0 ≡ None) }
-        ensures inserted { IfOk result (λ slot. self.new ≡ record self.old { sends = insert_fresh self.old.sends slot.0 asks }) }
+    pub fn insert<S: Side<D, E, W>>(&mut self, asks: S::Asks) -> Result<Slot, NoRoom<S::Asks>>
+        ensures was_free { IfOk result (λ slot. phase_of (S.side.waiters self.old) slot.0 ≡ None) }
+        ensures inserted { IfOk result (λ slot. self.new ≡ change S.side (λ side. insert_fresh side slot.0 asks) self.old) }
         ensures refused { OnErr result (self.new ≡ self.old) }
         ensures handed_back { IfErr result (λ failed. failed.0 ≡ asks) }
     {
-        let back = match self.sends.insert(&mut self.outbox, asks) {
+        let back = match S::line_mut(&mut self.lines).insert(&mut self.outbox, asks) {
             Ok(slot) => return Ok(slot),
             Err(back) => back,
         };
         Err(back)
     }
 
-    /// Takes the waker of a live send out of the outbox, in constant time; None if it was not named.
-    pub fn take_out_send(&mut self, slot: Slot) -> Option<W>
-        requires { IsLive self.old.sends slot.0 }
-        ensures waker { result ≡ waker_by same_waiter (Send slot.0) self.old.out }
-        ensures rest { self.new ≡ record self.old { out = without_by same_waiter (Send slot.0) self.old.out } }
+    /// Takes the waker of a live future out of the outbox, in constant time; None if it was not named.
+    pub fn take_out<S: Side<D, E, W>>(&mut self, slot: Slot) -> Option<W>
+        requires { IsLive (S.side.waiters self.old) slot.0 }
+        ensures waker { result ≡ waker_by same_waiter (S.side.waiter slot.0) self.old.out }
+        ensures rest { self.new ≡ record self.old { out = without_by same_waiter (S.side.waiter slot.0) self.old.out } }
     {
         if self.outbox.len() == 0 {
             return None;
         }
-        let ticket = self.sends.ticket(slot);
+        let ticket = S::line(&self.lines).ticket(slot);
         waker_from(self.outbox.take_out(ticket))
     }
 
-    /// Registers a send that is not in the queue: it goes to the queue's end.
-    pub fn register_send(&mut self, slot: Slot, waker: W)
-        requires live { IsLive self.old.sends slot.0 }
-        requires apart { holds slot.0 self.old.sends.queue ≡ false }
-        ensures { self.new ≡ record self.old { sends = registered self.old.sends slot.0 waker } }
+    /// Registers a future that is not in the queue: it goes to the queue's end.
+    pub fn register<S: Side<D, E, W>>(&mut self, slot: Slot, waker: W)
+        requires live { IsLive (S.side.waiters self.old) slot.0 }
+        requires apart { holds slot.0 (S.side.waiters self.old).queue ≡ false }
+        ensures { self.new ≡ change S.side (λ side. registered side slot.0 waker) self.old }
     {
-        self.sends.register(slot, waker);
+        S::line_mut(&mut self.lines).register(slot, waker);
     }
 
-    /// Sets the phase of a live send; its place in the queue stays. Returns the waker that it was registered with.
-    pub fn set_send_phase(&mut self, slot: Slot, phase: Phase<W>) -> Option<W>
-        requires { IsLive self.old.sends slot.0 }
-        ensures waker { MatchOption (phase_of self.old.sends slot.0) ⊥ (λ before. result ≡ waker_in before) }
-        ensures rest { self.new ≡ record self.old { sends = record self.old.sends { live = with_phase self.old.sends.live slot.0 phase } } }
+    /// Sets the phase of a live future; its place in the queue stays. Returns the waker that it was registered with.
+    pub fn set_phase<S: Side<D, E, W>>(&mut self, slot: Slot, phase: Phase<W>) -> Option<W>
+        requires { IsLive (S.side.waiters self.old) slot.0 }
+        ensures waker { MatchOption (phase_of (S.side.waiters self.old) slot.0) ⊥ (λ before. result ≡ waker_in before) }
+        ensures rest { self.new ≡ change S.side (λ side. record side { live = with_phase side.live slot.0 phase }) self.old }
     {
-        self.sends.set_phase(slot, phase)
+        S::line_mut(&mut self.lines).set_phase(slot, phase)
     }
 
-    /// Removes a live send, also from the queue and the outbox. Returns what it asked for and the waker that it had.
-    pub fn remove_send(&mut self, slot: Slot) -> (D, Option<W>)
-        requires { IsLive self.old.sends slot.0 }
-        ensures asked { asks_of self.old.sends slot.0 ≡ Some result.0 }
-        ensures waker { MatchOption (phase_of self.old.sends slot.0) ⊥
-            (λ before. result.1 ≡ waker_or before (waker_by same_waiter (Send slot.0) self.old.out)) }
-        ensures removed { self.new ≡ record self.old {
-          sends = without_future self.old.sends slot.0;
-          out = without_by same_waiter (Send slot.0) self.old.out;
-        } }
+    /// Sets what a live future asks for, and returns what it asked for.
+    pub fn exchange<S: Side<D, E, W>>(&mut self, slot: Slot, asks: S::Asks) -> S::Asks
+        requires { IsLive (S.side.waiters self.old) slot.0 }
+        ensures asked { asks_of (S.side.waiters self.old) slot.0 ≡ Some result }
+        ensures rest { self.new ≡ change S.side (λ side. exchange side slot.0 asks) self.old }
     {
-        let named = self.take_out_send(slot);
-        let entry = match self.sends.remove(slot) {
+        S::line_mut(&mut self.lines).exchange(slot, asks)
+    }
+
+    /// Removes a live future, also from the queue and the outbox. Returns it as it was, with the waker of its pair.
+    pub fn remove<S: Side<D, E, W>>(&mut self, slot: Slot) -> (Future<S::Asks, W>, Option<W>)
+        requires { IsLive (S.side.waiters self.old) slot.0 }
+        ensures future { map.get (S.side.waiters self.old).live slot.0 ≡ Some result.0 }
+        ensures waker { result.1 ≡ waker_by same_waiter (S.side.waiter slot.0) self.old.out }
+        ensures removed { self.new ≡ S.side.put self.old (without_future (S.side.waiters self.old) slot.0)
+            (without_by same_waiter (S.side.waiter slot.0) self.old.out) }
+    {
+        let entry = match S::line_mut(&mut self.lines).remove(slot) {
             Some(entry) => entry,
             None => unreachable!(),
         };
-        self.outbox.free(entry.ticket);
-        let Future { asks, phase } = entry.future;
-        (asks, last_waker(phase, named))
+        let named = release(&mut self.outbox, entry.ticket);
+        (entry.future, named)
     }
 
-    // Takes the oldest send out of the queue; None if the queue is empty.
-    fn leave_oldest_send(&mut self) -> Option<Slot>
-        ensures { MatchOption result ((self.old.sends.queue ≡ []) × (self.new ≡ self.old))
-            (λ slot. (others : List ℕ) × (self.old.sends.queue ≡ slot.0 ∷ others)
-            × (self.new ≡ record self.old { sends = record self.old.sends { queue = others } })) }
+    // Takes the oldest future out of the queue; None if the queue is empty.
+    fn leave_oldest<S: Side<D, E, W>>(&mut self) -> Option<Slot>
+        ensures { MatchOption result (((S.side.waiters self.old).queue ≡ []) × (self.new ≡ self.old))
+            (λ slot. (others : List ℕ) × ((S.side.waiters self.old).queue ≡ slot.0 ∷ others)
+            × (self.new ≡ change S.side (λ side. record side { queue = others }) self.old)) }
     {
-        let slot = self.sends.leave_oldest()?;
+        let slot = S::line_mut(&mut self.lines).leave_oldest()?;
         Some(slot)
     }
 
-    /// What the oldest send asks for that is queued; None if none is.
-    pub fn oldest_send_asks(&self) -> Option<&D>
-        ensures { option_copied result ≡ asks_of_oldest self.now.sends }
+    // Sets the phase of a registered future, and names it with the waker that it was registered with.
+    fn notice<S: Side<D, E, W>>(&mut self, slot: Slot, phase: Phase<W>)
+        requires registered { is_registered (phase_of (S.side.waiters self.old) slot.0) ≡ true }
+        requires no_pair { has_by same_waiter (S.side.waiter slot.0) self.old.out ≡ false }
+        ensures { self.new ≡ change_naming S.side (λ side. record side { live = with_phase side.live slot.0 phase })
+            (λ side. pair side slot.0) self.old }
     {
-        let slot = self.sends.oldest()?;
-        self.sends.asks(slot)
+        let (ticket, waker) = S::line_mut(&mut self.lines).notice(slot, phase);
+        self.outbox.name(ticket, (S::waiter(slot), waker.unwrap()));
     }
 
-    // Sets the phase of a registered send, and names it with the waker that it was registered with.
-    fn notice_send(&mut self, slot: Slot, phase: Phase<W>)
-        requires registered { is_registered (phase_of self.old.sends slot.0) ≡ true }
-        requires no_pair { has_by same_waiter (Send slot.0) self.old.out ≡ false }
-        ensures { self.new ≡ record self.old {
-          sends = record self.old.sends { live = with_phase self.old.sends.live slot.0 phase };
-          out = self.old.out ++ of_sends (pair self.old.sends slot.0);
-        } }
+    /// Notices all queued futures of a side, the oldest first: each leaves the queue and is named.
+    pub fn notice_all<S: Side<D, E, W>>(&mut self, notice: Notice)
+        requires { IsOrdered (S.side.waiters self.old) (S.side.pairs_in self.old.out) }
+        ensures { self.new ≡ notify S.side (phase_after notice) self.old }
     {
-        let (ticket, waker) = self.sends.notice(slot, phase);
-        self.outbox
-            .name(ticket, (Waiter::Send(slot.0), waker.unwrap()));
-    }
-
-    /// Notices all queued sends, the oldest first: each leaves the queue and is named.
-    pub fn notice_all_sends(&mut self, notice: Notice)
-        requires { IsOrdered self.old.sends (sends_in self.old.out) }
-        ensures { self.new ≡ notify_sends (phase_after notice) self.old }
-    {
-        while let Some(slot) = self.leave_oldest_send() {
-            self.notice_send(slot, notice.phase());
+        while let Some(slot) = self.leave_oldest::<S>() {
+            self.notice::<S>(slot, notice.phase());
         }
     }
 
-    /// Sets what a live send asks for, and returns what it asked for.
-    pub fn exchange_send(&mut self, slot: Slot, asks: D) -> D
-        requires { IsLive self.old.sends slot.0 }
-        ensures asked { asks_of self.old.sends slot.0 ≡ Some result }
-        ensures rest { self.new ≡ record self.old { sends = exchange self.old.sends slot.0 asks } }
+    /// Takes the oldest future out of the queue, makes it complete and names it. Returns what it asked for, in place of which
+    /// `left` is set; None, and `left` is dropped, if none is queued.
+    pub fn complete_oldest<S: Side<D, E, W>>(&mut self, left: S::Asks) -> Option<S::Asks>
+        requires { IsOrdered (S.side.waiters self.old) (S.side.pairs_in self.old.out) }
+        ensures asked { result ≡ asks_of_oldest (S.side.waiters self.old) }
+        ensures rest { self.new ≡ change_naming S.side (complete_oldest left) pair_of_oldest self.old }
     {
-        self.sends.exchange(slot, asks)
-    }
-
-    /// Takes the oldest send out of the queue, makes it complete and names it. Returns what it asked for, in place of which
-    /// `left` is set; None, and `left` is dropped, if no send is queued.
-    pub fn complete_oldest_send(&mut self, left: D) -> Option<D>
-        requires { IsOrdered self.old.sends (sends_in self.old.out) }
-        ensures asked { result ≡ asks_of_oldest self.old.sends }
-        ensures rest { self.new ≡ record self.old {
-          sends = complete_oldest left self.old.sends;
-          out = self.old.out ++ of_sends (pair_of_oldest self.old.sends);
-        } }
-    {
-        let slot = self.leave_oldest_send()?;
-        let asked = self.exchange_send(slot, left);
-        self.notice_send(slot, Phase::Complete);
+        let slot = self.leave_oldest::<S>()?;
+        let asked = self.exchange::<S>(slot, left);
+        self.notice::<S>(slot, Phase::Complete);
         Some(asked)
     }
 
-    /// The phase of a receive; None if none lives in this slot.
-    pub fn receive_phase(&self, slot: Slot) -> Option<&Phase<W>>
-        ensures { option_copied result ≡ phase_of self.now.receives slot.0 }
+    /// Takes the oldest future out of the queue, tells it and names it, if one is queued.
+    pub fn tell_oldest<S: Side<D, E, W>>(&mut self)
+        requires { IsOrdered (S.side.waiters self.old) (S.side.pairs_in self.old.out) }
+        ensures { self.new ≡ change_naming S.side (pop_oldest Phase.Told) pair_of_oldest self.old }
     {
-        self.receives.phase(slot)
-    }
-
-    /// A receive: what it asks for, and its phase; None if none lives in this slot.
-    pub fn receive_future(&self, slot: Slot) -> Option<&Future<E, W>>
-        ensures { option_copied result ≡ map.get self.now.receives.live slot.0 }
-    {
-        self.receives.future(slot)
-    }
-
-    /// Inserts a fresh receive, in a slot that was not live.
-    ///
-    /// Refused if there is no memory for it or its ticket; then what it asks for comes back, and nothing has changed.
-    pub fn insert_receive(&mut self, asks: E) -> Result<Slot, NoRoom<E>>
-        ensures was_free { IfOk result (λ slot. phase_of self.old.receives slot.0 ≡ None) }
-        ensures inserted { IfOk result (λ slot. self.new ≡ record self.old { receives = insert_fresh self.old.receives slot.0 asks }) }
-        ensures refused { OnErr result (self.new ≡ self.old) }
-        ensures handed_back { IfErr result (λ failed. failed.0 ≡ asks) }
-    {
-        let back = match self.receives.insert(&mut self.outbox, asks) {
-            Ok(slot) => return Ok(slot),
-            Err(back) => back,
-        };
-        Err(back)
-    }
-
-    /// Takes the waker of a live receive out of the outbox, in constant time; None if it was not named.
-    pub fn take_out_receive(&mut self, slot: Slot) -> Option<W>
-        requires { IsLive self.old.receives slot.0 }
-        ensures waker { result ≡ waker_by same_waiter (Receive slot.0) self.old.out }
-        ensures rest { self.new ≡ record self.old { out = without_by same_waiter (Receive slot.0) self.old.out } }
-    {
-        if self.outbox.len() == 0 {
-            return None;
-        }
-        let ticket = self.receives.ticket(slot);
-        waker_from(self.outbox.take_out(ticket))
-    }
-
-    /// Registers a receive that is not in the queue: it goes to the queue's end.
-    pub fn register_receive(&mut self, slot: Slot, waker: W)
-        requires live { IsLive self.old.receives slot.0 }
-        requires apart { holds slot.0 self.old.receives.queue ≡ false }
-        ensures { self.new ≡ record self.old { receives = registered self.old.receives slot.0 waker } }
-    {
-        self.receives.register(slot, waker);
-    }
-
-    /// Sets the phase of a live receive; its place in the queue stays. Returns the waker that it was registered with.
-    pub fn set_receive_phase(&mut self, slot: Slot, phase: Phase<W>) -> Option<W>
-        requires { IsLive self.old.receives slot.0 }
-        ensures waker { MatchOption (phase_of self.old.receives slot.0) ⊥ (λ before. result ≡ waker_in before) }
-        ensures rest { self.new ≡ record self.old {
-          receives = record self.old.receives { live = with_phase self.old.receives.live slot.0 phase };
-        } }
-    {
-        self.receives.set_phase(slot, phase)
-    }
-
-    /// Removes a live receive, also from the queue and the outbox. Returns whether it was told, and the waker that it had.
-    pub fn remove_receive(&mut self, slot: Slot) -> (bool, Option<W>)
-        requires { IsLive self.old.receives slot.0 }
-        ensures told { result.0 ≡ is_told (phase_of self.old.receives slot.0) }
-        ensures waker { MatchOption (phase_of self.old.receives slot.0) ⊥
-            (λ before. result.1 ≡ waker_or before (waker_by same_waiter (Receive slot.0) self.old.out)) }
-        ensures removed { self.new ≡ record self.old {
-          receives = without_future self.old.receives slot.0;
-          out = without_by same_waiter (Receive slot.0) self.old.out;
-        } }
-    {
-        let named = self.take_out_receive(slot);
-        let entry = match self.receives.remove(slot) {
-            Some(entry) => entry,
-            None => unreachable!(),
-        };
-        self.outbox.free(entry.ticket);
-        let phase = entry.future.phase;
-        (phase.is_told(), last_waker(phase, named))
-    }
-
-    // Takes the oldest receive out of the queue; None if the queue is empty.
-    fn leave_oldest_receive(&mut self) -> Option<Slot>
-        ensures { MatchOption result ((self.old.receives.queue ≡ []) × (self.new ≡ self.old))
-            (λ slot. (others : List ℕ) × (self.old.receives.queue ≡ slot.0 ∷ others)
-            × (self.new ≡ record self.old { receives = record self.old.receives { queue = others } })) }
-    {
-        let slot = self.receives.leave_oldest()?;
-        Some(slot)
-    }
-
-    // Sets the phase of a registered receive, and names it with the waker that it was registered with.
-    fn notice_receive(&mut self, slot: Slot, phase: Phase<W>)
-        requires registered { is_registered (phase_of self.old.receives slot.0) ≡ true }
-        requires no_pair { has_by same_waiter (Receive slot.0) self.old.out ≡ false }
-        ensures { self.new ≡ record self.old {
-          receives = record self.old.receives { live = with_phase self.old.receives.live slot.0 phase };
-          out = self.old.out ++ of_receives (pair self.old.receives slot.0);
-        } }
-    {
-        let (ticket, waker) = self.receives.notice(slot, phase);
-        self.outbox
-            .name(ticket, (Waiter::Receive(slot.0), waker.unwrap()));
-    }
-
-    /// Notices all queued receives, the oldest first: each leaves the queue and is named.
-    pub fn notice_all_receives(&mut self, notice: Notice)
-        requires { IsOrdered self.old.receives (receives_in self.old.out) }
-        ensures { self.new ≡ notify_receives (phase_after notice) self.old }
-    {
-        while let Some(slot) = self.leave_oldest_receive() {
-            self.notice_receive(slot, notice.phase());
-        }
-    }
-
-    /// Takes the oldest receive out of the queue, tells it and names it, if one is queued.
-    pub fn tell_oldest_receive(&mut self)
-        requires { IsOrdered self.old.receives (receives_in self.old.out) }
-        ensures { self.new ≡ record self.old {
-          receives = pop_oldest Phase.Told self.old.receives;
-          out = self.old.out ++ of_receives (pair_of_oldest self.old.receives);
-        } }
-    {
-        if let Some(slot) = self.leave_oldest_receive() {
-            self.notice_receive(slot, Phase::Told);
+        if let Some(slot) = self.leave_oldest::<S>() {
+            self.notice::<S>(slot, Phase::Told);
         }
     }
 

@@ -1,7 +1,7 @@
 -- The entries of a list, seen as a line of futures with tickets.
 use Rattle.std.proofs.Common.{◌≡◌, ℕ, Bool, true, false, Bor, List, [], ◌∷◌, ◌++◌, Option, Some, None, MatchOption, is_some}
 use Rattle.std.proofs.Common.{option_copied, cond, map, reverse, refl, sym, ap, ◌∙◌, inl, inr}
-use Rattle.std.proofs.lemmas.Bool.{cases_eq, both_ways}
+use Rattle.std.proofs.lemmas.Bool.{cases_eq}
 use Rattle.std.proofs.lemmas.List.{reverse-append, reverse-reverse, append_assoc}
 use Rattle.std.specs.Option.{IsSome, option_map}
 use Rattle.std.specs.Ordering.{nat_cmp, eq_by_cmp}
@@ -14,7 +14,7 @@ use Rattle.fi_parts.specs.declared.outbox.Ticket.{Ticket}
 use Rattle.fi_parts.specs.declared.line.Entry.{Entry}
 use Rattle.fi_parts.specs.ListModel.{ListModel, item_of, with_live, at_end}
 use Rattle.fi_parts.specs.Order.{holds, without, youngest}
-use Rattle.fi_parts.specs.Waiting.{phase_in, phase_of, asks_in, asks_of, is_registered, waker_in, insert_fresh, registered, without_future}
+use Rattle.fi_parts.specs.Waiting.{phase_in, phase_of, asks_in, asks_of, waker_in, insert_fresh, registered, without_future}
 use Rattle.fi_parts.specs.Waiting.{rephased, pair_of, with_phase, with_asks_in, with_asks}
 use Rattle.fi_parts.specs.LineModel.{LineModel, mapped, future_of, ticket_of, line_of, empty_line}
 use Rattle.fi_parts.proofs.FiniteMaps.{get-insert_same, get-insert_other, get-remove_same, get-remove_other}
@@ -276,17 +276,6 @@ some_from_copied None h = h
 some_from_copied (Some x) h = refl
 
 module _ {W : Type 0} where
-  -- the waker that a registered one gives when its phase is set
-  pub its_waker : (p : Option (Phase W)) (r : Option W) → is_registered p ≡ true →
-      MatchOption p ⊥ (λ before. r ≡ waker_in before) →
-      (w : W) × (p ≡ Some (Registered w)) × (r ≡ Some w)
-  its_waker None r h e = absurd e
-  its_waker (Some Fresh) r h e = absurd (both_ways false refl h)
-  its_waker (Some (Registered w)) r h e = (w, refl, e)
-  its_waker (Some Told) r h e = absurd (both_ways false refl h)
-  its_waker (Some Complete) r h e = absurd (both_ways false refl h)
-  its_waker (Some Ended) r h e = absurd (both_ways false refl h)
-
   -- who gave a waker was registered with it
   pub registered_with : (p : Option (Phase W)) (r : Option W) (w : W) →
       MatchOption p ⊥ (λ before. r ≡ waker_in before) → r ≡ Some w → p ≡ Some (Registered w)
@@ -306,13 +295,6 @@ module _ {W : Type 0} where
   pairless (Some Told) r n h e = refl
   pairless (Some Complete) r n h e = refl
   pairless (Some Ended) r n h e = refl
-
-  pub some_is : (r : Option W) (w : W) → r ≡ Some w → IsSome r
-  some_is None w e = cc
-  some_is (Some v) w e = refl
-
-  pub same_waker : (r : Option W) (v w : W) → r ≡ Some w → r ≡ Some v → v ≡ w
-  same_waker r v w e f = cc
 
 module _ {D W : Type 0} where
   -- the tickets stay, whoever left the queue

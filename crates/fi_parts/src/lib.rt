@@ -32,7 +32,7 @@ pub use deadlines::{Deadlines, Timed};
 pub use drain::{Drain, ReverseDrain};
 pub use errors::{ChannelSendError, CloseStatus, Fault, NoRoom, Slot, StateId};
 pub use heap::PairingHeap;
-pub use line::{Entry, Line, last_waker, waker_from};
+pub use line::{Entry, Line, last_waker, release, waker_from};
 pub use list::LinkedList;
 pub use outbox::{Outbox, Ticket};
 pub use phase::{Future, Leftover, Notice, Phase};

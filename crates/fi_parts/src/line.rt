@@ -5,7 +5,7 @@ ghost use Rattle.std.specs.FinMap as map;
 ghost use Rattle.std.specs.FinSet as set;
 ghost use Rattle.fi_parts.specs.Order.{holds, without, youngest};
 ghost use Rattle.fi_parts.specs.ListModel.{item, item_of, with_live, at_end};
-ghost use Rattle.fi_parts.specs.Pairs.{with_tickets};
+ghost use Rattle.fi_parts.specs.Pairs.{with_tickets, waker_of, without_pair};
 ghost use Rattle.fi_parts.specs.NamedPairs.{waker_in_pair};
 ghost use Rattle.fi_parts.specs.Waiting.{with_phase, exchange, phase_of, IsLive, insert_fresh, registered};
 ghost use Rattle.fi_parts.specs.Waiting.{without_future, asks_of, is_registered, waker_in, waker_or};
@@ -54,6 +54,30 @@ pub fn waker_from<N: Drop, W>(pair: Option<(N, W)>) -> Option<W>
         Some((_, waker)) => Some(waker),
         None => None,
     }
+}
+
+/// Gives a live ticket back, and takes its pair out of the outbox. Returns the waker of the pair; None if there is none.
+pub fn release<N: Drop, W: Drop>(outbox: &mut Outbox<(N, W)>, ticket: Ticket) -> Option<W>
+    requires { set.contains outbox.old.tickets ticket.0 ≡ true }
+    ensures waker { result ≡ waker_in_pair (waker_of ticket.0 outbox.old.pairs) }
+    ensures tickets { outbox.new.tickets ≡ set.remove outbox.old.tickets ticket.0 }
+    ensures pairs { outbox.new.pairs ≡ without_pair ticket.0 outbox.old.pairs }
+{
+    let named = take_pair(outbox, ticket);
+    outbox.free(ticket);
+    named
+}
+
+// Takes a ticket's pair out of the outbox, and gives its waker; None where it has none.
+fn take_pair<N: Drop, W: Drop>(outbox: &mut Outbox<(N, W)>, ticket: Ticket) -> Option<W>
+    ensures waker { result ≡ waker_in_pair (waker_of ticket.0 outbox.old.pairs) }
+    ensures tickets { outbox.new.tickets ≡ outbox.old.tickets }
+    ensures pairs { outbox.new.pairs ≡ without_pair ticket.0 outbox.old.pairs }
+{
+    if outbox.len() == 0 {
+        return None;
+    }
+    waker_from(outbox.take_out(ticket))
 }
 
 /// The waker that a future was registered with, or else that of its pair.

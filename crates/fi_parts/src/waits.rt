@@ -4,7 +4,6 @@ ghost use Rattle.std.specs.Prelude.{IfOk, OnErr, IfErr, IfSome, IfNone, OnSome, 
 ghost use Rattle.std.specs.FinMap as map;
 ghost use Rattle.fi_parts.specs.Order.{holds, without};
 ghost use Rattle.fi_parts.specs.Pairs.{has, waker_of, without_pair, oldest};
-ghost use Rattle.fi_parts.specs.NamedPairs.{waker_in_pair};
 ghost use Rattle.fi_parts.specs.Noticed.{phase_after};
 ghost use Rattle.fi_parts.specs.Polled.{unused_after, can_be_polled};
 ghost use Rattle.fi_parts.specs.WaiterPolls.{PollsWaiter};
@@ -13,8 +12,8 @@ ghost use Rattle.fi_parts.specs.Waiting.{told_one, is_registered, no_futures, in
 ghost use Rattle.fi_parts.specs.Waiting.{pair, asks_of, waker_in, notify_all, displaced};
 
 use crate::errors::{NoRoom, Slot};
-use crate::line::{Line, last_waker, waker_from};
-use crate::outbox::{Outbox, Ticket};
+use crate::line::{Line, last_waker, release, waker_from};
+use crate::outbox::Outbox;
 use crate::phase::{Future, Leftover, Notice, Phase, PollStep};
 use futures::task::Poll;
 use std::alloc::Global;
@@ -39,18 +38,6 @@ impl<D, W> Model for Waits<D, W> {
     ghost view = { λ s. waiting_of s.line s.outbox };
 
     ghost invariant = { λ s. AreTied s.line s.outbox };
-}
-
-// Takes a ticket's pair out of the outbox, and gives its waker; None where it has none.
-fn take_pair<N: Drop, W: Drop>(outbox: &mut Outbox<(N, W)>, ticket: Ticket) -> Option<W>
-    ensures waker { result ≡ waker_in_pair (waker_of ticket.0 outbox.old.pairs) }
-    ensures tickets { outbox.new.tickets ≡ outbox.old.tickets }
-    ensures pairs { outbox.new.pairs ≡ without_pair ticket.0 outbox.old.pairs }
-{
-    if outbox.len() == 0 {
-        return None;
-    }
-    waker_from(outbox.take_out(ticket))
 }
 
 impl<D: Drop, W: Drop> Waits<D, W> {
@@ -214,8 +201,7 @@ impl<D: Drop, W: Drop> Waits<D, W> {
             Some(entry) => entry,
             None => return None,
         };
-        let named = take_pair(&mut self.outbox, entry.ticket);
-        self.outbox.free(entry.ticket);
+        let named = release(&mut self.outbox, entry.ticket);
         Some((entry.future, named))
     }
 
@@ -253,26 +239,16 @@ impl<D: Drop, W: Drop> Waits<D, W> {
         self.line.leave(slot);
     }
 
-    /// Names a registered future that is not named yet, and gives it this phase.
+    /// Gives a live future this phase, and names its waker if it was registered. Its place in the queue stays.
     pub fn notice(&mut self, slot: Slot, phase: Phase<W>)
-        requires registered { is_registered (phase_of self.old.side slot.0) ≡ true }
-        requires no_pair { has slot.0 self.old.out ≡ false }
+        requires live { IsLive self.old.side slot.0 }
+        requires no_pair { is_registered (phase_of self.old.side slot.0) ≡ true → has slot.0 self.old.out ≡ false }
         ensures { self.new ≡ record {
           side = record self.old.side { live = with_phase self.old.side.live slot.0 phase };
           out = self.old.out ++ pair self.old.side slot.0;
         } }
     {
         let (ticket, waker) = self.line.notice(slot, phase);
-        self.outbox.name(ticket, (slot.0, waker.unwrap()));
-    }
-
-    /// Tells a registered future and names its waker; a told one stays as it is. Its place in the queue stays.
-    pub fn mark_told(&mut self, slot: Slot)
-        requires waits { is_queued true (phase_of self.old.side slot.0) ≡ true }
-        requires no_pair { is_registered (phase_of self.old.side slot.0) ≡ true → has slot.0 self.old.out ≡ false }
-        ensures { self.new ≡ told_one true self.old slot.0 }
-    {
-        let (ticket, waker) = self.line.notice(slot, Phase::Told);
         if let Some(waker) = waker {
             self.outbox.name(ticket, (slot.0, waker));
         }
@@ -285,7 +261,7 @@ impl<D: Drop, W: Drop> Waits<D, W> {
         requires queued { holds slot.0 self.old.side.queue ≡ true }
         ensures { self.new ≡ told_one keeps_place self.old slot.0 }
     {
-        self.mark_told(slot);
+        self.notice(slot, Phase::Told);
         if !keeps_place {
             self.leave(slot);
         }

@@ -19,7 +19,7 @@ returns-then-due-now-clause-told g c =
     (refl, none_come c.args.waits.now c.args.heap.now c.requires.seated _ _ c.in-Some.ensures c.args.now c.if-due-now.true)
 
 pub notice-requires-clause-no_pair : goal.notice-requires-clause-no_pair
-notice-requires-clause-no_pair g c =
+notice-requires-clause-no_pair g c = λ _.
     c.requires.no_pair _ (first_entered c.args.waits.now c.args.heap.now c.requires.seated _ _ c.in-Some.ensures)
 
 pub returns-clause-seated : goal.returns-clause-seated

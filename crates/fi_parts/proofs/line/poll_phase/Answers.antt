@@ -1,6 +1,5 @@
 use Rattle.std.proofs.Common.{◌≡◌, Some, rules, refl, sym, ap, ◌∙◌}
 use Rattle.std.proofs.lemmas.Bool.{not-true, not-false}
-use Rattle.fi_parts.specs.declared.line.Entry.{Entry}
 use Rattle.fi_parts.specs.LinePolls.{phase_in_entry}
 use Rattle.fi_parts.specs.ListModel.{item, with_live}
 use Rattle.fi_parts.specs.Polled.{can_be_polled}

@@ -6,5 +6,5 @@ pub returns-in-Some-Ended-clause-polled : goal.returns-in-Some-Ended-clause-poll
 returns-in-Some-Ended-clause-polled g c =
     ends_again (g.B.RingBuf.bounded c.args.self.now.buffer) c.args.self.now.waiters c.args.self.now.is_open c.args.slot.0
     c.args.waker
-    (sym c.in-Some-Ended.ensures ∙ ap Some c.in-Some-Ended.field-0-is) c.take_out_receive-named.new.self
-    c.take_out_receive-named.ensures.rest
+    (sym c.in-Some-Ended.ensures ∙ ap Some c.in-Some-Ended.field-0-is) c.take_out-named.new.self
+    c.take_out-named.ensures.rest

@@ -11,38 +11,38 @@ use Rattle.fi_channels.proofs.ChannelSteps.{ended_then, exchanged_then, lives_ex
 use Rattle.fi_channels.proofs.ChannelSteps.{closed_sends, room_sends, full_sends, waits_then, ordered_beside}
 use Rattle.fi_channels.proofs.channel_fields.ChannelFields.send_fresh.Goals as goal
 
-pub exchange_send-requires : goal.exchange_send-requires
-exchange_send-requires g c =
+pub exchange-requires-after_bounds : goal.exchange-requires-after_bounds
+exchange-requires-after_bounds g c _ _ =
     ended_lives (g.B.RingBuf.bounded c.args.self.now.buffer) c.args.self.now.waiters c.args.self.now.is_open c.args.slot.0
     c.requires.fresh
-    c.take_out_send-named.new.self c.set_send_phase.new.self c.take_out_send-named.ensures.rest c.set_send_phase.ensures.rest
+    c.take_out-named.new.self c.set_phase.new.self c.take_out-named.ensures.rest c.set_phase.ensures.rest
 
 pub unwrap-value-requires : goal.unwrap-value-requires
 unwrap-value-requires g c =
-    fresh_asks _ _ _ _ c.requires.sound c.requires.fresh c.exchange_send.result
+    fresh_asks _ _ _ _ c.requires.sound c.requires.fresh c.exchange.result
     (ended_asks (g.B.RingBuf.bounded c.args.self.now.buffer) c.args.self.now.waiters c.args.self.now.is_open c.args.slot.0
-    c.take_out_send-named.new.self c.set_send_phase.new.self c.take_out_send-named.ensures.rest c.set_send_phase.ensures.rest
-    c.exchange_send.result c.exchange_send.ensures.asked)
+    c.take_out-named.new.self c.set_phase.new.self c.take_out-named.ensures.rest c.set_phase.ensures.rest
+    c.exchange.result c.exchange.ensures.asked)
 
 pub returns-then-not-self-clause-polled : goal.returns-then-not-self-clause-polled
 returns-then-not-self-clause-polled g c =
     closed_sends _ c.args.self.now.waiters _ _ c.args.waker c.unwrap-value.result c.requires.fresh
     (ended_asks (g.B.RingBuf.bounded c.args.self.now.buffer) c.args.self.now.waiters c.args.self.now.is_open c.args.slot.0
-    c.take_out_send-named.new.self c.set_send_phase.new.self c.take_out_send-named.ensures.rest c.set_send_phase.ensures.rest
-    c.exchange_send.result c.exchange_send.ensures.asked ∙ ap Some c.unwrap-value.ensures)
-    c.if-not-self.true c.exchange_send.new.self
+    c.take_out-named.new.self c.set_phase.new.self c.take_out-named.ensures.rest c.set_phase.ensures.rest
+    c.exchange.result c.exchange.ensures.asked ∙ ap Some c.unwrap-value.ensures)
+    c.if-not-self.true c.exchange.new.self
     (ended_then (g.B.RingBuf.bounded c.args.self.now.buffer) c.args.self.now.waiters c.args.self.now.is_open c.args.slot.0
-    c.take_out_send-named.new.self c.set_send_phase.new.self c.exchange_send.new.self c.take_out_send-named.ensures.rest
-    c.set_send_phase.ensures.rest c.exchange_send.ensures.rest)
+    c.take_out-named.new.self c.set_phase.new.self c.exchange.new.self c.take_out-named.ensures.rest
+    c.set_phase.ensures.rest c.exchange.ensures.rest)
 
-pub tell_oldest_receive-requires : goal.tell_oldest_receive-requires
-tell_oldest_receive-requires g c =
+pub tell_oldest-requires-after_bounds : goal.tell_oldest-requires-after_bounds
+tell_oldest-requires-after_bounds g c _ _ =
     ordered_beside _ c.args.self.now.waiters _ c.args.slot.0 c.requires.sound
-    (registered c.args.self.now.waiters.sends c.args.slot.0 c.args.waker) c.register_send.new.self
+    (registered c.args.self.now.waiters.sends c.args.slot.0 c.args.waker) c.register.new.self
     (waits_then (g.B.RingBuf.bounded c.args.self.now.buffer) c.args.self.now.waiters c.args.self.now.is_open c.args.slot.0
     c.args.waker
-    c.take_out_send-named-then-not-can_push.new.self c.register_send.new.self c.take_out_send-named-then-not-can_push.ensures.rest
-    c.register_send.ensures)
+    c.take_out-named-then-not-can_push.new.self c.register.new.self c.take_out-named-then-not-can_push.ensures.rest
+    c.register.ensures)
 
 pub returns-then-not-can_push-clause-polled : goal.returns-then-not-can_push-clause-polled
 returns-then-not-can_push-clause-polled g c =
@@ -54,16 +54,16 @@ returns-then-not-can_push-clause-polled g c =
     sym c.can_push.ensures.room ∙ c.if-not-can_push.true in
     full_sends (g.B.RingBuf.bounded c.args.self.now.buffer) c.args.self.now.waiters c.args.self.now.is_open c.args.slot.0
     c.args.waker owned.0
-    c.requires.fresh owned.1 c.if-not-self.false full c.register_send.new.self c.tell_oldest_receive.new.self
+    c.requires.fresh owned.1 c.if-not-self.false full c.register.new.self c.tell_oldest.new.self
     (waits_then (g.B.RingBuf.bounded c.args.self.now.buffer) c.args.self.now.waiters c.args.self.now.is_open c.args.slot.0
     c.args.waker
-    c.take_out_send-named-then-not-can_push.new.self c.register_send.new.self c.take_out_send-named-then-not-can_push.ensures.rest
-    c.register_send.ensures) c.tell_oldest_receive.ensures
+    c.take_out-named-then-not-can_push.new.self c.register.new.self c.take_out-named-then-not-can_push.ensures.rest
+    c.register.ensures) c.tell_oldest.ensures
 
-pub exchange_send-requires-in-Err : goal.exchange_send-requires-in-Err
-exchange_send-requires-in-Err g c =
+pub exchange-requires-in-Err-after_bounds : goal.exchange-requires-in-Err-after_bounds
+exchange-requires-in-Err-after_bounds g c _ _ =
     lives_exchanged (g.B.RingBuf.bounded c.args.self.now.buffer) c.args.self.now.waiters c.args.self.now.is_open c.args.slot.0
-    c.requires.fresh c.exchange_send-2.new.self c.args.self.now.waiters.out c.exchange_send-2.ensures.rest
+    c.requires.fresh c.exchange-2.new.self c.args.self.now.waiters.out c.exchange-2.ensures.rest
 
 pub returns-in-Err-clause-polled : goal.returns-in-Err-clause-polled
 returns-in-Err-clause-polled g c =
@@ -74,42 +74,42 @@ returns-in-Err-clause-polled g c =
     omega (arith, why.2, room) in
     let back =
     put_back (g.B.RingBuf.bounded c.args.self.now.buffer) c.args.self.now.waiters c.args.self.now.is_open c.args.slot.0
-    c.in-Err.field-0.0 c.requires.fresh (c.exchange_send-2.ensures.asked ∙ ap Some (c.unwrap-value-2.ensures
+    c.in-Err.field-0.0 c.requires.fresh (c.exchange-2.ensures.asked ∙ ap Some (c.unwrap-value-2.ensures
     ∙ ap Some (sym why.0)))
-    c.exchange_send-2.new.self c.exchange_send-in-Err.new.self c.exchange_send-2.ensures.rest
-    c.exchange_send-in-Err.ensures.rest in
+    c.exchange-2.new.self c.exchange-in-Err.new.self c.exchange-2.ensures.rest
+    c.exchange-in-Err.ensures.rest in
     (refl, c.requires.fresh, (c.if-not-self.false, why.2, grows), λ i. machine (why.1 i) (back i) c.args.self.now.is_open)
 
-pub take_out_send-named-requires-2 : goal.take_out_send-named-requires-2
-take_out_send-named-requires-2 g c =
+pub take_out-named-requires-2-after_bounds : goal.take_out-named-requires-2-after_bounds
+take_out-named-requires-2-after_bounds g c _ _ =
     lives_exchanged (g.B.RingBuf.bounded c.args.self.now.buffer) c.args.self.now.waiters c.args.self.now.is_open c.args.slot.0
-    c.requires.fresh c.exchange_send-2.new.self c.args.self.now.waiters.out c.exchange_send-2.ensures.rest
+    c.requires.fresh c.exchange-2.new.self c.args.self.now.waiters.out c.exchange-2.ensures.rest
 
-pub set_send_phase-requires-2 : goal.set_send_phase-requires-2
-set_send_phase-requires-2 g c =
-    unpaired_lives c.exchange_send-2.new.self c.take_out_send-named-2.new.self c.args.slot.0
+pub set_phase-requires-2-after_bounds : goal.set_phase-requires-2-after_bounds
+set_phase-requires-2-after_bounds g c _ _ =
+    unpaired_lives c.exchange-2.new.self c.take_out-named-2.new.self c.args.slot.0
     (without_by same_waiter (Send c.args.slot.0)
-    (TwoSidesModel.out c.exchange_send-2.new.self)) c.take_out_send-named-2.ensures.rest
+    (TwoSidesModel.out c.exchange-2.new.self)) c.take_out-named-2.ensures.rest
     (lives_exchanged (g.B.RingBuf.bounded c.args.self.now.buffer) c.args.self.now.waiters c.args.self.now.is_open c.args.slot.0
-    c.requires.fresh c.exchange_send-2.new.self c.args.self.now.waiters.out c.exchange_send-2.ensures.rest)
+    c.requires.fresh c.exchange-2.new.self c.args.self.now.waiters.out c.exchange-2.ensures.rest)
 
-pub tell_oldest_receive-requires-2 : goal.tell_oldest_receive-requires-2
-tell_oldest_receive-requires-2 g c =
-    ordered_beside _ c.args.self.now.waiters _ c.args.slot.0 c.requires.sound _ c.set_send_phase-2.new.self
+pub tell_oldest-requires-2-after_bounds : goal.tell_oldest-requires-2-after_bounds
+tell_oldest-requires-2-after_bounds g c _ _ =
+    ordered_beside _ c.args.self.now.waiters _ c.args.slot.0 c.requires.sound _ c.set_phase-2.new.self
     (exchanged_then (g.B.RingBuf.bounded c.args.self.now.buffer) c.args.self.now.waiters c.args.self.now.is_open c.args.slot.0
-    c.requires.fresh c.exchange_send-2.new.self c.take_out_send-named-2.new.self c.set_send_phase-2.new.self
-    c.exchange_send-2.ensures.rest
-    c.take_out_send-named-2.ensures.rest c.set_send_phase-2.ensures.rest)
+    c.requires.fresh c.exchange-2.new.self c.take_out-named-2.new.self c.set_phase-2.new.self
+    c.exchange-2.ensures.rest
+    c.take_out-named-2.ensures.rest c.set_phase-2.ensures.rest)
 
 pub returns-clause-polled : goal.returns-clause-polled
 returns-clause-polled g c =
     room_sends _ c.args.self.now.waiters _ _ c.args.waker c.unwrap-value-2.result c.requires.fresh
-    (c.exchange_send-2.ensures.asked ∙ ap Some c.unwrap-value-2.ensures) c.if-not-self.false
+    (c.exchange-2.ensures.asked ∙ ap Some c.unwrap-value-2.ensures) c.if-not-self.false
     (sym c.can_push.ensures.room ∙ c.if-not-can_push.false) (g.B.RingBuf.bounded c.push.new.self)
     (stored (g.B.RingBuf.bounded c.args.self.now.buffer) (g.B.RingBuf.bounded c.push.new.self) c.args.self.now.is_open
     c.unwrap-value-2.result c.in_default.ensures.ok c.push.ensures.grows c.push.ensures.stays c.push.ensures.fits)
-    c.set_send_phase-2.new.self c.tell_oldest_receive-2.new.self
+    c.set_phase-2.new.self c.tell_oldest-2.new.self
     (exchanged_then (g.B.RingBuf.bounded c.args.self.now.buffer) c.args.self.now.waiters c.args.self.now.is_open c.args.slot.0
-    c.requires.fresh c.exchange_send-2.new.self c.take_out_send-named-2.new.self c.set_send_phase-2.new.self
-    c.exchange_send-2.ensures.rest
-    c.take_out_send-named-2.ensures.rest c.set_send_phase-2.ensures.rest) c.tell_oldest_receive-2.ensures
+    c.requires.fresh c.exchange-2.new.self c.take_out-named-2.new.self c.set_phase-2.new.self
+    c.exchange-2.ensures.rest
+    c.take_out-named-2.ensures.rest c.set_phase-2.ensures.rest) c.tell_oldest-2.ensures

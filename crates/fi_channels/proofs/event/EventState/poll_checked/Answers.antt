@@ -1,4 +1,4 @@
-use Rattle.std.proofs.Common.{◌≡◌, IfOk, OnErr, ap, rules as lemmas}
+use Rattle.std.proofs.Common.{◌≡◌, IfOk, OnErr, rules as lemmas}
 use Rattle.fi_parts.proofs.Effects.{waits_are_fit}
 use Rattle.fi_parts.proofs.Machines.{line_preserves, unchanged, polling_stays, pending_stays, same_stays}
 use Rattle.fi_parts.proofs.Results.{either, of_made}

@@ -1,4 +1,4 @@
-use Rattle.fi_channels.proofs.BothTied.{no_waiters-tied}
+use Rattle.fi_channels.proofs.Sides.{no_waiters-tied}
 use Rattle.fi_channels.proofs.two_sides.TwoSides.new.Goals as goal
 
 pub invariant_of-result : goal.invariant_of-result

@@ -1,12 +1,10 @@
-use Rattle.std.proofs.Common.{◌≡◌, ℕ, true, Option, Some, None, is_some, refl, sym, ap, ◌∙◌}
+use Rattle.std.proofs.Common.{◌≡◌, true, Option, Some, None, is_some, refl, sym, ap, ◌∙◌}
 use Rattle.std.specs.FinMap as map
 use Rattle.fi_parts.specs.declared.phase.Future.{Future}
 use Rattle.fi_parts.specs.Pairs.{waker_of}
-use Rattle.fi_parts.specs.Polled.{LeavesWhere}
 use Rattle.fi_parts.specs.Seats.{deadlines_of}
-use Rattle.fi_parts.specs.Waiting.{Waiting, asks_of, asks_in, phase_of, phase_in, displaced, displaced_from, without_future}
-use Rattle.fi_parts.specs.Pairs.{without_pair}
-use Rattle.fi_parts.proofs.Seats.{seat_live, kept-forgotten, seen-forgotten, phase-unseated}
+use Rattle.fi_parts.specs.Waiting.{asks_in, phase_in, displaced_from}
+use Rattle.fi_parts.proofs.Seats.{kept-forgotten, seen-forgotten, phase-unseated}
 use Rattle.fi_parts.proofs.deadlines.Deadlines.remove.Goals as goal
 
 -- one that asks for something lives

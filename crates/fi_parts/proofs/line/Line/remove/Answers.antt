@@ -1,4 +1,4 @@
-use Rattle.std.proofs.Common.{◌≡◌, ℕ, Option, Some, None, IfSome, IfNone, OnSome, refl, sym, ap, ◌∙◌}
+use Rattle.std.proofs.Common.{◌≡◌, ℕ, Option, Some, None, IfSome, IfNone, OnSome, sym, ap}
 use Rattle.fi_parts.specs.declared.line.Entry.{Entry}
 use Rattle.fi_parts.specs.LineModel.{line_of}
 use Rattle.fi_parts.specs.ListModel.{ListModel, item}

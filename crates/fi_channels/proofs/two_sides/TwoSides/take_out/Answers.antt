@@ -1,0 +1,27 @@
+use Rattle.std.proofs.Common.{ap, ◌∙◌}
+use Rattle.fi_parts.specs.NamedPairs.{waker_in_pair}
+use Rattle.fi_parts.specs.Tied.{out_of}
+use Rattle.fi_channels.specs.SideView.{ticket_in}
+use Rattle.fi_parts.proofs.Tied.{tied_after_take_out}
+use Rattle.fi_channels.proofs.SideSteps.{out_without, waker_out}
+use Rattle.fi_channels.proofs.two_sides.TwoSides.take_out.Goals as goal
+
+pub invariant_of-self : goal.invariant_of-self
+invariant_of-self g c =
+    tied_after_take_out (ticket_in c.self.inside.lines) c.self.inside.outbox c.self.invariant c.ticket-ticket.result.0
+    c.take_out.new.self c.take_out.ensures.tickets c.take_out.ensures.pairs
+
+pub returns-clause-waker : goal.returns-clause-waker
+returns-clause-waker g c =
+    c.waker_from.ensures ∙ ap waker_in_pair c.take_out.ensures.value
+    ∙ (rw (← c.self.view_is) (waker_out g.met.S.Side.is_side c.line.ensures c.self.inside.outbox c.self.invariant
+    c.args.slot.0
+    c.ticket-ticket.result.0 c.ticket-ticket.ensures))
+
+pub returns-clause-rest : goal.returns-clause-rest
+returns-clause-rest g c =
+    let lines = c.self.inside.lines in
+    let out = ap out_of c.take_out.ensures.pairs
+    ∙ out_without g.met.S.Side.is_side c.line.ensures c.self.inside.outbox c.self.invariant c.args.slot.0
+    c.ticket-ticket.result.0 c.ticket-ticket.ensures in
+    rw (← c.self.view_is) (λ i. record { sends = lines.sends.side; receives = lines.receives.side; out = out i })
