@@ -81,7 +81,7 @@ pub type LocalChannel<T, const N: usize, W> = ChannelState<T, ArrayBuf<T, N>, W>
 /// ```
 /// let mut channel: LocalUnbufferedChannel<u64, u64> = LocalUnbufferedChannel::new(rt.alloc());
 /// let mut stream = channel.stream().expect(&rt, "room");
-/// let answer = stream.poll_next(&mut channel, 2);
+/// let answer = stream.poll(&mut channel, 2);
 /// let is_ended = stream.is_terminated();
 /// stream.cancel(&mut channel);
 /// assert_eq!(rt; answer, Poll::Pending);
@@ -358,6 +358,7 @@ impl<T: Drop, B: RingBuf<Item = T>, W: Drop> ChannelSendAccess for ChannelState<
     ghost use Rattle.std.specs.Prelude.{is_some};
     ghost use Rattle.fi_channels.specs.Channel as channel;
     ghost use Rattle.fi_channels.specs.ChannelStays as channel_stays;
+    ghost use Rattle.std.proofs.Common.{rules};
 
     type Item = T;
 
@@ -374,6 +375,8 @@ impl<T: Drop, B: RingBuf<Item = T>, W: Drop> ChannelSendAccess for ChannelState<
     ghost withdraws = { channel.CancelsSend };
 
     ghost others_stay = { channel_stays.OtherSendsStay };
+
+    ghost unchanged_stay = { Prim.search rules };
 
     fn can_send(&self, slot: Slot) -> bool {
         self.fields.can_send(slot)
@@ -416,6 +419,7 @@ impl<T: Drop, B: RingBuf<Item = T>, W: Drop> ChannelReceiveAccess for ChannelSta
     ghost use Rattle.fi_channels.specs.Polled.{Answered};
     ghost use Rattle.fi_channels.specs.Channel as channel;
     ghost use Rattle.fi_channels.specs.ChannelStays as channel_stays;
+    ghost use Rattle.std.proofs.Common.{rules};
 
     type Item = T;
 
@@ -433,6 +437,8 @@ impl<T: Drop, B: RingBuf<Item = T>, W: Drop> ChannelReceiveAccess for ChannelSta
     ghost cancels = { channel.CancelsReceive };
 
     ghost others_stay = { channel_stays.OtherReceivesStay };
+
+    ghost unchanged_stay = { Prim.search rules };
 
     fn can_receive(&self, slot: Slot) -> bool {
         self.fields.can_receive(slot)

@@ -1,11 +1,7 @@
-//! `Debug` of channels, the event and the local futures. As in futures-intrusive they show a name alone.
+//! `Debug` of channels and the event. As in futures-intrusive they show a name alone.
 use crate::channel::ChannelState;
-use crate::channel_stream::LocalChannelStream;
 use crate::event::EventState;
-use crate::event_future::LocalWaitForEventFuture;
 use crate::oneshot::{OneshotBroadcastState, OneshotState};
-use crate::receive_future::LocalReceiveFuture;
-use crate::send_future::LocalSendFuture;
 use crate::state::StateBroadcastState;
 use fi_parts::buffer::RingBuf;
 use std::fmt;
@@ -37,29 +33,5 @@ impl<T, W> fmt::Debug for StateBroadcastState<T, W> {
 impl<T: Drop, B: RingBuf<Item = T>, W> fmt::Debug for ChannelState<T, B, W> {
     fn fmt<F: fmt::Write>(&self, f: &mut fmt::Formatter<F>) -> fmt::Result {
         f.debug_struct("Channel").finish()
-    }
-}
-
-impl fmt::Debug for LocalWaitForEventFuture {
-    fn fmt<F: fmt::Write>(&self, f: &mut fmt::Formatter<F>) -> fmt::Result {
-        f.debug_struct("GenericWaitForEventFuture").finish()
-    }
-}
-
-impl fmt::Debug for LocalReceiveFuture {
-    fn fmt<F: fmt::Write>(&self, f: &mut fmt::Formatter<F>) -> fmt::Result {
-        f.debug_struct("ChannelReceiveFuture").finish()
-    }
-}
-
-impl fmt::Debug for LocalSendFuture {
-    fn fmt<F: fmt::Write>(&self, f: &mut fmt::Formatter<F>) -> fmt::Result {
-        f.debug_struct("ChannelSendFuture").finish()
-    }
-}
-
-impl fmt::Debug for LocalChannelStream {
-    fn fmt<F: fmt::Write>(&self, f: &mut fmt::Formatter<F>) -> fmt::Result {
-        f.debug_struct("ChannelStream").finish()
     }
 }

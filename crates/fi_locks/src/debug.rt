@@ -1,12 +1,10 @@
 //! `Debug` of mutex, semaphore, timer and what they give. As in futures-intrusive a mutex shows whether it is locked, a
 //! semaphore its free permits, and the others a name alone.
 use crate::mutex::MutexState;
-use crate::mutex_future::LocalMutexLockFuture;
 use crate::mutex_guard::LocalMutexGuard;
 use crate::semaphore::SemaphoreState;
-use crate::semaphore_future::{LocalSemaphoreAcquireFuture, LocalSemaphoreReleaser};
+use crate::semaphore_future::LocalSemaphoreReleaser;
 use crate::timer::TimerState;
-use crate::timer_future::LocalTimerFuture;
 use std::fmt;
 
 impl<T: Drop, W: Drop> fmt::Debug for MutexState<T, W> {
@@ -20,12 +18,6 @@ impl<T: Drop, W: Drop> fmt::Debug for MutexState<T, W> {
 impl<T> fmt::Debug for LocalMutexGuard<T> {
     fn fmt<F: fmt::Write>(&self, f: &mut fmt::Formatter<F>) -> fmt::Result {
         f.debug_struct("GenericMutexGuard").finish()
-    }
-}
-
-impl fmt::Debug for LocalMutexLockFuture {
-    fn fmt<F: fmt::Write>(&self, f: &mut fmt::Formatter<F>) -> fmt::Result {
-        f.debug_struct("GenericMutexLockFuture").finish()
     }
 }
 
@@ -43,20 +35,8 @@ impl fmt::Debug for LocalSemaphoreReleaser {
     }
 }
 
-impl fmt::Debug for LocalSemaphoreAcquireFuture {
-    fn fmt<F: fmt::Write>(&self, f: &mut fmt::Formatter<F>) -> fmt::Result {
-        f.debug_struct("GenericSemaphoreAcquireFuture").finish()
-    }
-}
-
 impl<W> fmt::Debug for TimerState<W> {
     fn fmt<F: fmt::Write>(&self, f: &mut fmt::Formatter<F>) -> fmt::Result {
         f.debug_struct("TimerService").finish()
-    }
-}
-
-impl fmt::Debug for LocalTimerFuture {
-    fn fmt<F: fmt::Write>(&self, f: &mut fmt::Formatter<F>) -> fmt::Result {
-        f.debug_struct("LocalTimerFuture").finish()
     }
 }

@@ -21,9 +21,9 @@ mod timer;
 mod timer_future;
 
 pub use mutex::{LocalMutex, MutexState};
-pub use mutex_future::LocalMutexLockFuture;
+pub use mutex_future::{LocalMutexLockFuture, MutexLock};
 pub use mutex_guard::LocalMutexGuard;
 pub use semaphore::{LocalSemaphore, SemaphoreState};
-pub use semaphore_future::{LocalSemaphoreAcquireFuture, LocalSemaphoreReleaser};
+pub use semaphore_future::{LocalSemaphoreAcquireFuture, LocalSemaphoreReleaser, SemaphoreAcquire};
 pub use timer::{LocalTimerService, TimerState};
-pub use timer_future::LocalTimerFuture;
+pub use timer_future::{LocalTimerFuture, TimerWait};

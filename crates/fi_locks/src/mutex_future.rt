@@ -1,128 +1,80 @@
-//! A future that locks a mutex, polled with the mutex lent to it.
-ghost use Rattle.std.specs.Prelude.{◌≡◌, true, false, is_some, IfSome, IfNone};
-ghost use Rattle.futures.specs.Poll.{OnPending};
-ghost use Rattle.fi_parts.specs.Machine.{phase_at};
-ghost use Rattle.fi_parts.specs.Stays.{OthersStay};
-ghost use Rattle.fi_parts.specs.Polled.{is_ready};
-ghost use Rattle.fi_locks.specs.Mutex.{can_be_polled, Polls, Cancels, IsLockedIfReady};
-
-use crate::mutex::LocalMutex;
+//! The futures of a mutex.
+use crate::mutex::MutexState;
 use crate::mutex_guard::LocalMutexGuard;
-use fi_parts::Slot;
+use fi_parts::{FutureKind, FuturesOf, LocalFuture, PolledBySlot, Slot};
 use futures::task::Poll;
-use std::marker::Model;
 
-/// Locks a local mutex. It is spent by `cancel`, with its mutex; it cannot be dropped.
+/// The kind of a mutex's futures: ready with the guard of the mutex, once it is free for them. If one that was told is cancelled, the
+/// oldest queued one is told in its place.
+pub struct MutexLock;
+
+/// Locks a local mutex. It is spent by `leave` or `cancel`, with its mutex; it cannot be dropped.
 ///
-/// Keeps `GenericMutexLockFuture` of futures-intrusive's `sync`.
-pub struct LocalMutexLockFuture {
-    slot: Slot,
-    is_ended: bool,
+/// Keeps `GenericMutexLockFuture` of futures-intrusive's `sync`, and its `cancel` the drop of that.
+pub type LocalMutexLockFuture = LocalFuture<MutexLock>;
+
+impl FutureKind for MutexLock {
+    fn name() -> &'static str {
+        "GenericMutexLockFuture"
+    }
 }
 
-impl Model for LocalMutexLockFuture {
-    ghost use Rattle.fi_parts.specs.Polled.{LocalFuture};
+impl<T: Drop, W: Drop> FuturesOf<MutexState<T, W>> for MutexLock {
+    ghost use Rattle.std.specs.Prelude.{◌≡◌, is_some};
+    ghost use Rattle.fi_parts.specs.Machine.{phase_at, displaced_at};
+    ghost use Rattle.fi_parts.specs.Polled.{is_ready};
+    ghost use Rattle.fi_parts.specs.Stays.{OthersStay};
+    ghost use Rattle.fi_locks.specs.Mutex.{can_be_polled, Polls, Cancels, IsLockedIfReady};
 
-    ghost Value = { LocalFuture };
+    type Waker = W;
 
-    ghost view = { λ f. record { name = f.slot.0; has_ended = f.is_ended } };
-}
+    type Moment = ();
 
-impl LocalMutexLockFuture {
-    // The future that was just made under this slot.
-    pub(crate) fn at(slot: Slot) -> Self
-        ensures name { result.name ≡ slot.0 }
-        ensures fresh { result.has_ended ≡ false }
-    {
-        LocalMutexLockFuture {
-            slot,
-            is_ended: false,
-        }
-    }
+    type Output = LocalMutexGuard<T>;
 
-    /// The slot of this future in its mutex.
-    pub fn slot(&self) -> Slot
-        ensures { result.0 ≡ self.now.name }
-    {
-        self.slot
-    }
+    type Left = ();
 
-    /// Returns `true` if the future was polled to its end. Keeps `FusedFuture::is_terminated`.
-    pub fn is_terminated(&self) -> bool
-        ensures { result ≡ self.now.has_ended }
-    {
-        self.is_ended
-    }
+    ghost is_pollable = { λ mutex name. can_be_polled (phase_at mutex name) };
 
-    /// Ready with the guard of the mutex, once it is free for this future; else the future is registered with this waker.
-    ///
-    /// The caller lends the future's own mutex, and polls no future that has ended (`LocalMutex::can_poll`).
-    pub fn poll<T: Drop, W: Drop>(
-        &mut self,
-        mutex: &mut LocalMutex<T, W>,
+    ghost is_live = { λ mutex name. is_some (phase_at mutex name) };
+
+    ghost waker_of = { displaced_at };
+
+    ghost polls = { λ old name at. Polls old name };
+
+    ghost shows = { λ name answer mutex. IsLockedIfReady answer mutex };
+
+    ghost is_end = { is_ready };
+
+    ghost cancels = { λ old name left new. Cancels old name new };
+
+    ghost keeps = { λ old new. new.own ≡ old.own };
+
+    ghost nothing = { tt };
+
+    ghost others_stay = { OthersStay can_be_polled };
+
+    fn poll(
+        mutex: &mut MutexState<T, W>,
+        slot: Slot,
+        _at: (),
         waker: W,
-    ) -> Poll<LocalMutexGuard<T>>
-        requires { can_be_polled (phase_at mutex.old self.old.name) ≡ true }
-        ensures polled { Polls mutex.old self.old.name waker result mutex.new }
-        ensures name { self.new.name ≡ self.old.name }
-        ensures ended { self.new.has_ended ≡ is_ready result }
-        ensures live { is_some (phase_at mutex.new self.old.name) ≡ true }
-        ensures locked { IsLockedIfReady result mutex.new }
-        ensures pending { OnPending result (can_be_polled (phase_at mutex.new self.new.name) ≡ true) }
-        ensures others { OthersStay can_be_polled self.old.name mutex.old mutex.new }
-    {
-        let (answer, _leftover) = mutex.try_wait(self.slot, waker);
-        self.is_ended = answer.is_ready();
+    ) -> PolledBySlot<LocalMutexGuard<T>, W> {
+        let (answer, leftover) = match mutex.poll_checked(slot, waker) {
+            Ok(polled) => polled,
+            Err(waker) => return Err(waker),
+        };
         match answer {
-            Poll::Ready(value) => Poll::Ready(LocalMutexGuard::of(value)),
-            Poll::Pending => Poll::Pending,
+            Poll::Ready(value) => Ok((Poll::Ready(LocalMutexGuard::of(value)), leftover)),
+            Poll::Pending => Ok((Poll::Pending, leftover)),
         }
     }
 
-    /// Polls the future as `poll` does, if it lives in this mutex and has not ended. Else None, and nothing has changed: so it asks its
-    /// caller for nothing.
-    pub fn poll_if_live<T: Drop, W: Drop>(
-        &mut self,
-        mutex: &mut LocalMutex<T, W>,
-        waker: W,
-    ) -> Option<Poll<LocalMutexGuard<T>>>
-        ensures polled { IfSome result (λ answer. Polls mutex.old self.old.name waker answer mutex.new) }
-        ensures ended { IfSome result (λ answer. self.new ≡ record { name = self.old.name; has_ended = is_ready answer }) }
-        ensures live { IfSome result (λ _. is_some (phase_at mutex.new self.old.name) ≡ true) }
-        ensures pending { IfSome result (λ answer. OnPending answer (can_be_polled (phase_at mutex.new self.old.name) ≡ true)) }
-        ensures locked { IfSome result (λ answer. IsLockedIfReady answer mutex.new) }
-        ensures refused { IfNone result (can_be_polled (phase_at mutex.old self.old.name) ≡ false) }
-        ensures unchanged { IfNone result ((mutex.new ≡ mutex.old) × (self.new ≡ self.old)) }
-        ensures others { OthersStay can_be_polled self.old.name mutex.old mutex.new }
-    {
-        let (answer, _leftover) = mutex.poll_checked(self.slot, waker).ok()?;
-        self.is_ended = !answer.is_pending();
-        match answer {
-            Poll::Ready(value) => Some(Poll::Ready(LocalMutexGuard::of(value))),
-            Poll::Pending => Some(Poll::Pending),
-        }
+    fn ends(answer: &Poll<LocalMutexGuard<T>>) -> bool {
+        answer.is_ready()
     }
 
-    /// Ends the future as `cancel` does, if it lives in this mutex. Else nothing changes: so it asks its caller for nothing.
-    pub fn leave<T: Drop, W: Drop>(self, mutex: &mut LocalMutex<T, W>)
-        ensures cancelled { is_some (phase_at mutex.old self.name) ≡ true → Cancels mutex.old self.name mutex.new }
-        ensures own { mutex.new.own ≡ mutex.old.own }
-        ensures unchanged { is_some (phase_at mutex.old self.name) ≡ false → mutex.new ≡ mutex.old }
-        ensures others { OthersStay can_be_polled self.name mutex.old mutex.new }
-    {
-        let LocalMutexLockFuture { slot, is_ended: _ } = self;
-        mutex.leave(slot);
-    }
-
-    /// Ends the future, which leaves its mutex. If it was told, the oldest queued future is told in its place. The caller lends
-    /// the future's own mutex. Keeps the drop of `GenericMutexLockFuture`.
-    pub fn cancel<T: Drop, W: Drop>(self, mutex: &mut LocalMutex<T, W>)
-        requires { is_some (phase_at mutex.old self.name) ≡ true }
-        ensures cancelled { Cancels mutex.old self.name mutex.new }
-        ensures own { mutex.new.own ≡ mutex.old.own }
-        ensures others { OthersStay can_be_polled self.name mutex.old mutex.new }
-    {
-        let LocalMutexLockFuture { slot, is_ended: _ } = self;
-        mutex.remove_waiter(slot);
+    fn leave(mutex: &mut MutexState<T, W>, slot: Slot) -> ((), Option<W>) {
+        ((), mutex.leave(slot))
     }
 }

@@ -1,31 +1,90 @@
-//! A future of a semaphore, polled with the semaphore lent to it, and the permits that it acquires.
-ghost use Rattle.std.specs.Prelude.{◌≡◌, ◌≤◌, nat_le, true, false, is_some, IfSome, IfNone};
-ghost use Rattle.futures.specs.Poll.{OnPending};
-ghost use Rattle.fi_parts.specs.Machine.{phase_at};
-ghost use Rattle.fi_parts.specs.Stays.{AllStay, OthersStay};
-ghost use Rattle.fi_parts.specs.Polled.{is_ready};
-ghost use Rattle.fi_locks.specs.Semaphore.{can_be_polled, Polls, Cancels, GivesBack, Disarms, AreHeld};
+//! The futures of a semaphore, and the permits that they acquire.
+ghost use Rattle.std.specs.Prelude.{◌≡◌, ◌≤◌, nat_le, true, false};
+ghost use Rattle.fi_parts.specs.Stays.{AllStay};
+ghost use Rattle.fi_locks.specs.Semaphore.{can_be_polled, GivesBack, Disarms};
 
-use crate::semaphore::LocalSemaphore;
-use fi_parts::Slot;
+use crate::semaphore::{LocalSemaphore, SemaphoreState};
+use fi_parts::{FutureKind, FuturesOf, LocalFuture, PolledBySlot, Slot};
 use futures::task::Poll;
 use std::marker::Model;
 use std::mem;
 
-/// Acquires permits of a local semaphore. It is spent by `cancel`, with its semaphore; it cannot be dropped.
+/// The kind of a semaphore's futures: ready with their permits, once these are granted. A cancel passes a notice that was not used on
+/// to those who wait; of one that waited in a fair semaphore, those behind it are told whose needs are free then.
+pub struct SemaphoreAcquire;
+
+/// Acquires permits of a local semaphore. It is spent by `leave` or `cancel`, with its semaphore; it cannot be dropped.
 ///
-/// Keeps `GenericSemaphoreAcquireFuture` of futures-intrusive's `sync`.
-pub struct LocalSemaphoreAcquireFuture {
-    slot: Slot,
-    is_ended: bool,
+/// Keeps `GenericSemaphoreAcquireFuture` of futures-intrusive's `sync`, and its `cancel` the drop of that.
+pub type LocalSemaphoreAcquireFuture = LocalFuture<SemaphoreAcquire>;
+
+impl FutureKind for SemaphoreAcquire {
+    fn name() -> &'static str {
+        "GenericSemaphoreAcquireFuture"
+    }
 }
 
-impl Model for LocalSemaphoreAcquireFuture {
-    ghost use Rattle.fi_parts.specs.Polled.{LocalFuture};
+impl<W: Drop> FuturesOf<SemaphoreState<W>> for SemaphoreAcquire {
+    ghost use Rattle.std.specs.Prelude.{◌≡◌, is_some};
+    ghost use Rattle.fi_parts.specs.Machine.{phase_at, displaced_at};
+    ghost use Rattle.fi_parts.specs.Polled.{is_ready};
+    ghost use Rattle.fi_parts.specs.Stays.{OthersStay};
+    ghost use Rattle.fi_locks.specs.Semaphore.{can_be_polled, Polls, Cancels, AreHeld};
 
-    ghost Value = { LocalFuture };
+    type Waker = W;
 
-    ghost view = { λ f. record { name = f.slot.0; has_ended = f.is_ended } };
+    type Moment = ();
+
+    type Output = LocalSemaphoreReleaser;
+
+    type Left = ();
+
+    ghost is_pollable = { λ semaphore name. can_be_polled (phase_at semaphore name) };
+
+    ghost is_live = { λ semaphore name. is_some (phase_at semaphore name) };
+
+    ghost waker_of = { displaced_at };
+
+    ghost polls = { λ old name at. Polls old name };
+
+    ghost shows = { λ name answer semaphore. AreHeld answer semaphore.own.held };
+
+    ghost is_end = { is_ready };
+
+    ghost cancels = { λ old name left new. Cancels old name new };
+
+    ghost keeps = { λ old new. new.own.held ≡ old.own.held };
+
+    ghost nothing = { tt };
+
+    ghost others_stay = { OthersStay can_be_polled };
+
+    fn poll(
+        semaphore: &mut SemaphoreState<W>,
+        slot: Slot,
+        _at: (),
+        waker: W,
+    ) -> PolledBySlot<LocalSemaphoreReleaser, W> {
+        let (answer, leftover) = match semaphore.poll_checked(slot, waker) {
+            Ok(polled) => polled,
+            Err(waker) => return Err(waker),
+        };
+        match answer {
+            Poll::Ready(permits) => Ok((
+                Poll::Ready(LocalSemaphoreReleaser::of(permits)),
+                leftover,
+            )),
+            Poll::Pending => Ok((Poll::Pending, leftover)),
+        }
+    }
+
+    fn ends(answer: &Poll<LocalSemaphoreReleaser>) -> bool {
+        answer.is_ready()
+    }
+
+    fn leave(semaphore: &mut SemaphoreState<W>, slot: Slot) -> ((), Option<W>) {
+        ((), semaphore.leave(slot))
+    }
 }
 
 /// Permits of a local semaphore that are held. They are spent by `give_back`, with their semaphore; they cannot be dropped.
@@ -41,107 +100,6 @@ impl Model for LocalSemaphoreReleaser {
     ghost Value = { ℕ };
 
     ghost view = { λ r. r.permits };
-}
-
-impl LocalSemaphoreAcquireFuture {
-    // The future that was just made under this slot.
-    pub(crate) fn at(slot: Slot) -> Self
-        ensures name { result.name ≡ slot.0 }
-        ensures fresh { result.has_ended ≡ false }
-    {
-        LocalSemaphoreAcquireFuture {
-            slot,
-            is_ended: false,
-        }
-    }
-
-    /// The slot of this future in its semaphore.
-    pub fn slot(&self) -> Slot
-        ensures { result.0 ≡ self.now.name }
-    {
-        self.slot
-    }
-
-    /// Returns `true` if the future was polled to its end. Keeps `FusedFuture::is_terminated`.
-    pub fn is_terminated(&self) -> bool
-        ensures { result ≡ self.now.has_ended }
-    {
-        self.is_ended
-    }
-
-    /// Ready with the permits once they are granted; else the future is registered with this waker.
-    ///
-    /// The caller lends the future's own semaphore, and polls no future that has ended (`LocalSemaphore::can_poll`).
-    pub fn poll<W: Drop>(
-        &mut self,
-        semaphore: &mut LocalSemaphore<W>,
-        waker: W,
-    ) -> Poll<LocalSemaphoreReleaser>
-        requires { can_be_polled (phase_at semaphore.old self.old.name) ≡ true }
-        ensures polled { Polls semaphore.old self.old.name waker result semaphore.new }
-        ensures held { AreHeld result semaphore.new.own.held }
-        ensures name { self.new.name ≡ self.old.name }
-        ensures ended { self.new.has_ended ≡ is_ready result }
-        ensures live { is_some (phase_at semaphore.new self.old.name) ≡ true }
-        ensures pending { OnPending result (can_be_polled (phase_at semaphore.new self.new.name) ≡ true) }
-        ensures others { OthersStay can_be_polled self.old.name semaphore.old semaphore.new }
-    {
-        let (answer, _leftover) = semaphore.acquire_or_register(self.slot, waker);
-        self.is_ended = answer.is_ready();
-        let Poll::Ready(permits) = answer else {
-            return Poll::Pending;
-        };
-        Poll::Ready(LocalSemaphoreReleaser::of(permits))
-    }
-
-    /// Polls the future as `poll` does, if it lives in this semaphore and has not ended. Else None, and nothing has changed: so it asks
-    /// its caller for nothing.
-    pub fn poll_if_live<W: Drop>(
-        &mut self,
-        semaphore: &mut LocalSemaphore<W>,
-        waker: W,
-    ) -> Option<Poll<LocalSemaphoreReleaser>>
-        ensures polled { IfSome result (λ answer. Polls semaphore.old self.old.name waker answer semaphore.new) }
-        ensures held { IfSome result (λ answer. AreHeld answer semaphore.new.own.held) }
-        ensures ended { IfSome result (λ answer. self.new ≡ record { name = self.old.name; has_ended = is_ready answer }) }
-        ensures live { IfSome result (λ _. is_some (phase_at semaphore.new self.old.name) ≡ true) }
-        ensures pending { IfSome result (λ answer. OnPending answer (can_be_polled (phase_at semaphore.new self.old.name) ≡ true)) }
-        ensures refused { IfNone result (can_be_polled (phase_at semaphore.old self.old.name) ≡ false) }
-        ensures unchanged { IfNone result ((semaphore.new ≡ semaphore.old) × (self.new ≡ self.old)) }
-        ensures others { OthersStay can_be_polled self.old.name semaphore.old semaphore.new }
-    {
-        let (answer, _leftover) = semaphore.poll_checked(self.slot, waker).ok()?;
-        self.is_ended = !answer.is_pending();
-        match answer {
-            Poll::Ready(permits) => Some(Poll::Ready(LocalSemaphoreReleaser::of(permits))),
-            Poll::Pending => Some(Poll::Pending),
-        }
-    }
-
-    /// Gives up as `cancel` does, if the future lives in this semaphore. Else nothing changes: so it asks its caller for nothing.
-    pub fn leave<W: Drop>(self, semaphore: &mut LocalSemaphore<W>)
-        ensures cancelled { is_some (phase_at semaphore.old self.name) ≡ true → Cancels semaphore.old self.name semaphore.new }
-        ensures held { semaphore.new.own.held ≡ semaphore.old.own.held }
-        ensures unchanged { is_some (phase_at semaphore.old self.name) ≡ false → semaphore.new ≡ semaphore.old }
-        ensures others { OthersStay can_be_polled self.name semaphore.old semaphore.new }
-    {
-        let LocalSemaphoreAcquireFuture { slot, is_ended: _ } = self;
-        semaphore.leave(slot);
-    }
-
-    /// Gives up: the future leaves its semaphore, and a notice that it had not used is passed on to those who wait. If it waited
-    /// in a fair semaphore, those behind it are told whose needs are free then. The caller lends the future's own semaphore.
-    ///
-    /// Keeps the drop of `GenericSemaphoreAcquireFuture`.
-    pub fn cancel<W: Drop>(self, semaphore: &mut LocalSemaphore<W>)
-        requires { is_some (phase_at semaphore.old self.name) ≡ true }
-        ensures cancelled { Cancels semaphore.old self.name semaphore.new }
-        ensures held { semaphore.new.own.held ≡ semaphore.old.own.held }
-        ensures others { OthersStay can_be_polled self.name semaphore.old semaphore.new }
-    {
-        let LocalSemaphoreAcquireFuture { slot, is_ended: _ } = self;
-        semaphore.remove_waiter(slot);
-    }
 }
 
 impl LocalSemaphoreReleaser {

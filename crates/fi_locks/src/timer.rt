@@ -50,10 +50,10 @@ pub struct TimerState<W> {
 /// ```
 /// let mut timer: LocalTimerService<u64> = LocalTimerService::new(rt.alloc());
 /// let mut deadline = timer.deadline(5).expect(&rt, "memory");
-/// let waits = deadline.poll_if_live(&mut timer, 4, 1);
+/// let waits = deadline.poll_at_if_live(&mut timer, 4, 1);
 /// timer.check_expirations(5);
 /// let woken = timer.next_wake();
-/// let ends = deadline.poll_if_live(&mut timer, 5, 2);
+/// let ends = deadline.poll_at_if_live(&mut timer, 5, 2);
 /// deadline.leave(&mut timer);
 /// assert_eq!(rt; (waits, woken), (Some(Poll::Pending), Some(1)));
 /// assert_eq!(rt; ends, Some(Poll::Ready(())));

@@ -13,16 +13,13 @@ use crate::claim::{Cancel, Claim};
 use crate::monitor::Monitor;
 use crate::slot_future::{PollOutput, PollSlot, SlotFuture, SlotPolled};
 use crate::wakes::PollWaker;
-use fi_channels::{ChannelReceiveAccess, ChannelState};
+use fi_channels::{ChannelReceiveAccess, ChannelState, ChannelStreaming};
 use fi_parts::buffer::RingBuf;
 use fi_parts::{Fault, Leftover, Slot};
 use futures::task::{Context, Poll};
 use futures::{Future, Stream};
 use std::marker::Model;
 use std::sync::Wait;
-
-/// The kind of a channel's streams.
-pub struct ChannelStreaming;
 
 /// The values of a channel, one after another, until it is closed and empty; then it answers its end, again and again.
 ///

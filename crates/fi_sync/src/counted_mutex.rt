@@ -9,7 +9,7 @@ use crate::claim::Cancel;
 use crate::slot_future::{PollSlot, SlotPolled, no_slot};
 use crate::tally::{Grant, Tally};
 use crate::wakes::{HasOutbox, PollWaker};
-use fi_locks::MutexState;
+use fi_locks::{MutexLock, MutexState};
 use fi_parts::{Fault, Slot};
 use futures::task::Poll;
 use std::alloc::Global;
@@ -95,9 +95,6 @@ impl<T, L: Ledger> CountedMutex<T, L> {
         }
     }
 }
-
-/// The kind of a mutex's futures.
-pub struct MutexLock;
 
 impl<T: Drop, L: Ledger> CountedMutex<T, L> {
     /// A free mutex with this value, fair or not.

@@ -9,7 +9,7 @@ use crate::claim::Cancel;
 use crate::slot_future::{PollSlot, SlotPolled, no_slot};
 use crate::tally::{Grant, Tally};
 use crate::wakes::{HasOutbox, PollWaker};
-use fi_locks::SemaphoreState;
+use fi_locks::{SemaphoreAcquire, SemaphoreState};
 use fi_parts::{Fault, Slot};
 use futures::task::Poll;
 use std::alloc::Global;
@@ -41,9 +41,6 @@ impl<L: Ledger> Model for CountedSemaphore<L> {
     // The ledger has a part for each permit that can be held: `u64::MAX`.
     ghost invariant = { λ counted. (counted.tally ≡ counted.state.own.held) × (L.parts ≡ 18446744073709551615) };
 }
-
-/// The kind of a semaphore's futures.
-pub struct SemaphoreAcquire;
 
 impl<L: Ledger> CountedSemaphore<L> {
     /// A semaphore with this many free permits, fair or unfair.

@@ -6,13 +6,10 @@ use crate::claim::Claim;
 use crate::counted_mutex::{CountedMutex, Locked};
 use crate::counted_semaphore::CountedSemaphore;
 use crate::event::ManualResetEvent;
-use crate::event_future::EventWait;
 use crate::monitor::{HasMonitor, Monitor};
 use crate::mutex::{Mutex, MutexGuard, MutexLockFuture};
 use crate::one_value::{OneshotBroadcastChannel, OneshotChannel};
-use crate::receive_future::ChannelReceive;
 use crate::semaphore::{Semaphore, SemaphoreAcquireFuture, SemaphoreReleaser};
-use crate::send_future::ChannelSend;
 use crate::shared_semaphore::{
     SharedSemaphore, SharedSemaphoreAcquireFuture, SharedSemaphoreReleaser,
 };
@@ -22,6 +19,7 @@ use crate::tally::{Grant, Tally};
 use crate::timed::{Timed, TimerWait};
 use crate::timer::TimerService;
 use crate::wakes::{Guarded, HasOutbox, Owed};
+use fi_parts::FutureKind;
 use fi_parts::buffer::RingBuf;
 use std::fmt;
 use std::sync::Wait;
@@ -54,29 +52,6 @@ impl<T: Clone, R> fmt::Debug for StateBroadcastChannel<T, R> {
 impl<T: Drop, B: RingBuf<Item = T>, R> fmt::Debug for GenericChannel<T, B, R> {
     fn fmt<F: fmt::Write>(&self, f: &mut fmt::Formatter<F>) -> fmt::Result {
         f.debug_struct("Channel").finish()
-    }
-}
-
-/// A kind of future, by the name that `Debug` shows.
-pub trait FutureKind {
-    fn name() -> &'static str;
-}
-
-impl FutureKind for EventWait {
-    fn name() -> &'static str {
-        "GenericWaitForEventFuture"
-    }
-}
-
-impl FutureKind for ChannelReceive {
-    fn name() -> &'static str {
-        "ChannelReceiveFuture"
-    }
-}
-
-impl FutureKind for ChannelSend {
-    fn name() -> &'static str {
-        "ChannelSendFuture"
     }
 }
 

@@ -6,12 +6,9 @@ use crate::claim::Cancel;
 use crate::monitor::Monitor;
 use crate::slot_future::{PollSlot, SlotFuture, SlotPolled, no_slot};
 use crate::wakes::PollWaker;
-use fi_channels::EventState;
+use fi_channels::{EventState, EventWait};
 use fi_parts::{Fault, Slot};
 use futures::task::Poll;
-
-/// The kind of an event's futures.
-pub struct EventWait;
 
 /// Waits for an event. Its drop unregisters it, and tells nobody.
 ///

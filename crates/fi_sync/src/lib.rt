@@ -39,21 +39,23 @@ mod wakes;
 
 pub use blocking::{Blocking, wait_for};
 pub use channel::{Channel, GenericChannel, UnbufferedChannel};
-pub use channel_stream::{ChannelStream, ChannelStreaming};
+pub use channel_stream::ChannelStream;
 pub use claim::{Cancel, Claim, Fate};
-pub use counted_mutex::{CountedMutex, Locked, MutexLock};
-pub use counted_semaphore::{CountedSemaphore, SemaphoreAcquire};
-pub use debug::FutureKind;
+pub use counted_mutex::{CountedMutex, Locked};
+pub use counted_semaphore::CountedSemaphore;
 pub use event::ManualResetEvent;
-pub use event_future::{EventWait, WaitForEventFuture};
+pub use event_future::WaitForEventFuture;
+pub use fi_channels::{ChannelReceive, ChannelSend, ChannelStreaming, EventWait};
+pub use fi_locks::{MutexLock, SemaphoreAcquire};
+pub use fi_parts::FutureKind;
 pub use monitor::{HasMonitor, Monitor};
 pub use mutex::{Mutex, MutexGuard, MutexLockFuture};
 pub use one_value::{OneValueChannel, OneshotBroadcastChannel, OneshotChannel};
-pub use receive_future::{ChannelReceive, ChannelReceiveFuture};
+pub use receive_future::ChannelReceiveFuture;
 pub use semaphore::{Semaphore, SemaphoreAcquireFuture, SemaphoreReleaser};
 pub use semaphore_future::SemaphoreAcquireFutureOf;
 pub use semaphore_releaser::SemaphoreReleaserOf;
-pub use send_future::{ChannelSend, ChannelSendFuture};
+pub use send_future::ChannelSendFuture;
 pub use shared_semaphore::{
     SharedSemaphore, SharedSemaphoreAcquireFuture, SharedSemaphoreReleaser,
 };

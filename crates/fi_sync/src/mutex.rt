@@ -10,10 +10,11 @@ ghost use Rattle.fi_sync.specs.Waiting.{IsNew, polled};
 ghost use Rattle.fi_sync.specs.Blanks.{IsLockBlank};
 
 use crate::blocking::{Blocking, wait_for};
-use crate::counted_mutex::{CountedMutex, Locked, MutexLock};
+use crate::counted_mutex::{CountedMutex, Locked};
 use crate::monitor::Monitor;
 use crate::slot_future::SlotFuture;
 use crate::tally::Grant;
+use fi_locks::MutexLock;
 use fi_parts::Fault;
 use futures::Future;
 use futures::task::{Context, Poll};

@@ -8,11 +8,8 @@ use crate::claim::Cancel;
 use crate::monitor::Monitor;
 use crate::slot_future::{PollSlot, SlotFuture, SlotPolled, no_slot};
 use crate::wakes::PollWaker;
-use fi_channels::ChannelReceiveAccess;
+use fi_channels::{ChannelReceive, ChannelReceiveAccess};
 use fi_parts::{Fault, Slot};
-
-/// The kind of a channel's receives.
-pub struct ChannelReceive;
 
 /// Receives one value from a channel, or None once it is closed and empty. Its drop gives back what it had not used: a receive
 /// that was told of a value passes that on.

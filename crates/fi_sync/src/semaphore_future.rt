@@ -8,10 +8,11 @@ ghost use Rattle.fi_sync.specs.Granted.{IsAcquireAnswer};
 ghost use Rattle.fi_sync.specs.Waiting.{polled};
 
 use crate::claim::Claim;
-use crate::counted_semaphore::{CountedSemaphore, SemaphoreAcquire};
+use crate::counted_semaphore::CountedSemaphore;
 use crate::monitor::HasMonitor;
 use crate::semaphore_releaser::SemaphoreReleaserOf;
 use crate::slot_future::SlotFuture;
+use fi_locks::SemaphoreAcquire;
 use fi_parts::Fault;
 use futures::Future;
 use futures::task::{Context, Poll};

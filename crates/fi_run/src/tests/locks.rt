@@ -17,7 +17,7 @@ fn a_local_timer_future(rt: HostRuntime) {
     let mut timer: LocalTimerService<u64> = LocalTimerService::new(rt.alloc());
     let mut future = timer.deadline(10).expect(&rt, "room");
     let was_ended = future.is_terminated();
-    let answer = future.poll(&mut timer, 10, 1);
+    let answer = future.poll_at(&mut timer, 10, 1);
     let is_ended = future.is_terminated();
     future.cancel(&mut timer);
     assert!(rt; !was_ended);
@@ -29,7 +29,7 @@ fn a_local_timer_future(rt: HostRuntime) {
 fn a_timer_future_is_told_and_leaves(rt: HostRuntime) {
     let mut timer: LocalTimerService<u64> = LocalTimerService::new(rt.alloc());
     let mut future = timer.deadline(10).expect(&rt, "room");
-    let answer = future.poll(&mut timer, 9, 1);
+    let answer = future.poll_at(&mut timer, 9, 1);
     timer.check_expirations(10);
     let woken = timer.next_wake();
     future.cancel(&mut timer);
@@ -42,7 +42,7 @@ fn a_delay_counts_whole_milliseconds(rt: HostRuntime) {
     let mut future = timer
         .delay(5, Duration::from_micros(1_999))
         .expect(&rt, "room");
-    let first = future.poll(&mut timer, 5, 1);
+    let first = future.poll_at(&mut timer, 5, 1);
     let next = timer.next_expiration();
     future.cancel(&mut timer);
     assert_eq!(rt; first, Poll::Pending);

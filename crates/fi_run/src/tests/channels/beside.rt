@@ -34,10 +34,10 @@ fn a_send_beside_a_stream(rt: HostRuntime) {
         assert!(rt; false, "a send ended early");
         return;
     }
-    let item = stream.poll_next(&mut channel, 2);
+    let item = stream.poll(&mut channel, 2);
     let sent = send.poll(&mut channel, 3);
     send.cancel(&mut channel);
-    let none = stream.poll_next(&mut channel, 4);
+    let none = stream.poll(&mut channel, 4);
     stream.cancel(&mut channel);
     assert_eq!(rt;
         (item, sent, none),

@@ -38,7 +38,7 @@ fn a_local_channel(rt: HostRuntime) {
 fn an_unbuffered_stream(rt: HostRuntime) {
     let mut channel: LocalUnbufferedChannel<u64, u64> = LocalUnbufferedChannel::new(rt.alloc());
     let mut stream = channel.stream().expect(&rt, "room");
-    let answer = stream.poll_next(&mut channel, 2);
+    let answer = stream.poll(&mut channel, 2);
     let is_ended = stream.is_terminated();
     stream.cancel(&mut channel);
     assert_eq!(rt; answer, Poll::Pending);
@@ -50,8 +50,8 @@ fn a_stream_of_a_closed_channel(rt: HostRuntime) {
     let mut channel: LocalUnbufferedChannel<u64, u64> = LocalUnbufferedChannel::new(rt.alloc());
     assert_eq!(rt; channel.close(), CloseStatus::NewlyClosed);
     let mut stream = channel.stream().expect(&rt, "room");
-    let last = stream.poll_next(&mut channel, 2);
-    let again = stream.poll_next(&mut channel, 2);
+    let last = stream.poll(&mut channel, 2);
+    let again = stream.poll(&mut channel, 2);
     let is_ended = stream.is_terminated();
     stream.cancel(&mut channel);
     assert_eq!(rt; last, Poll::Ready(None));

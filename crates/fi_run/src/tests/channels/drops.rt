@@ -69,8 +69,8 @@ fn owners_of_a_stream(
     let first = waker.clone().expect(rt, "room");
     let second = waker.clone().expect(rt, "room");
     let mut stream = channel.stream().expect(rt, "room");
-    let _ = stream.poll_next(channel, first);
-    let _ = stream.poll_next(channel, second);
+    let _ = stream.poll(channel, first);
+    let _ = stream.poll(channel, second);
     let pending = Rc::strong_count(waker);
     stream.cancel(channel);
     (pending, Rc::strong_count(waker))

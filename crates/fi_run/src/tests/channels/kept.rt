@@ -91,12 +91,12 @@ fn a_send_that_leaves_gives_its_value_back(rt: HostRuntime) {
 fn a_stream_is_kept(rt: HostRuntime) {
     let mut channel: LocalChannel<u64, 1, u64> = LocalChannel::new(rt.alloc());
     let mut stream = channel.stream().expect(&rt, "memory");
-    let waits = stream.poll_next_if_live(&mut channel, 1);
+    let waits = stream.poll_if_live(&mut channel, 1);
     let sent = channel.try_send(5);
     let woken = channel.next_wake();
-    let item = stream.poll_next_if_live(&mut channel, 2);
+    let item = stream.poll_if_live(&mut channel, 2);
     let closed = channel.close().is_newly_closed();
-    let end = stream.poll_next_if_live(&mut channel, 3);
+    let end = stream.poll_if_live(&mut channel, 3);
     stream.leave(&mut channel);
     assert_eq!(rt;
         (waits, sent, woken),

@@ -13,9 +13,9 @@ fn owners_of_a_wait(
     let first = waker.clone().expect(rt, "room");
     let second = waker.clone().expect(rt, "room");
     let mut wait = timer.deadline(5).expect(rt, "room");
-    let _ = wait.poll(timer, 1, first);
+    let _ = wait.poll_at(timer, 1, first);
     if timer.can_poll(wait.slot()) {
-        let _ = wait.poll(timer, 2, second);
+        let _ = wait.poll_at(timer, 2, second);
     }
     let pending = Rc::strong_count(waker);
     wait.cancel(timer);
