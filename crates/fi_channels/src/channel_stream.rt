@@ -2,7 +2,7 @@
 use crate::access::ChannelReceiveAccess;
 use crate::channel::ChannelState;
 use fi_parts::buffer::RingBuf;
-use fi_parts::{FutureKind, FuturesOf, LocalFuture, PolledBySlot, Slot};
+use fi_parts::{FutureKind, FuturesOf, LocalFuture, Slot};
 use futures::task::Poll;
 
 /// The kind of a channel's streams: ready with the next value, or with None once the channel is closed and empty, and ever after.
@@ -22,7 +22,7 @@ impl FutureKind for ChannelStreaming {
 
 impl<T: Drop, B: RingBuf<Item = T>, W: Drop> FuturesOf<ChannelState<T, B, W>> for ChannelStreaming {
     ghost use Rattle.std.specs.Prelude.{◌≡◌, true, is_some};
-    ghost use Rattle.fi_channels.specs.Channel.{can_stream, kind_of, receive_phase, displaced_receive, PollsNext, CancelsReceive};
+    ghost use Rattle.fi_channels.specs.Channel.{can_stream, kind_of, receive_phase, PollsNext, CancelsReceive};
     ghost use Rattle.fi_channels.specs.Channel.{is_end};
     ghost use Rattle.fi_channels.specs.ChannelStays.{OtherReceivesStay};
 
@@ -37,8 +37,6 @@ impl<T: Drop, B: RingBuf<Item = T>, W: Drop> FuturesOf<ChannelState<T, B, W>> fo
     ghost is_pollable = { λ channel name. can_stream (kind_of channel name) (receive_phase channel name) };
 
     ghost is_live = { λ channel name. is_some (receive_phase channel name) };
-
-    ghost waker_of = { displaced_receive };
 
     ghost polls = { λ old name at. PollsNext old name };
 
@@ -58,15 +56,16 @@ impl<T: Drop, B: RingBuf<Item = T>, W: Drop> FuturesOf<ChannelState<T, B, W>> fo
         slot: Slot,
         _at: (),
         waker: W,
-    ) -> PolledBySlot<Option<T>, W> {
-        channel.next_checked(slot, waker)
+    ) -> Option<Poll<Option<T>>> {
+        let (answer, _leftover) = channel.next_checked(slot, waker).ok()?;
+        Some(answer)
     }
 
     fn ends(answer: &Poll<Option<T>>) -> bool {
         matches!(answer, Poll::Ready(None))
     }
 
-    fn leave(channel: &mut ChannelState<T, B, W>, slot: Slot) -> ((), Option<W>) {
-        ((), channel.leave_receive(slot))
+    fn leave(channel: &mut ChannelState<T, B, W>, slot: Slot) {
+        channel.leave_receive(slot);
     }
 }

@@ -1,7 +1,7 @@
 //! The sends of a channel.
 use crate::access::ChannelSendAccess;
 use crate::channel_errors::SendFault;
-use fi_parts::{FutureKind, FuturesOf, LocalFuture, PolledBySlot, Slot};
+use fi_parts::{FutureKind, FuturesOf, LocalFuture, Slot};
 use futures::task::Poll;
 
 /// The kind of a channel's sends: ready once the value is stored or was taken, and ready with the value where the channel is closed.
@@ -26,7 +26,7 @@ where
     C::Waker: Drop,
 {
     ghost use Rattle.std.specs.Prelude.{None};
-    ghost use Rattle.fi_channels.specs.Channel.{has_sent, displaced_by_send};
+    ghost use Rattle.fi_channels.specs.Channel.{has_sent};
 
     type Waker = C::Waker;
 
@@ -40,11 +40,7 @@ where
 
     ghost is_live = { C.is_sending };
 
-    ghost waker_of = { C.waker_of };
-
     ghost polls = { λ old name at. C.sends old name };
-
-    ghost displaces = { displaced_by_send };
 
     ghost is_end = { has_sent };
 
@@ -59,8 +55,9 @@ where
         slot: Slot,
         _at: (),
         waker: C::Waker,
-    ) -> PolledBySlot<Result<(), SendFault<C::Item>>, C::Waker> {
-        channel.send_checked(slot, waker)
+    ) -> Option<Poll<Result<(), SendFault<C::Item>>>> {
+        let (answer, _leftover) = channel.send_checked(slot, waker).ok()?;
+        Some(answer)
     }
 
     fn ends(answer: &Poll<Result<(), SendFault<C::Item>>>) -> bool {
@@ -70,7 +67,8 @@ where
         }
     }
 
-    fn leave(channel: &mut C, slot: Slot) -> (Option<C::Item>, Option<C::Waker>) {
-        channel.leave_send(slot)
+    fn leave(channel: &mut C, slot: Slot) -> Option<C::Item> {
+        let (value, _waker) = channel.leave_send(slot);
+        value
     }
 }

@@ -1,7 +1,7 @@
 //! The futures of a mutex.
 use crate::mutex::MutexState;
 use crate::mutex_guard::LocalMutexGuard;
-use fi_parts::{FutureKind, FuturesOf, LocalFuture, PolledBySlot, Slot};
+use fi_parts::{FutureKind, FuturesOf, LocalFuture, Slot};
 use futures::task::Poll;
 
 /// The kind of a mutex's futures: ready with the guard of the mutex, once it is free for them. If one that was told is cancelled, the
@@ -21,7 +21,7 @@ impl FutureKind for MutexLock {
 
 impl<T: Drop, W: Drop> FuturesOf<MutexState<T, W>> for MutexLock {
     ghost use Rattle.std.specs.Prelude.{◌≡◌, is_some};
-    ghost use Rattle.fi_parts.specs.Machine.{phase_at, displaced_at};
+    ghost use Rattle.fi_parts.specs.Machine.{phase_at};
     ghost use Rattle.fi_parts.specs.Polled.{is_ready};
     ghost use Rattle.fi_parts.specs.Stays.{OthersStay};
     ghost use Rattle.fi_locks.specs.Mutex.{can_be_polled, Polls, Cancels, IsLockedIfReady};
@@ -37,8 +37,6 @@ impl<T: Drop, W: Drop> FuturesOf<MutexState<T, W>> for MutexLock {
     ghost is_pollable = { λ mutex name. can_be_polled (phase_at mutex name) };
 
     ghost is_live = { λ mutex name. is_some (phase_at mutex name) };
-
-    ghost waker_of = { displaced_at };
 
     ghost polls = { λ old name at. Polls old name };
 
@@ -59,14 +57,11 @@ impl<T: Drop, W: Drop> FuturesOf<MutexState<T, W>> for MutexLock {
         slot: Slot,
         _at: (),
         waker: W,
-    ) -> PolledBySlot<LocalMutexGuard<T>, W> {
-        let (answer, leftover) = match mutex.poll_checked(slot, waker) {
-            Ok(polled) => polled,
-            Err(waker) => return Err(waker),
-        };
+    ) -> Option<Poll<LocalMutexGuard<T>>> {
+        let (answer, _leftover) = mutex.poll_checked(slot, waker).ok()?;
         match answer {
-            Poll::Ready(value) => Ok((Poll::Ready(LocalMutexGuard::of(value)), leftover)),
-            Poll::Pending => Ok((Poll::Pending, leftover)),
+            Poll::Ready(value) => Some(Poll::Ready(LocalMutexGuard::of(value))),
+            Poll::Pending => Some(Poll::Pending),
         }
     }
 
@@ -74,7 +69,7 @@ impl<T: Drop, W: Drop> FuturesOf<MutexState<T, W>> for MutexLock {
         answer.is_ready()
     }
 
-    fn leave(mutex: &mut MutexState<T, W>, slot: Slot) -> ((), Option<W>) {
-        ((), mutex.leave(slot))
+    fn leave(mutex: &mut MutexState<T, W>, slot: Slot) {
+        mutex.leave(slot);
     }
 }

@@ -4,7 +4,7 @@ ghost use Rattle.fi_parts.specs.Stays.{AllStay};
 ghost use Rattle.fi_locks.specs.Semaphore.{can_be_polled, GivesBack, Disarms};
 
 use crate::semaphore::{LocalSemaphore, SemaphoreState};
-use fi_parts::{FutureKind, FuturesOf, LocalFuture, PolledBySlot, Slot};
+use fi_parts::{FutureKind, FuturesOf, LocalFuture, Slot};
 use futures::task::Poll;
 use std::marker::Model;
 use std::mem;
@@ -26,7 +26,7 @@ impl FutureKind for SemaphoreAcquire {
 
 impl<W: Drop> FuturesOf<SemaphoreState<W>> for SemaphoreAcquire {
     ghost use Rattle.std.specs.Prelude.{◌≡◌, is_some};
-    ghost use Rattle.fi_parts.specs.Machine.{phase_at, displaced_at};
+    ghost use Rattle.fi_parts.specs.Machine.{phase_at};
     ghost use Rattle.fi_parts.specs.Polled.{is_ready};
     ghost use Rattle.fi_parts.specs.Stays.{OthersStay};
     ghost use Rattle.fi_locks.specs.Semaphore.{can_be_polled, Polls, Cancels, AreHeld};
@@ -42,8 +42,6 @@ impl<W: Drop> FuturesOf<SemaphoreState<W>> for SemaphoreAcquire {
     ghost is_pollable = { λ semaphore name. can_be_polled (phase_at semaphore name) };
 
     ghost is_live = { λ semaphore name. is_some (phase_at semaphore name) };
-
-    ghost waker_of = { displaced_at };
 
     ghost polls = { λ old name at. Polls old name };
 
@@ -64,17 +62,11 @@ impl<W: Drop> FuturesOf<SemaphoreState<W>> for SemaphoreAcquire {
         slot: Slot,
         _at: (),
         waker: W,
-    ) -> PolledBySlot<LocalSemaphoreReleaser, W> {
-        let (answer, leftover) = match semaphore.poll_checked(slot, waker) {
-            Ok(polled) => polled,
-            Err(waker) => return Err(waker),
-        };
+    ) -> Option<Poll<LocalSemaphoreReleaser>> {
+        let (answer, _leftover) = semaphore.poll_checked(slot, waker).ok()?;
         match answer {
-            Poll::Ready(permits) => Ok((
-                Poll::Ready(LocalSemaphoreReleaser::of(permits)),
-                leftover,
-            )),
-            Poll::Pending => Ok((Poll::Pending, leftover)),
+            Poll::Ready(permits) => Some(Poll::Ready(LocalSemaphoreReleaser::of(permits))),
+            Poll::Pending => Some(Poll::Pending),
         }
     }
 
@@ -82,8 +74,8 @@ impl<W: Drop> FuturesOf<SemaphoreState<W>> for SemaphoreAcquire {
         answer.is_ready()
     }
 
-    fn leave(semaphore: &mut SemaphoreState<W>, slot: Slot) -> ((), Option<W>) {
-        ((), semaphore.leave(slot))
+    fn leave(semaphore: &mut SemaphoreState<W>, slot: Slot) {
+        semaphore.leave(slot);
     }
 }
 

@@ -1,6 +1,6 @@
 //! The futures of a timer.
 use crate::timer::TimerState;
-use fi_parts::{FutureKind, FuturesOf, LocalFuture, PolledBySlot, Slot};
+use fi_parts::{FutureKind, FuturesOf, LocalFuture, Slot};
 use futures::task::Poll;
 
 /// The kind of a timer's futures: ready once a check has told them, or at a first poll that is not before their expiry. A poll says
@@ -20,7 +20,7 @@ impl FutureKind for TimerWait {
 
 impl<W: Drop> FuturesOf<TimerState<W>> for TimerWait {
     ghost use Rattle.std.specs.Prelude.{is_some};
-    ghost use Rattle.fi_parts.specs.Machine.{phase_at, displaced_at};
+    ghost use Rattle.fi_parts.specs.Machine.{phase_at};
     ghost use Rattle.fi_parts.specs.Polled.{is_ready};
     ghost use Rattle.fi_parts.specs.Stays.{OthersStay};
     ghost use Rattle.fi_locks.specs.Timer.{can_be_polled, Polls, Cancels};
@@ -38,8 +38,6 @@ impl<W: Drop> FuturesOf<TimerState<W>> for TimerWait {
 
     ghost is_live = { λ timer name. is_some (phase_at timer name) };
 
-    ghost waker_of = { displaced_at };
-
     ghost polls = { Polls };
 
     ghost is_end = { is_ready };
@@ -50,15 +48,16 @@ impl<W: Drop> FuturesOf<TimerState<W>> for TimerWait {
 
     ghost others_stay = { OthersStay can_be_polled };
 
-    fn poll(timer: &mut TimerState<W>, slot: Slot, now: u64, waker: W) -> PolledBySlot<(), W> {
-        timer.poll_checked(slot, now, waker)
+    fn poll(timer: &mut TimerState<W>, slot: Slot, now: u64, waker: W) -> Option<Poll<()>> {
+        let (answer, _leftover) = timer.poll_checked(slot, now, waker).ok()?;
+        Some(answer)
     }
 
     fn ends(answer: &Poll<()>) -> bool {
         answer.is_ready()
     }
 
-    fn leave(timer: &mut TimerState<W>, slot: Slot) -> ((), Option<W>) {
-        ((), timer.leave(slot))
+    fn leave(timer: &mut TimerState<W>, slot: Slot) {
+        timer.leave(slot);
     }
 }

@@ -33,7 +33,7 @@ pub use clocks::{Clock, MockClock, StdClock, whole_millis};
 pub use deadlines::{Deadlines, Timed};
 pub use drain::{Drain, ReverseDrain};
 pub use errors::{ChannelSendError, CloseStatus, Fault, NoRoom, Slot, StateId};
-pub use futures_of::{FutureKind, FuturesOf, PolledBySlot};
+pub use futures_of::{FutureKind, FuturesOf};
 pub use heap::PairingHeap;
 pub use line::{Entry, Line, last_waker, release, waker_from};
 pub use list::LinkedList;

@@ -123,7 +123,7 @@ impl<K> LocalFuture<K> {
         ensures unchanged { IfNone result ((state.new ≡ state.old) × (self.new ≡ self.old)) }
         ensures others { K.others_stay self.old.name state.old state.new }
     {
-        let (answer, _leftover) = K::poll(state, self.slot, at, waker).ok()?;
+        let answer = K::poll(state, self.slot, at, waker)?;
         self.is_ended = K::ends(&answer);
         Some(answer)
     }
@@ -143,8 +143,7 @@ impl<K> LocalFuture<K> {
             is_ended: _,
             kind: _,
         } = self;
-        let (left, _waker) = K::leave(state, slot);
-        left
+        K::leave(state, slot)
     }
 
     /// Ends the future: it leaves its primitive, as the kind's `cancels` says. The caller lends the future's own primitive.
