@@ -2,9 +2,9 @@
 use Rattle.std.specs.Prelude.{◌≡◌, List, [], ◌∷◌, Option, Some, None, map}
 
 -- The oldest waker is taken out; none comes where none is left.
-abbrev pub TakesOldest : {W : Type 0} → List W → Option W → List W → Type 0
-TakesOldest [] answer new = (answer ≡ None) × (new ≡ [])
-TakesOldest (waker ∷ wakers) answer new = (answer ≡ Some waker) × (new ≡ wakers)
+abbrev pub TakesFirst : {W : Type 0} → List W → Option W → List W → Type 0
+TakesFirst [] answer new = (answer ≡ None) × (new ≡ [])
+TakesFirst (waker ∷ wakers) answer new = (answer ≡ Some waker) × (new ≡ wakers)
 
 -- the wakers of named pairs, in their order
 abbrev pub wakers_in : {A W : Type 0} → List (A × W) → List W

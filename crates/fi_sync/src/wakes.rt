@@ -5,7 +5,7 @@ ghost use Rattle.futures.specs.Poll.{OnPending};
 ghost use Rattle.futures.specs.Task.{Covers, Keeps};
 ghost use Rattle.futures.specs.declared.task.waker.Waker.{Waker};
 ghost use Rattle.fi_sync.specs.Waiting.{is_over, IsPolled, IsSettled};
-ghost use Rattle.fi_sync.specs.Wakes.{TakesOldest};
+ghost use Rattle.fi_sync.specs.Wakes.{TakesFirst};
 
 mod taken_apart;
 
@@ -29,7 +29,7 @@ pub trait HasOutbox {
 
     /// Takes out the oldest waker that was named to be woken; None where none is left.
     fn next_wake(&mut self) -> Option<PollWaker>
-        ensures taken { TakesOldest (wakers self.old) result (wakers self.new) }
+        ensures taken { TakesFirst (wakers self.old) result (wakers self.new) }
         ensures step { wakes self.old result self.new };
 
     /// How many wakers are named to be woken.

@@ -1,6 +1,5 @@
 //! How many wakers a payment takes, against a state of the test's own.
-ghost use Rattle.std.specs.Prelude.{◌≡◌, length};
-ghost use Rattle.fi_sync.specs.Wakes.{TakesOldest};
+ghost use Rattle.fi_sync.specs.Wakes.{TakesFirst};
 
 use crate::{Guarded, HasOutbox, PollWaker};
 use futures::task::{Doorbell, Poll, Queue, Source, Waker};
@@ -19,7 +18,7 @@ impl HasOutbox for Named {
 
     ghost wakers = { λ named. vec_items named.wakers };
 
-    ghost wakes = { λ old answer new. TakesOldest (vec_items old.wakers) answer (vec_items new.wakers) };
+    ghost wakes = { λ old answer new. TakesFirst (vec_items old.wakers) answer (vec_items new.wakers) };
 
     fn next_wake(&mut self) -> Option<PollWaker> {
         if self.wakers.is_empty() {
