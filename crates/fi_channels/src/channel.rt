@@ -1,7 +1,7 @@
 //! The channel of many values, with sends and receives that wait.
-ghost use Rattle.std.specs.Prelude.{◌≡◌, ℕ, ◌==◌, not, Bool, true, false, Option, Some, None, IfOk, IfErr, OnErr, is_some, length};
+ghost use Rattle.std.specs.Prelude.{◌≡◌, ◌==◌, not, true, false, Option, IfOk, IfErr, OnErr, is_some, length};
 ghost use Rattle.futures.specs.Poll.{OnPending};
-ghost use Rattle.fi_parts.specs.Buffer.{Fits, empty};
+ghost use Rattle.fi_parts.specs.Buffer.{empty};
 ghost use Rattle.fi_channels.specs.Polled.{unused_after, Answered, displaced_by, WouldBeReady};
 ghost use Rattle.fi_channels.specs.Channel as channel;
 ghost use Rattle.fi_channels.specs.Channel.{opened, send_phase, receive_phase, kind_of, displaced_send};

@@ -1,5 +1,5 @@
 //! Why a call on a channel was refused.
-ghost use Rattle.std.specs.Prelude.{◌≡◌, Bool};
+ghost use Rattle.std.specs.Prelude.{◌≡◌};
 
 use fi_parts::Fault;
 use std::error::Error;

@@ -1,5 +1,5 @@
 //! The fields of a channel of many values, over any bounded buffer, and the calls on them.
-ghost use Rattle.std.specs.Prelude.{◌≡◌, ◌==◌, not, Bool, true, false, Option, Some, None, length, IfOk, IfErr, OnErr, is_some};
+ghost use Rattle.std.specs.Prelude.{◌≡◌, ◌==◌, not, true, false, Option, Some, None, length, IfOk, IfErr, OnErr, is_some};
 ghost use Rattle.fi_parts.specs.Buffer.{Fits, empty};
 ghost use Rattle.fi_parts.specs.Waiting.{phase_of, asks_of, is_registered};
 ghost use Rattle.fi_parts.specs.declared.phase.Phase.TheVariants.{Fresh};
@@ -8,7 +8,7 @@ ghost use Rattle.fi_channels.specs.Channel.{opened, can_send, can_take, can_rece
 ghost use Rattle.fi_channels.specs.Channel.{MakesReceive};
 ghost use Rattle.fi_channels.specs.Channel.{PollsSend, displaced_by_send, CancelsSend, PollsReceive, PollsNext};
 ghost use Rattle.fi_channels.specs.Channel.{CancelsReceive, TriesSend, TriesReceive, Closes, Wakes};
-ghost use Rattle.fi_channels.specs.Channel.{IsSound, has_room, displaced_send, displaced_receive, next_of, value_of};
+ghost use Rattle.fi_channels.specs.Channel.{IsSound, has_room, displaced_send, displaced_receive, next_of};
 ghost use Rattle.fi_channels.specs.ChannelFields.{machine_of, phase_given, Takes};
 ghost use Rattle.fi_channels.specs.Clearable.{bounded_of};
 ghost use Rattle.fi_channels.specs.Cleared.{ClosesAndClears};

@@ -1,11 +1,11 @@
 //! A semaphore.
-ghost use Rattle.std.specs.Prelude.{◌≡◌, ◌≤◌, ◌<◌, ◌+◌, ◌-◌, ◌^◌, ◌&&◌, ℕ, Bool, true, false, Option, Some};
+ghost use Rattle.std.specs.Prelude.{◌≡◌, ◌≤◌, ◌<◌, ◌+◌, ◌-◌, ◌^◌, ◌&&◌, true, false, Option, Some};
 ghost use Rattle.std.specs.Prelude.{None, IfOk, IfErr, OnErr, MatchOption, is_some, length, ⊤};
 ghost use Rattle.fi_parts.specs.Effects.{TakesEffect};
 ghost use Rattle.fi_parts.specs.Effects.WaiterEffect.{EndsPlaced};
 ghost use Rattle.fi_parts.specs.Machine.{phase_at, displaced_at};
 ghost use Rattle.fi_parts.specs.Polled.{unused_after, WouldBeReady, LeavesWhere};
-ghost use Rattle.fi_parts.specs.Waiting.{phase_of, displaced, is_registered, is_queued, IsOrderedBy};
+ghost use Rattle.fi_parts.specs.Waiting.{phase_of, displaced, is_registered};
 ghost use Rattle.fi_parts.specs.declared.phase.Phase.TheVariants as phases;
 ghost use Rattle.fi_locks.specs.Semaphore.{opened, can_be_polled, need_of, can_take, granted};
 ghost use Rattle.fi_locks.specs.Semaphore.{cancel_tells, Makes, Polls, Cancels, TriesAcquire, Releases};

@@ -1,5 +1,5 @@
 //! Bounded buffers, first in first out.
-ghost use Rattle.std.specs.Prelude.{◌≡◌, ℕ, ◌<◌, ◌≤◌, ◌==◌, ◌∷◌, ◌++◌, [], length, nat_lt, IfErr, IfOk, OnOk};
+ghost use Rattle.std.specs.Prelude.{◌≡◌, ℕ, ◌<◌, ◌≤◌, ◌==◌, ◌∷◌, length, nat_lt, IfErr, IfOk, OnOk};
 ghost use Rattle.fi_parts.specs.Buffer.{Bounded, Fits, empty, pushed, popped};
 ghost use Rattle.fi_parts.specs.declared.errors.Fault.TheVariants.{NoMemory};
 

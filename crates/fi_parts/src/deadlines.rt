@@ -1,15 +1,15 @@
 //! Futures that wait for a moment, and those that are registered in a heap by expiry.
 ghost use Rattle.fi_parts.specs.Polled.{LeavesWhere};
 ghost use Rattle.std.specs.Prelude.{◌≡◌, ◌≢◌, ℕ, [], Some, None, true, false, IfOk, IfErr, OnErr, length, drop};
-ghost use Rattle.std.specs.Prelude.{option_copied, MatchOption, MatchBool, nat_le, ◌<◌, is_some};
+ghost use Rattle.std.specs.Prelude.{option_copied, MatchOption, MatchBool, ◌<◌, is_some};
 ghost use Rattle.std.specs.Option.{option_map};
 ghost use Rattle.std.specs.FinMap as map;
 ghost use Rattle.std.specs.FinSet as set;
 ghost use Rattle.fi_parts.specs.HeapModel.{IsLiveIn, with_values};
 ghost use Rattle.fi_parts.specs.Pairs.{waker_of, without_pair, oldest};
-ghost use Rattle.fi_parts.specs.Waiting.{phase_of, asks_of, is_registered, waker_in, with_phase, no_futures};
+ghost use Rattle.fi_parts.specs.Waiting.{phase_of, is_registered, waker_in, with_phase, no_futures};
 ghost use Rattle.fi_parts.specs.Waiting.{insert_fresh, stays, without_future, displaced, IsLive};
-ghost use Rattle.fi_parts.specs.Deadlines.{told_due, IsLeastDue, NoneDue, TellsExpired, NoneHasPair, IsNextExpiry, is_fresh, expiry_of};
+ghost use Rattle.fi_parts.specs.Deadlines.{told_due, IsLeastDue, NoneDue, TellsExpired, NoneHasPair, IsNextExpiry, is_fresh};
 ghost use Rattle.fi_parts.specs.Seats.{unseated, deadlines_of, AreSeated, IsFirst};
 
 use crate::errors::{Fault, Slot};

@@ -1,5 +1,5 @@
 //! A pairing heap over live slots.
-ghost use Rattle.std.specs.Prelude.{◌≡◌, ℕ, Some, None, true, false, IfOk, IfErr, OnErr, option_copied, MatchOption, ◌==◌};
+ghost use Rattle.std.specs.Prelude.{◌≡◌, Some, None, true, false, IfOk, IfErr, OnErr, option_copied, MatchOption, ◌==◌};
 ghost use Rattle.std.specs.Option.{option_copied_mut};
 ghost use Rattle.std.specs.Borrow.{sem};
 ghost use Rattle.std.specs.FinMap as map;

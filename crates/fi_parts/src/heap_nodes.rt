@@ -1,5 +1,5 @@
 //! The nodes of a heap: a value under each slot, and the links of those that are in the heap.
-ghost use Rattle.std.specs.Prelude.{◌≡◌, ℕ, Some, None, true, is_some, [], IfOk, IfErr, OnErr, option_copied, length};
+ghost use Rattle.std.specs.Prelude.{◌≡◌, Some, None, is_some, [], IfOk, IfErr, OnErr, option_copied};
 ghost use Rattle.std.specs.Borrow.{sem};
 ghost use Rattle.slab.specs.Slab.{get, ContainsKey, Updates};
 ghost use Rattle.fi_parts.specs.HeapForests.{child_of, next_of, child_to, next_to, back_to, placed};

@@ -1,5 +1,5 @@
 //! How trees of a heap are melded and taken apart.
-ghost use Rattle.std.specs.Prelude.{◌≡◌, ◌≢◌, ℕ, Some, None, IfSome, is_some, true, false};
+ghost use Rattle.std.specs.Prelude.{◌≡◌, Some, None, IfSome, is_some, true, false};
 ghost use Rattle.fi_parts.specs.HeapForests.{child_of, backed, adopted, pointed, root_to, IsBackLinked};
 ghost use Rattle.fi_parts.specs.HeapPieces.{Meldable};
 ghost use Rattle.fi_parts.specs.HeapNodes.{values_of, links_of, IsLinked, Keeps, InParts, IsHeap, MeldsInto, KeepsValues, TakesOut, PutsIn};

@@ -1,5 +1,5 @@
 //! A journal that threads share, and the settling of its history with their receipts.
-ghost use Rattle.std.specs.Prelude.{◌≡◌, ◌≤◌, ◌+◌, ◌++◌, [], ◌∷◌, true, false, All, IsPermutation};
+ghost use Rattle.std.specs.Prelude.{◌≡◌, ◌≤◌, ◌+◌, [], true, false, All, IsPermutation};
 ghost use Rattle.std.specs.Prelude.{length, vec_len, IfOk, IfErr, IfSome, IfNone, OnErr};
 ghost use Rattle.std.specs.List.Sorted.{IsNonDecreasingBy};
 ghost use Rattle.fi_run.specs.Journal.{next_receipt, receipt_of, Records, Replays};

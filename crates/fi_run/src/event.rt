@@ -1,5 +1,5 @@
 //! The event as a primitive.
-ghost use Rattle.std.specs.Prelude.{◌≡◌, Bool, ℕ, List, [], IsOk, IfOk, IfErr};
+ghost use Rattle.std.specs.Prelude.{◌≡◌, Bool, IsOk, IfOk, IfErr};
 ghost use Rattle.fi_channels.specs.Event.{EventMachine, IsSound, OwesNoWake};
 ghost use Rattle.fi_run.specs.Event.{Opens, Step, InEveryRun};
 ghost use Rattle.fi_run.specs.EventHistory.{PollsAreRight, WakersAreKept};

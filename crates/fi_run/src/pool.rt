@@ -1,5 +1,5 @@
 //! The worker pool as a primitive.
-ghost use Rattle.std.specs.Prelude.{◌≡◌, ℕ, IfOk, IfErr};
+ghost use Rattle.std.specs.Prelude.{ℕ};
 ghost use Rattle.fi_run.specs.Pool.{PoolMachine, IsSound, OwesNoWake, Opens, InEveryRun};
 ghost use Rattle.fi_run.specs.PoolHistory.{StartsInOrder, RunningAddsUp, WakersAreKept};
 

@@ -1,6 +1,6 @@
 //! A worker pool.
 ghost use Rattle.std.specs.Prelude.{◌≡◌, IfOk, IfErr};
-ghost use Rattle.fi_run.specs.Pool.{IsSound, OwesNoWake, Opens, Step, KeepsJobs, SetsIf, is_drained};
+ghost use Rattle.fi_run.specs.Pool.{IsSound, OwesNoWake, Opens, Step, SetsIf, is_drained};
 ghost use Rattle.fi_run.specs.PoolFields.{machine_of, AreTied, IsPool};
 ghost use Rattle.fi_run.specs.declared.pool.PoolCall.TheVariants as calls;
 

@@ -1,5 +1,5 @@
 -- Ends are kept where the state stays closed and the counts stay as they are.
-use Rattle.std.specs.Prelude.{◌≡◌, ℕ}
+use Rattle.std.specs.Prelude.{ℕ}
 use Rattle.futures_intrusive.specs.Ends.{Closing, KeepsEnds, StaysClosed}
 
 pub keeps_ends : {S : Type 0} (closing : Closing S) (old new : S) (senders receivers : ℕ) → StaysClosed closing old new

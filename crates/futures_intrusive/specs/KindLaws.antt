@@ -1,11 +1,11 @@
 -- A poll or a cancel opens no closed channel, and puts nothing into a cleared one.
-use Rattle.std.specs.Prelude.{◌≡◌, ℕ, suc, Bool, true, false, Option, Some, None, is_some, Result, Ok, Err, List, [], ◌∷◌, length, refl}
+use Rattle.std.specs.Prelude.{◌≡◌, ℕ, suc, Bool, true, false, Option, Some, None, Result, Ok, Err, List, [], ◌∷◌, length, refl}
 use Rattle.std.proofs.Common.{sym, ap, subst, ◌∙◌, arith}
 use Rattle.std.proofs.lemmas.Bool.{both_ways}
 use Rattle.futures.specs.declared.task.Poll.{Poll}
 use Rattle.futures.specs.declared.task.Poll.TheVariants.{Ready, Pending}
 use Rattle.fi_parts.specs.Buffer.{Bounded}
-use Rattle.fi_parts.specs.Machine.{phase_at, displaced_at}
+use Rattle.fi_parts.specs.Machine.{phase_at}
 use Rattle.fi_parts.specs.declared.errors.Fault.{Fault}
 use Rattle.fi_parts.specs.declared.errors.Fault.TheVariants.{NoSlot}
 use Rattle.fi_parts.specs.declared.phase.Phase.{Phase}
@@ -16,7 +16,7 @@ use Rattle.fi_channels.specs.Channel.{ChannelMachine, Buffered, next_value, next
 use Rattle.fi_channels.specs.Channel.{receive_phase, kind_of}
 use Rattle.fi_channels.specs.Channel.{FreshSends, SendsAs, PollsSend, TakesNext, ReceivesAs, StreamsAs, PollsReceive}
 use Rattle.fi_channels.specs.Channel.{PollsNext}
-use Rattle.fi_channels.specs.Channel.{CancelsReceiveAs, CancelsReceive, displaced_receive, displaced_send, has_room}
+use Rattle.fi_channels.specs.Channel.{CancelsReceiveAs, CancelsReceive, has_room}
 use Rattle.fi_channels.specs.Channel.{value_of}
 use Rattle.fi_channels.specs.Polled.{Answered}
 use Rattle.fi_channels.specs.declared.channel_errors.SendFault.{SendFault}

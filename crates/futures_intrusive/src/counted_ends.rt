@@ -1,5 +1,5 @@
 //! What stands behind the lock of a channel's shared ends: its state, beside the counts of senders and receivers.
-ghost use Rattle.std.specs.Prelude.{◌≡◌, ℕ, true, List, Option, Result};
+ghost use Rattle.std.specs.Prelude.{◌≡◌, ℕ, true, Option, Result};
 ghost use Rattle.fi_channels.specs.declared.channel_errors.SendFault.{SendFault};
 ghost use Rattle.fi_parts.specs.declared.errors.Fault.{Fault};
 ghost use Rattle.futures.specs.declared.task.Poll.{Poll};

@@ -1,5 +1,5 @@
 //! Answering scripts.
-ghost use Rattle.std.specs.Prelude.{◌≡◌, ◌⊎◌, ℕ, List, [], Option, Some, true, OnOk, OnErr, IfOk, IfErr, MatchOption, drop, option_copied};
+ghost use Rattle.std.specs.Prelude.{◌≡◌, ◌⊎◌, ℕ, List, [], Option, Some, true, OnOk, IfOk, IfErr, MatchOption, drop, option_copied};
 ghost use Rattle.schedule.specs.Answered.{AnswersLine, IfStopped};
 ghost use Rattle.schedule.specs.Asked.{Requests, Asks, Performs};
 ghost use Rattle.schedule.specs.Channels.{spoken_channel, capacity_of};

@@ -1,5 +1,5 @@
 //! What stands under labels.
-ghost use Rattle.std.specs.Prelude.{◌≡◌, ◌<◌, ◌%◌, ℕ, Some, None, OnOk, IfOk, slice_get, vec_len};
+ghost use Rattle.std.specs.Prelude.{◌≡◌, ◌<◌, ◌%◌, ℕ, Some, None, OnOk, IfOk, vec_len};
 ghost use Rattle.schedule.specs.Stored.{shelf_of, Stores};
 
 use crate::label::Label;

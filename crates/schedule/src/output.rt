@@ -1,6 +1,6 @@
 //! Writing the answers.
 
-ghost use Rattle.std.specs.Prelude.{◌≡◌, ◌++◌, ◌∷◌, [], Some, OnOk, OnErr, IfErr, length, take};
+ghost use Rattle.std.specs.Prelude.{◌≡◌, ◌∷◌, [], Some, OnOk, IfErr, length, take};
 ghost use Rattle.std.specs.Io.KnownBytes.{Appends};
 ghost use Rattle.schedule.specs.Begun.{Begins};
 ghost use Rattle.schedule.specs.Outputs.{GoesOn, Collects, SameWriter};

@@ -1,6 +1,5 @@
 //! The texts of answers.
 ghost use Rattle.std.specs.Prelude.{◌≡◌, Some, None, Err, OnOk, IfErr, codes};
-ghost use Rattle.std.specs.Fmt.{decimal};
 ghost use Rattle.schedule.specs.Outputs.{GoesOn, Collects};
 ghost use Rattle.schedule.specs.Texts.{answer_text, fault_text, waker_text, with_number};
 

@@ -1,6 +1,6 @@
 //! The blocks, and the count of visits. The fields are private to this file: `reach` alone leads to a block's
 //! neighbours, and it counts one visit.
-ghost use Rattle.std.specs.Prelude.{◌≡◌, ◌∷◌, ℕ, Some, None, [], IsSome, IfOk, IfErr, OnErr};
+ghost use Rattle.std.specs.Prelude.{◌≡◌, ◌∷◌, Some, None, [], IsSome, IfOk, IfErr, OnErr};
 ghost use Rattle.std.specs.Borrow.{sem};
 ghost use Rattle.fi_parts.specs.Placed.{IsAddress, without_at};
 ghost use Rattle.fi_parts.specs.CountedBlocks.{block_in, links_in, data_in, item_in, slot_in, loose_block, LendsLinks, LendsItem};

@@ -1,6 +1,6 @@
 //! A buffer whose capacity is part of its type.
-ghost use Rattle.std.specs.Prelude.{◌≡◌, ◌<◌, ◌≤◌, ◌==◌, ◌∷◌, length, nat_lt, IfErr, IfOk, OnOk};
-ghost use Rattle.fi_parts.specs.Buffer.{Fits, empty, pushed, popped, reserved_after};
+ghost use Rattle.std.specs.Prelude.{◌≡◌, ◌<◌, ◌≤◌, ◌==◌, length, IfErr, IfOk, OnOk};
+ghost use Rattle.fi_parts.specs.Buffer.{Fits, empty, pushed, reserved_after};
 ghost use Rattle.fi_parts.specs.declared.errors.Fault.TheVariants.{NoMemory};
 
 use super::RingBuf;

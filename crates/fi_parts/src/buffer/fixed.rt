@@ -1,6 +1,6 @@
 //! A heap buffer that takes all its memory at first.
-ghost use Rattle.std.specs.Prelude.{◌≡◌, ◌<◌, ◌≤◌, ◌==◌, ◌∷◌, length, nat_lt, IfErr, IfOk, IsOk};
-ghost use Rattle.fi_parts.specs.Buffer.{Fits, empty, pushed, popped};
+ghost use Rattle.std.specs.Prelude.{◌≡◌, ◌<◌, ◌==◌, length, IfErr, IfOk, IsOk};
+ghost use Rattle.fi_parts.specs.Buffer.{Fits, empty, pushed};
 ghost use Rattle.fi_parts.specs.declared.errors.Fault.TheVariants.{NoMemory};
 
 use super::RingBuf;

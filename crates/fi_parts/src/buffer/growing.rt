@@ -1,6 +1,6 @@
 //! A heap buffer that grows.
-ghost use Rattle.std.specs.Prelude.{◌≡◌, ◌<◌, ◌≤◌, ◌==◌, ◌∷◌, length, nat_lt, IfErr, IfOk, IsOk, OnOk};
-ghost use Rattle.fi_parts.specs.Buffer.{Fits, empty, pushed, popped, doubled, reserved_after};
+ghost use Rattle.std.specs.Prelude.{◌≡◌, ◌<◌, ◌≤◌, ◌==◌, length, IfErr, IfOk, IsOk, OnOk};
+ghost use Rattle.fi_parts.specs.Buffer.{Fits, empty, pushed, doubled, reserved_after};
 
 use super::RingBuf;
 use super::block::Block;

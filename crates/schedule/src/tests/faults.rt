@@ -1,5 +1,4 @@
 //! Readers and writers that fail, and how a fault is reported.
-ghost use Rattle.std.specs.Prelude.{◌≡◌};
 
 use super::channel::RENDEZVOUS;
 use super::timer::EXPIRATIONS;

@@ -1,5 +1,4 @@
 use Rattle.std.proofs.Common.{rules, ◌≡◌, subst, sym, Ok, Err}
-use Rattle.futures.specs.declared.task.Poll.{Poll}
 use Rattle.futures.specs.declared.task.Poll.TheVariants.{Ready, Pending}
 use Rattle.fi_sync.specs.Granted.{IsAcquireAnswer}
 use Rattle.fi_sync.specs.Waiting.{SharedFuture}
