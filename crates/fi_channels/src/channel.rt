@@ -122,14 +122,6 @@ impl<T: Drop, B: RingBuf<Item = T>, W: Drop> ChannelState<T, B, W> {
         Ok(ChannelState { fields })
     }
 
-    /// For proofs: every channel is sound and owes no wake.
-    pub fn show(&self)
-        ensures sound { IsSound self.now }
-        ensures no_wake { OwesNoWake self.now }
-    {
-        let _ = &self.fields;
-    }
-
     /// Sends a value at once, if the channel is open and its buffer has room, and tells the oldest receive that waits.
     ///
     /// Else the value comes back and nothing has changed: `Closed` if the channel is closed, else `Full` if there is no room
@@ -256,9 +248,11 @@ impl<T: Drop, B: RingBuf<Item = T>, W: Drop> ChannelState<T, B, W> {
         self.fields.next_wake()
     }
 
-    /// How many wakers are named to be woken.
+    /// How many wakers are named to be woken. Its clauses also say what holds of every channel: it is sound and owes no wake.
     pub fn wake_count(&self) -> usize
-        ensures { result ≡ length self.now.waiting.out }
+        ensures count { result ≡ length self.now.waiting.out }
+        ensures sound { IsSound self.now }
+        ensures no_wake { OwesNoWake self.now }
     {
         self.fields.wake_count()
     }

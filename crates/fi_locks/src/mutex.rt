@@ -140,14 +140,6 @@ impl<T: Drop, W: Drop> MutexState<T, W> {
         }
     }
 
-    /// For proofs: every mutex is sound and owes no wake.
-    pub fn show(&self)
-        ensures sound { IsSound self.now }
-        ensures no_wake { OwesNoWake self.now }
-    {
-        let _ = &self.locks;
-    }
-
     /// A future that locks the mutex. Refused only with `NoMemory`; then nothing has changed.
     ///
     /// Keeps `GenericMutex::lock`.
@@ -222,9 +214,11 @@ impl<T: Drop, W: Drop> MutexState<T, W> {
         self.locks.next_wake()
     }
 
-    /// How many wakers are named to be woken.
+    /// How many wakers are named to be woken. Its clauses also say what holds of every mutex: it is sound and owes no wake.
     pub fn wake_count(&self) -> usize
-        ensures { result ≡ length self.now.waiting.out }
+        ensures count { result ≡ length self.now.waiting.out }
+        ensures sound { IsSound self.now }
+        ensures no_wake { OwesNoWake self.now }
     {
         self.locks.wake_count()
     }

@@ -117,14 +117,6 @@ impl<W: Drop> SemaphoreState<W> {
         }
     }
 
-    /// For proofs: every semaphore is sound and owes no wake.
-    pub fn show(&self)
-        ensures sound { IsSound self.now }
-        ensures no_wake { OwesNoWake self.now }
-    {
-        let _ = &self.fields;
-    }
-
     /// A future that acquires this many permits. Refused only with `NoMemory`; then nothing has changed.
     ///
     /// Keeps `GenericSemaphore::acquire`.
@@ -194,9 +186,11 @@ impl<W: Drop> SemaphoreState<W> {
         self.fields.next_wake()
     }
 
-    /// How many wakers are named to be woken.
+    /// How many wakers are named to be woken. Its clauses also say what holds of every semaphore: it is sound and owes no wake.
     pub fn wake_count(&self) -> usize
-        ensures { result ≡ length self.now.waiting.out }
+        ensures count { result ≡ length self.now.waiting.out }
+        ensures sound { IsSound self.now }
+        ensures no_wake { OwesNoWake self.now }
     {
         self.fields.waits.wake_count()
     }

@@ -86,14 +86,6 @@ impl<W: Drop> TimerState<W> {
         }
     }
 
-    /// For proofs: every timer is sound and owes no wake.
-    pub fn show(&self)
-        ensures sound { IsSound self.now }
-        ensures no_wake { OwesNoWake self.now }
-    {
-        let _ = &self.deadlines;
-    }
-
     /// A future for this moment, in milliseconds. Refused only with `NoMemory`; then nothing has changed.
     ///
     /// Keeps `LocalTimer::deadline`.
@@ -154,9 +146,11 @@ impl<W: Drop> TimerState<W> {
         self.deadlines.next_wake()
     }
 
-    /// How many wakers are named to be woken.
+    /// How many wakers are named to be woken. Its clauses also say what holds of every timer: it is sound and owes no wake.
     pub fn wake_count(&self) -> usize
-        ensures { result ≡ length self.now.waiting.out }
+        ensures count { result ≡ length self.now.waiting.out }
+        ensures sound { IsSound self.now }
+        ensures no_wake { OwesNoWake self.now }
     {
         self.deadlines.wake_count()
     }

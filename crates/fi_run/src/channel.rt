@@ -165,7 +165,7 @@ impl<T: Drop, B: RingBuf<Item = T>, W: Drop> Primitive for ChannelState<T, B, W>
     }
 
     fn show(&self) {
-        ChannelState::show(self);
+        let _ = self.wake_count();
     }
 }
 

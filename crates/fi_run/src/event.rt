@@ -135,7 +135,7 @@ impl<W: Drop> Primitive for EventState<W> {
     }
 
     fn show(&self) {
-        EventState::show(self);
+        let _ = self.wake_count();
     }
 }
 

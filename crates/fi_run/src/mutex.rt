@@ -143,7 +143,7 @@ impl<T: Drop, W: Drop> Primitive for MutexState<T, W> {
     }
 
     fn show(&self) {
-        MutexState::show(self);
+        let _ = self.wake_count();
     }
 }
 

@@ -151,7 +151,7 @@ impl<T: Drop, W: Drop, G: GivesValue<T>> Primitive for OneValueState<T, W, G> {
     }
 
     fn show(&self) {
-        OneValueState::show(self);
+        let _ = self.wake_count();
     }
 }
 

@@ -115,7 +115,7 @@ impl<W: Drop> Primitive for PoolState<W> {
     }
 
     fn show(&self) {
-        PoolState::show(self);
+        let _ = self.wake_count();
     }
 }
 

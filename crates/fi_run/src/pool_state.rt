@@ -1,5 +1,5 @@
 //! A worker pool.
-ghost use Rattle.std.specs.Prelude.{◌≡◌, IfOk, IfErr};
+ghost use Rattle.std.specs.Prelude.{◌≡◌, IfOk, IfErr, length};
 ghost use Rattle.fi_run.specs.Pool.{IsSound, OwesNoWake, Opens, Step, SetsIf, is_drained};
 ghost use Rattle.fi_run.specs.PoolFields.{machine_of, AreTied, IsPool};
 ghost use Rattle.fi_run.specs.declared.pool.PoolCall.TheVariants as calls;
@@ -78,14 +78,6 @@ impl<W: Drop> PoolState<W> {
         Ok(PoolState { fields })
     }
 
-    /// For proofs: every pool is sound and owes no wake.
-    pub fn show(&self)
-        ensures sound { IsSound self.now }
-        ensures no_wake { OwesNoWake self.now }
-    {
-        self.fields.show();
-    }
-
     /// Hands in a job, which waits behind the others. Answers `Done`.
     ///
     /// Else the job comes back in `Back` and nothing has changed: with `Closed` if the pool is shut down, else with `Full` if as many
@@ -154,6 +146,15 @@ impl<W: Drop> PoolState<W> {
     {
         self.fields.next_wake()
     }
+
+    /// How many wakers are named to be woken. Its clauses also say what holds of every pool: it is sound and owes no wake.
+    pub fn wake_count(&self) -> usize
+        ensures count { result ≡ length self.now.drained.waiting.out }
+        ensures sound { IsSound self.now }
+        ensures no_wake { OwesNoWake self.now }
+    {
+        self.fields.wake_count()
+    }
 }
 
 impl<W: Drop> Fields<W> {
@@ -163,7 +164,8 @@ impl<W: Drop> Fields<W> {
         ensures fault { IfErr result (λ fault. fault ≡ Fault.NoMemory) }
     {
         let jobs = ChannelState::with_capacity(alloc, capacity)?;
-        jobs.show();
+        // What holds of every channel holds of this one.
+        let _ = jobs.wake_count();
         Ok(Fields {
             jobs,
             permits: SemaphoreState::new(alloc, false, limit),
@@ -174,13 +176,15 @@ impl<W: Drop> Fields<W> {
         })
     }
 
-    fn show(&self)
+    fn wake_count(&self) -> usize
         requires { IsPool self.now }
+        ensures count { result ≡ length (machine_of self.now).drained.waiting.out }
         ensures sound { IsSound (machine_of self.now) }
         ensures no_wake { OwesNoWake (machine_of self.now) }
     {
-        self.jobs.show();
-        self.drained.show();
+        // The queue of jobs names nobody; what holds of it is part of what holds of the pool.
+        let _ = self.jobs.wake_count();
+        self.drained.wake_count()
     }
 
     fn submit(&mut self, job: u64) -> Answer<u64, W>

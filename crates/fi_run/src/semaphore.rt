@@ -148,7 +148,7 @@ impl<W: Drop> Primitive for SemaphoreState<W> {
     }
 
     fn show(&self) {
-        SemaphoreState::show(self);
+        let _ = self.wake_count();
     }
 }
 

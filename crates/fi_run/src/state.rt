@@ -144,7 +144,7 @@ impl<T: Clone, W: Drop> Primitive for StateBroadcastState<T, W> {
     }
 
     fn show(&self) {
-        StateBroadcastState::show(self);
+        let _ = self.wake_count();
     }
 }
 

@@ -141,7 +141,7 @@ impl<W: Drop> Primitive for TimerState<W> {
     }
 
     fn show(&self) {
-        TimerState::show(self);
+        let _ = self.wake_count();
     }
 }
 

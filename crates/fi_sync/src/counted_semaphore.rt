@@ -73,7 +73,8 @@ impl<L: Ledger> CountedSemaphore<L> {
         if !self.state.try_acquire_sync(permits) {
             return None;
         }
-        self.state.show();
+        // Of every semaphore it holds that its permits, free and held, fit `usize`.
+        let _ = self.state.wake_count();
         Some(self.tally.hand_out(permits))
     }
 
@@ -133,7 +134,8 @@ impl<L: Ledger> PollSlot<SemaphoreAcquire> for CountedSemaphore<L> {
         }
         let CountedSemaphore { state, tally } = self;
         let polled = state.poll_checked(slot, waker);
-        state.show();
+        // Of every semaphore it holds that its permits, free and held, fit `usize`.
+        let _ = state.wake_count();
         match polled {
             Ok((answer, leftover)) => match answer {
                 Poll::Ready(permits) => {

@@ -168,7 +168,7 @@ fn look<R: Wait>(event: &ManualResetEvent<R>) {
         ensures sound { IsSound state.old }
         ensures no_wake { OwesNoWake state.old }
     {
-        state.show();
+        let _ = state.wake_count();
     };
     event.monitor.call((), look)
 }

@@ -9,7 +9,7 @@ use futures::task::Poll;
 #[test]
 fn a_wait_by_slot(rt: HostRuntime) {
     let mut event: EventState<u64> = EventState::new(rt.alloc(), false);
-    event.show();
+    assert_eq!(rt; event.wake_count(), 0);
     let wait = event.wait().expect(&rt, "room");
     let slot = wait.slot();
     wait.cancel(&mut event);
@@ -30,7 +30,7 @@ fn a_wait_by_slot(rt: HostRuntime) {
 #[test]
 fn a_receive_by_slot(rt: HostRuntime) {
     let mut channel: OneshotState<u32, u64> = OneshotState::new(rt.alloc());
-    channel.show();
+    assert_eq!(rt; channel.wake_count(), 0);
     let slot = channel.claim_receive().expect(&rt, "room");
     let is_pending = channel.can_receive(slot)
         && channel.receive_or_register(slot, 1).0.is_pending();
@@ -47,7 +47,7 @@ fn a_receive_by_slot(rt: HostRuntime) {
 #[test]
 fn a_broadcast_by_slot(rt: HostRuntime) {
     let mut channel: OneshotBroadcastState<u32, u64> = OneshotBroadcastState::new(rt.alloc());
-    channel.show();
+    assert_eq!(rt; channel.wake_count(), 0);
     let slot = channel.claim_receive().expect(&rt, "room");
     let is_pending = channel.can_receive(slot)
         && channel.receive_or_register(slot, 1).0.is_pending();
@@ -64,7 +64,7 @@ fn a_broadcast_by_slot(rt: HostRuntime) {
 #[test]
 fn a_state_receive_by_slot(rt: HostRuntime) {
     let mut channel: StateBroadcastState<u32, u64> = StateBroadcastState::new(rt.alloc());
-    channel.show();
+    assert_eq!(rt; channel.wake_count(), 0);
     let slot = channel.claim_receive(StateId::new()).expect(&rt, "room");
     let is_pending = channel.can_receive(slot)
         && channel.receive_or_register(slot, 1).0.is_pending();

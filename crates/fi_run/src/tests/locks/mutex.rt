@@ -39,7 +39,7 @@ fn a_told_cancel_tells_the_next_while_locked(rt: HostRuntime) {
 #[test]
 fn an_unlock_of_a_free_mutex_hands_the_value_back(rt: HostRuntime) {
     let mut mutex: MutexState<u64, u64> = MutexState::new(rt.alloc(), 7, true);
-    mutex.show();
+    assert_eq!(rt; mutex.wake_count(), 0);
     assert!(rt; !mutex.is_locked());
     assert_eq!(rt; mutex.unlock(8), Err(8));
     assert_eq!(rt; mutex.try_take(), Some(7));
