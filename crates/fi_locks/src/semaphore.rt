@@ -40,8 +40,8 @@ struct Fields<W> {
 /// A semaphore: futures acquire permits, several at once, and give them back.
 ///
 /// A fair semaphore tells its futures in the order of their first polls: the longest front of its queue whose needs together are
-/// free. An unfair one lets a caller that finds permits free pass those that wait; if its futures need different numbers of
-/// permits, one whose need is free can be left without a notice.
+/// free. An unfair one lets a caller that finds permits free pass those that wait; once futures of different needs were made, one
+/// whose need is free can be left without a notice.
 ///
 /// It names the wakers to be woken and wakes nobody itself: whoever calls it takes them out by `next_wake`. Each call but a making
 /// takes constant time, and constant time more for each future that it tells; only the makings of futures take memory. Keeps
@@ -133,8 +133,8 @@ impl<W: Drop> SemaphoreState<W> {
         Ok(LocalSemaphoreAcquireFuture::at(slot))
     }
 
-    /// Acquires this many permits if they are free and, in a fair semaphore, nobody waits; none at all are always granted. None if
-    /// they are not granted; then nothing has changed.
+    /// Acquires this many permits if they are free and, in a fair semaphore, no future is queued; 0 permits are always granted.
+    /// None if they are not granted; then nothing has changed.
     ///
     /// Keeps `GenericSemaphore::try_acquire`.
     pub fn try_acquire(&mut self, permits: usize) -> Option<LocalSemaphoreReleaser>
@@ -150,7 +150,7 @@ impl<W: Drop> SemaphoreState<W> {
         }
     }
 
-    /// Adds free permits, and tells those who can be granted what they need then.
+    /// Adds free permits, and tells the longest front of the queue whose needs together are free then.
     ///
     /// Refused with `Overflow` if the permits, free and held, would be more than `usize::MAX`; then nothing has changed.
     /// Keeps `GenericSemaphore::release`, which does not check.
@@ -282,8 +282,9 @@ impl<W: Drop> SemaphoreState<W> {
         self.remove_waiter(slot)
     }
 
-    /// Cancels the future under this slot, which is live, and gives back the waker that it had. A notice that it had not used
-    /// is passed on to those who wait. If it waited in a fair semaphore, those behind it are told whose needs are free then.
+    /// Cancels the future under this slot, which is live, and gives back the waker that it had. A notice that it had not used is
+    /// passed on to those who wait. If it waited in a fair semaphore, the longest front of the queue whose needs together are
+    /// free then is told.
     pub fn remove_waiter(&mut self, slot: Slot) -> Option<W>
         requires { is_some (phase_at self.old slot.0) ≡ true }
         ensures cancelled { Cancels self.old slot.0 self.new }
@@ -303,7 +304,7 @@ impl<W: Drop> SemaphoreState<W> {
         self.fields.try_acquire(permits)
     }
 
-    /// Makes this many held permits free again, and tells those who can be granted what they need then.
+    /// Makes this many held permits free again, and tells the longest front of the queue whose needs together are free then.
     ///
     /// The caller has seen that they are held (`held`).
     pub fn give_back(&mut self, permits: usize)

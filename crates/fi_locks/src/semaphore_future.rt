@@ -9,11 +9,12 @@ use futures::task::Poll;
 use std::marker::Model;
 use std::mem;
 
-/// The kind of a semaphore's futures: ready with their permits, once these are granted. A cancel passes a notice that was not used on
-/// to those who wait; of one that waited in a fair semaphore, those behind it are told whose needs are free then.
+/// The kind of a semaphore's futures: ready with their permits, once these are granted. A cancel passes a notice that was not
+/// used on to those who wait; after that of one that waited in a fair semaphore, the longest front of the queue whose needs
+/// together are free then is told.
 pub struct SemaphoreAcquire;
 
-/// Acquires permits of a local semaphore. It is spent by `leave` or `cancel`, with its semaphore; it cannot be dropped.
+/// Acquires permits of a local semaphore. `leave` or `cancel` spends it, and is lent the semaphore; it cannot be dropped.
 ///
 /// Keeps `GenericSemaphoreAcquireFuture` of futures-intrusive's `sync`, and its `cancel` the drop of that.
 pub type LocalSemaphoreAcquireFuture = LocalFuture<SemaphoreAcquire>;
@@ -79,7 +80,8 @@ impl<W: Drop> FuturesOf<SemaphoreState<W>> for SemaphoreAcquire {
     }
 }
 
-/// Permits of a local semaphore that are held. They are spent by `give_back`, with their semaphore; they cannot be dropped.
+/// Permits of a local semaphore that are held. `give_back` or `disarm` spends them, and is lent the semaphore; they cannot be
+/// dropped.
 ///
 /// Keeps `GenericSemaphoreReleaser` of futures-intrusive's `sync`.
 pub struct LocalSemaphoreReleaser {
@@ -109,7 +111,7 @@ impl LocalSemaphoreReleaser {
         self.permits
     }
 
-    /// Gives the permits back, and tells those who can be granted what they need then.
+    /// Gives the permits back, and tells the longest front of the queue whose needs together are free then.
     ///
     /// The caller lends the permits' own semaphore, which holds them. Keeps the drop of `GenericSemaphoreReleaser`.
     pub fn give_back<W: Drop>(self, semaphore: &mut LocalSemaphore<W>)

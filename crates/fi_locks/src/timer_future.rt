@@ -7,7 +7,7 @@ use futures::task::Poll;
 /// which moment it is.
 pub struct TimerWait;
 
-/// Waits for a moment of a local timer. It is spent by `leave` or `cancel`, with its timer; it cannot be dropped.
+/// Waits for a moment of a local timer. `leave` or `cancel` spends it, and is lent the timer; it cannot be dropped.
 ///
 /// Keeps `LocalTimerFuture` of futures-intrusive's `timer`.
 pub type LocalTimerFuture = LocalFuture<TimerWait>;

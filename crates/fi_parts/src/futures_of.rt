@@ -13,7 +13,8 @@ pub trait FutureKind {
 
 /// The futures of this kind that a state `S` has. They are polled and cancelled by slot, so that one `LocalFuture` serves all kinds.
 ///
-/// No call asks its caller for anything: where no future lives under the slot, or where it has ended, nothing changes.
+/// No call asks its caller for anything: a poll changes nothing where no future lives under the slot that has not ended, a cancel
+/// where none lives there.
 pub trait FuturesOf<S>: FutureKind {
     type Waker: Drop;
 
@@ -50,11 +51,12 @@ pub trait FuturesOf<S>: FutureKind {
     /// What is left where no future was cancelled.
     ghost nothing: { Self.Left };
 
-    /// Whoever lives but the future of this name stays live from old to new, and can be polled still.
+    /// All others than the future of this name that live stay live from old to new, and those that could be polled still can.
     ghost others_stay: { ℕ → S → S → Type 0 };
 
-    /// Polls the future under this slot, if one lives there that has not ended: it ends with an answer, or is registered with this
-    /// waker. Else None, and nothing has changed. Wakers of no more use are dropped.
+    /// Polls the future under this slot, if one lives there that has not ended: it is ready with an answer, or is registered with
+    /// this waker. Whether an answer ends it, `is_end` says. Else None, and nothing has changed. Wakers of no more use are
+    /// dropped.
     fn poll(
         state: &mut S,
         slot: Slot,

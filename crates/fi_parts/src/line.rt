@@ -30,7 +30,7 @@ pub struct Entry<D, W> {
     pub future: Future<D, W>,
 }
 
-/// Futures by slot, a queue of those that wait, and the ticket of each.
+/// Futures by slot, the queue of those with a place in it, and the ticket of each.
 #[derive(Drop)]
 pub struct Line<D, W> {
     list: LinkedList<Entry<D, W>>,

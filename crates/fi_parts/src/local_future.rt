@@ -1,4 +1,4 @@
-//! The future of every primitive of one thread.
+//! The futures of the primitives of one thread.
 ghost use Rattle.std.specs.Prelude.{◌≡◌, true, false, IfSome, IfNone};
 ghost use Rattle.futures.specs.Poll.{OnPending};
 
@@ -8,8 +8,8 @@ use futures::task::Poll;
 use std::fmt;
 use std::marker::{Model, PhantomData};
 
-/// A future of the kind `K` of a primitive for one thread, which is lent to it to be polled. It is spent by `leave` or `cancel`, with
-/// its primitive; it cannot be dropped.
+/// A future of the kind `K` of a primitive for one thread, which is lent to it to be polled. `leave` or `cancel` spends it, and
+/// is lent the primitive too; it cannot be dropped.
 pub struct LocalFuture<K> {
     slot: Slot,
     is_ended: bool,
@@ -53,7 +53,8 @@ impl<K> LocalFuture<K> {
 
     /// Polls the future: it is ready, or it waits, registered with this waker. What an answer means is said by the kind's `polls`.
     ///
-    /// The caller lends the future's own primitive, and polls no future that has ended.
+    /// The future's slot has to be one that may be polled in `state`: lend the future's own primitive, and don't poll it after
+    /// its end.
     pub fn poll<S>(&mut self, state: &mut S, waker: K::Waker) -> Poll<K::Output>
     where
         K: FuturesOf<S, Moment = ()>,
@@ -88,8 +89,8 @@ impl<K> LocalFuture<K> {
         }
     }
 
-    /// Polls the future as `poll` does, if it lives in this primitive and has not ended. Else None, and nothing has changed: so it asks
-    /// its caller for nothing.
+    /// Polls the future as `poll` does, if one lives under its slot in this primitive that has not ended. Else None, and nothing
+    /// has changed: so it asks its caller for nothing.
     pub fn poll_if_live<S>(&mut self, state: &mut S, waker: K::Waker) -> Option<Poll<K::Output>>
     where
         K: FuturesOf<S, Moment = ()>,
@@ -128,7 +129,8 @@ impl<K> LocalFuture<K> {
         Some(answer)
     }
 
-    /// Ends the future as `cancel` does, if it lives in this primitive. Else nothing changes: so it asks its caller for nothing.
+    /// Cancels the future as `cancel` does, if one lives under its slot in this primitive. Else nothing changes: so it asks its
+    /// caller for nothing.
     pub fn leave<S>(self, state: &mut S) -> K::Left
     where
         K: FuturesOf<S>,
@@ -146,7 +148,8 @@ impl<K> LocalFuture<K> {
         K::leave(state, slot)
     }
 
-    /// Ends the future: it leaves its primitive, as the kind's `cancels` says. The caller lends the future's own primitive.
+    /// Cancels the future: it leaves its primitive, as the kind's `cancels` says. A future has to live under its slot in `state`:
+    /// lend the future's own primitive.
     pub fn cancel<S>(self, state: &mut S) -> K::Left
     where
         K: FuturesOf<S>,

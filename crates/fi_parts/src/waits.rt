@@ -19,7 +19,7 @@ use futures::task::Poll;
 use std::alloc::Global;
 use std::marker::Model;
 
-/// Futures by name, a queue of those that wait, and the wakers to be woken.
+/// Futures by slot, the queue of those with a place in it, and the wakers to be woken.
 #[derive(Drop)]
 pub struct Waits<D, W> {
     line: Line<D, W>,
@@ -174,8 +174,8 @@ impl<D: Drop, W: Drop> Waits<D, W> {
         self.line.exchange(slot, asks)
     }
 
-    /// Takes a future out of everything, and gives back what it asked for and the waker that it had. None where none lives under this
-    /// slot. It is looked up once.
+    /// Takes a future out of the store, the queue and the outbox, and gives back what it asked for and the waker that it had.
+    /// None where none lives under this slot. It is looked up once.
     pub fn remove(&mut self, slot: Slot) -> Option<(D, Option<W>)>
         ensures live { OnSome result (is_some (phase_of self.old.side slot.0) ≡ true) }
         ensures asked { IfSome result (λ left. asks_of self.old.side slot.0 ≡ Some left.0) }
@@ -205,7 +205,7 @@ impl<D: Drop, W: Drop> Waits<D, W> {
         Some((entry.future, named))
     }
 
-    /// Takes the oldest out of the queue; None where nobody waits.
+    /// Takes the oldest out of the queue; None if the queue is empty.
     pub fn leave_oldest(&mut self) -> Option<Slot>
         ensures { MatchOption result ((self.old.side.queue ≡ []) × (self.new ≡ self.old))
             (λ slot. (others : List ℕ) × (self.old.side.queue ≡ slot.0 ∷ others) ×
@@ -267,7 +267,7 @@ impl<D: Drop, W: Drop> Waits<D, W> {
         }
     }
 
-    /// Names the whole queue, the oldest first, with this notice for each.
+    /// Notices all queued futures, the oldest first: each leaves the queue and is named.
     pub fn notice_all(&mut self, notice: Notice)
         requires { IsOrdered self.old.side self.old.out }
         ensures { self.new ≡ notify_all (phase_after notice) self.old }

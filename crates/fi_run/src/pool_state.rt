@@ -22,7 +22,7 @@ struct Fields<W> {
     permits: SemaphoreState<W>,
     // Set once the pool is shut down and no job waits or runs.
     drained: EventState<W>,
-    // Whether `jobs` is open, how many wait in it, and how many may: it has no calls that say so.
+    // Whether `jobs` is open, how many wait in it, and how many may, kept beside it.
     is_open: bool,
     waiting: usize,
     capacity: usize,

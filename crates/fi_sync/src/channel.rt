@@ -108,8 +108,8 @@ impl<T: Drop, B: RingBuf<Item = T>, R: Wait> GenericChannel<T, B, R> {
         self.monitor.call((), |channel, ()| channel.try_receive())
     }
 
-    /// Closes the channel and wakes all receives that wait and then all sends. `AlreadyClosed` where it was closed; then nothing has
-    /// changed. Keeps `GenericChannel::close`.
+    /// Closes the channel and wakes all receives and then all sends that wait. `AlreadyClosed` where it was closed; then nothing
+    /// has changed. Keeps `GenericChannel::close`.
     pub fn close(&self) -> CloseStatus {
         self.monitor.call((), |channel, ()| channel.close())
     }
@@ -181,7 +181,7 @@ impl<T: Drop, B: RingBuf<Item = T>, R: Wait> GenericChannel<T, B, R> {
 
 impl<T: Drop, B: RingBuf<Item = T>, R: Blocking> GenericChannel<T, B, R> {
     /// Blocks this thread until the value is stored or taken. Else the value comes back: with `Closed`, or with `NoMemory` where
-    /// there is none to wait with or the buffer could not grow; never with `Full`.
+    /// no executor can be made or the buffer could not grow; never with `Full`.
     pub fn send_blocking(&self, value: T) -> Result<(), TrySendError<T>> {
         match self.send(value) {
             Ok(mut send) => send.wait_blocking(self.monitor.runtime()),
@@ -190,7 +190,7 @@ impl<T: Drop, B: RingBuf<Item = T>, R: Blocking> GenericChannel<T, B, R> {
     }
 
     /// Blocks this thread until a value comes, and receives it; None once the channel is closed and empty. Refused with
-    /// `NoMemory` where there is none to wait with; then it took nothing.
+    /// `NoMemory` where no executor can be made; then it took nothing.
     pub fn receive_blocking(&self) -> Result<Option<T>, Fault> {
         let receive = self.receive()?;
         wait_for(self.monitor.runtime(), receive)?

@@ -1,4 +1,4 @@
-//! The slot of a future, which the future's drop has to give back.
+//! The slot of a future, which has to be given back: by the poll that ends it, or by its drop.
 ghost use Rattle.std.specs.Prelude.{◌≡◌, ℕ, Some, None};
 ghost use Rattle.fi_sync.specs.Waiting.{name_after};
 
@@ -7,7 +7,7 @@ use std::marker::{Model, PhantomData};
 
 /// A state whose futures of the kind `K` can be cancelled by slot.
 pub trait Cancel<K> {
-    /// What a cancelled future leaves: the waker that it had, or a value that was to be sent.
+    /// What a cancelled future leaves: the waker that it had, and of a send the value that it still owned.
     type Left: Drop;
 
     /// A cancel under this name may leave this and go on from old to new.

@@ -64,8 +64,8 @@ impl<L: Ledger> CountedSemaphore<L> {
         self.state.claim_acquire(permits)
     }
 
-    /// Acquires this many permits if they are free and, in a fair semaphore, nobody waits; none at all are always granted. None if
-    /// they are not granted; then nothing has changed.
+    /// Acquires this many permits if they are free and, in a fair semaphore, no future is queued; 0 permits are always granted.
+    /// None if they are not granted; then nothing has changed.
     pub fn try_acquire(&mut self, permits: usize) -> Option<Grant<L>>
         ensures tried { TriesAcquire self.old permits (is_some result) self.new }
         ensures granted { IfSome result (λ grant. grant ≡ permits) }

@@ -3,9 +3,9 @@
 //! - `ManualResetEvent`, `Mutex`, `Semaphore`, `SharedSemaphore`, `TimerService`, and the channels: `Channel`, `UnbufferedChannel`,
 //!   `OneshotChannel`, `OneshotBroadcastChannel`, `StateBroadcastChannel`. `futures_intrusive` has them under the crate's paths.
 //! - A future is dropped where it is not wanted any more: it leaves its primitive, and passes on a notice that it has not used.
-//! - `Blocking` and `wait_for` wait for a future on a thread of their own.
-//! - `Monitor` is a state behind its lock, `Claim` a future's place in it. A call gives what it owes (whom to wake) beside its answer,
-//!   and that is paid with no lock held.
+//! - `wait_for` blocks the calling thread until a future is ready; `Blocking` is what it needs of the runtime.
+//! - `Monitor` is a state behind its lock, `Claim` a future's place in it. A call gives what it owes (whom to wake) beside its
+//!   answer; to pay it, each waker is taken out in a hold of its own and woken with no lock held.
 //!
 //! "Keeps `X`" says which item of futures-intrusive an item stands for.
 #![tactic(auto)]

@@ -117,8 +117,8 @@ impl<T: Drop, R: Wait, L: Ledger> Mutex<T, R, L> {
 }
 
 impl<T: Drop, R: Blocking, L: Ledger> Mutex<T, R, L> {
-    /// Blocks this thread until the mutex is free for it, and locks it: its guard. Refused with `NoMemory` where there is none to
-    /// wait with.
+    /// Blocks this thread until the mutex is free for it, and locks it: its guard. Refused with `NoMemory` where no executor can
+    /// be made.
     pub fn lock_blocking(&self) -> Result<MutexGuard<'_, T, R, L>, Fault> {
         let lock = self.lock()?;
         wait_for(self.monitor.runtime(), lock)?
@@ -195,9 +195,8 @@ impl<T: Drop, R: Wait, L: Ledger> DerefMut for MutexGuard<'_, T, R, L> {
 
 /// Locks a mutex. Its drop unregisters it; if it was told, the oldest queued future is told and woken in its place.
 ///
-/// Its output is the guard, once the mutex is free for it. Refused with `NoMemory` where it had to wait and no waker
-/// could be made; it may then be
-/// polled again. Keeps `GenericMutexLockFuture` of futures-intrusive's `sync`.
+/// Its output is the guard, once the mutex is free for it. Refused with `NoMemory` where it had to wait and no waker could be
+/// made; it may then be polled again. Keeps `GenericMutexLockFuture` of futures-intrusive's `sync`.
 #[derive(Drop)]
 pub struct MutexLockFuture<'a, T: Drop, R: Wait, L: Ledger> {
     monitor: &'a Monitor<CountedMutex<T, L>, R>,

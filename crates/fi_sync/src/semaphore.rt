@@ -17,9 +17,9 @@ use std::sync::ledger::{Blank, Ledger};
 
 /// A semaphore: futures acquire permits, several at once, and releasers give them back. Threads share it by reference.
 ///
-/// A fair semaphore tells its futures in the order of their first polls; of those told together, the one polled first is granted
-/// first. An unfair one lets a caller that finds permits free pass those that wait. Each call but `new` takes the lock. Keeps
-/// `GenericSemaphore` of futures-intrusive's `sync`.
+/// A fair semaphore tells its futures in the order of their first polls; those told together are granted in the order in which
+/// they are polled again. An unfair one lets a caller that finds permits free pass those that wait. Each call but `new` takes the
+/// lock. Keeps `GenericSemaphore` of futures-intrusive's `sync`.
 ///
 /// # Examples
 ///
@@ -83,8 +83,8 @@ impl<R: Wait, L: Ledger> Semaphore<R, L> {
         Ok(SemaphoreAcquireFutureOf::of(&self.monitor, &self.monitor, claim))
     }
 
-    /// Acquires this many permits if they are free and, in a fair semaphore, nobody waits; none at all are always granted. None
-    /// if they are not granted. Keeps `GenericSemaphore::try_acquire`.
+    /// Acquires this many permits if they are free and, in a fair semaphore, no future is queued; 0 permits are always granted.
+    /// None if they are not granted. Keeps `GenericSemaphore::try_acquire`.
     pub fn try_acquire(&self, permits: usize) -> Option<SemaphoreReleaser<'_, R, L>>
         ensures { IfSome result (λ releaser. releaser ≡ permits) }
     {
@@ -92,7 +92,7 @@ impl<R: Wait, L: Ledger> Semaphore<R, L> {
         Some(SemaphoreReleaserOf::of(&self.monitor, grant))
     }
 
-    /// Adds free permits, and wakes those who can be granted what they need then.
+    /// Adds free permits, and wakes the longest front of the queue whose needs together are free then.
     ///
     /// Refused with `Overflow` if the permits, free and held, would be more than `usize::MAX`; then nothing has changed.
     /// Keeps `GenericSemaphore::release`, which does not check.
@@ -114,8 +114,8 @@ impl<R: Wait, L: Ledger> Semaphore<R, L> {
 }
 
 impl<R: Blocking, L: Ledger> Semaphore<R, L> {
-    /// Blocks this thread until this many permits are granted: their releaser. Refused with `NoMemory` where there is none to wait
-    /// with.
+    /// Blocks this thread until this many permits are granted: their releaser. Refused with `NoMemory` where no executor can be
+    /// made.
     pub fn acquire_blocking(&self, permits: usize) -> Result<SemaphoreReleaser<'_, R, L>, Fault> {
         let acquire = self.acquire(permits)?;
         wait_for(self.monitor.runtime(), acquire)?

@@ -21,9 +21,8 @@ use std::sync::ledger::Ledger;
 
 /// Acquires permits of a semaphore. Its drop unregisters it; a notice that it had not used is passed on to those who wait.
 ///
-/// Its output is the releaser of the permits, once they are granted. Refused with `NoMemory` where it had to wait and
-/// no waker could be made; it may
-/// then be polled again. It reaches the semaphore by a reference or an `Arc`.
+/// Its output is the releaser of the permits, once they are granted. Refused with `NoMemory` where it had to wait and no waker
+/// could be made; it may then be polled again. It reaches the semaphore by a reference or an `Arc`.
 #[derive(Drop)]
 pub struct SemaphoreAcquireFutureOf<M: HasMonitor<State = CountedSemaphore<L>>, L: Ledger> {
     future: SlotFuture<M, SemaphoreAcquire>,

@@ -7,7 +7,8 @@ use crate::tally::Grant;
 use std::marker::Model;
 use std::sync::ledger::Ledger;
 
-/// Permits of a semaphore that are held. Its drop gives them back, and wakes those who can be granted what they need then.
+/// Permits of a semaphore that are held. Its drop gives them back, and wakes the longest front of the queue whose needs together
+/// are free then.
 ///
 /// It reaches the semaphore by a reference or an `Arc`.
 pub struct SemaphoreReleaserOf<M: HasMonitor<State = CountedSemaphore<L>>, L: Ledger> {

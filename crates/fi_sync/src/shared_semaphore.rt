@@ -18,7 +18,8 @@ use std::sync::{Arc, Wait};
 
 /// A semaphore whose futures and releasers own a share of it, so that they borrow nothing.
 ///
-/// Its calls are those of `Semaphore`. Keeps `GenericSharedSemaphore` of futures-intrusive's `sync`.
+/// Its calls are those of `Semaphore`; `new` and `try_acquire` can be refused memory besides, as `clone`, which makes one more
+/// owner. Keeps `GenericSharedSemaphore` of futures-intrusive's `sync`.
 ///
 /// # Examples
 ///
@@ -104,8 +105,8 @@ impl<R: Wait + Drop, L: Ledger> SharedSemaphore<R, L> {
         Ok(SemaphoreAcquireFutureOf::of(monitor, releaser_monitor, claim))
     }
 
-    /// Acquires this many permits if they are free and, in a fair semaphore, nobody waits; none at all are always granted. None
-    /// if they are not granted. Refused with `NoMemory` as `clone`; then nothing has changed. Keeps
+    /// Acquires this many permits if they are free and, in a fair semaphore, no future is queued; 0 permits are always granted.
+    /// None if they are not granted. Refused with `NoMemory` as `clone`; then nothing has changed. Keeps
     /// `GenericSharedSemaphore::try_acquire`.
     pub fn try_acquire(
         &self,
@@ -139,8 +140,8 @@ impl<R: Wait + Drop, L: Ledger> SharedSemaphore<R, L> {
         self.monitor.call((), |semaphore, ()| semaphore.held())
     }
 
-    /// Blocks this thread until this many permits are granted: their releaser. Refused with `NoMemory` where there is none to wait
-    /// with.
+    /// Blocks this thread until this many permits are granted: their releaser. Refused with `NoMemory` where no executor can be
+    /// made.
     pub fn acquire_blocking(&self, permits: usize) -> Result<SharedSemaphoreReleaser<R, L>, Fault>
     where
         R: Blocking,

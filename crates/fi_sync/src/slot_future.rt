@@ -16,9 +16,9 @@ use futures::Future;
 use futures::task::{Context, Poll, Waker};
 use std::marker::Model;
 
-/// What a poll gives that is ready: an output that ends its future, or that the poll was refused.
+/// The output of a ready poll. It ends its future or doesn't: a refusal and an item of a stream don't.
 pub trait PollOutput {
-    /// The output ends its future; a refusal doesn't.
+    /// This output ends its future.
     ghost is_last: { Self → Bool };
 
     /// The output of a poll that is refused for this.
@@ -82,12 +82,14 @@ pub trait PollSlot<K>: Cancel<K> {
 }
 
 /// A future of the kind `K` of a primitive that threads share, which it reaches by a reference or an `Arc`. The poll that ends it
-/// cancels it too, in the same hold of the lock, so that its drop takes no lock; the drop of another cancels it.
+/// cancels it too, in the same hold of the lock, so that its drop takes no lock. The drop of a future that has not ended cancels
+/// it.
 ///
-/// A poll that is ready makes no waker, unless the future has another task's from a poll before: that one is exchanged first, which
-/// wakes the other task. A poll that has to wait and can make no waker is refused with `NoMemory`: the future and its primitive are
-/// then as they were, and it may be polled again; if it has another task's, that one is registered instead, and this task is polled
-/// again. A future that has ended, or was cancelled, stays pending, does nothing to its primitive, and keeps the poll's waker.
+/// A poll that is ready makes no waker, unless the future has another task's from a poll before: that one is exchanged first,
+/// which wakes the other task. A poll that has to wait and can make no waker is refused with `NoMemory`: the future and its
+/// primitive are then as they were, and it may be polled again; if it has another task's, that one is registered instead, and
+/// this task is polled again. A future that has ended, or was cancelled, stays pending, does nothing to its primitive, and keeps
+/// the poll's waker.
 pub struct SlotFuture<M: HasMonitor, K>
 where
     M::State: PollSlot<K>,
@@ -139,7 +141,7 @@ where
         self.claim.is_none()
     }
 
-    /// Cancels the future, and answers what it leaves, if it had not ended before. It has ended then.
+    /// Cancels the future, and answers what it leaves; None if it had ended before. Afterwards it has ended.
     pub(crate) fn withdraw(&mut self) -> Option<<M::State as Cancel<K>>::Left>
         ensures ended { self.new ≡ record { source = self.old.source; name = None; has_ended = true } }
         ensures left { IfSome result (λ left. IsLeftBy M.State.cancels self.old.name left) }

@@ -20,8 +20,8 @@ use std::sync::Arc;
 use std::thread::Parker;
 use std::time::Duration;
 
-/// A timer with its clock. Each call that needs the time reads the clock itself and hands it to nobody, so no time that was read in
-/// one hold of the lock is used in another.
+/// A timer with its clock. Each call that needs the time reads the clock itself and hands it to nobody; of what was read in one
+/// hold of the lock the runner's next check alone is used in another.
 #[derive(Drop)]
 pub struct Timed<C> {
     timer: TimerState<PollWaker>,

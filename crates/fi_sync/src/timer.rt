@@ -20,7 +20,7 @@ use std::time::Duration;
 /// How long `TimerService::run` sleeps at most before it looks at its event again, in milliseconds.
 const LONGEST_SLEEP: u64 = 10;
 
-/// A timer whose futures end when their time has come. Threads share it by reference.
+/// A timer: its futures are ready once a check at or past their moment has told them. Threads share it by reference.
 ///
 /// Only a check tells futures, so some thread has to `run` the timer, or to call `check_expirations` as time
 /// passes. Each call but `new` takes the lock, and wakes those who were told and not woken yet. Keeps
@@ -130,8 +130,8 @@ impl<C: Clock + Drop, R: Blocking> TimerService<C, R> {
     /// Blocks this thread until the future is ready, but at most so long: its output, or None once the time is over. Then the future
     /// goes on: it may be waited for again, cancelled or dropped.
     ///
-    /// The time is over when a check finds it so: another thread has to `run` the timer, or to call
-    /// `check_expirations`. Refused with `NoMemory` where there is none to wait with; the future goes on then too.
+    /// The time is over when a check finds it so: another thread has to `run` the timer, or to call `check_expirations`. Refused
+    /// with `NoMemory` where no executor can be made; the future goes on then too.
     pub fn wait_at_most<F: Future>(
         &self,
         limit: Duration,

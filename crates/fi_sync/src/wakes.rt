@@ -16,7 +16,7 @@ use futures::task::{Context, Poll, Source, Waker};
 use std::marker::Model;
 use std::sync::{Mutex, Wait};
 
-/// The waker of a poll. None where the poll is ready without one: only a poll that waits gets one.
+/// The waker of a poll, or None: a poll that waits has one, a ready one may do without.
 pub type PollWaker = Option<Waker>;
 
 /// A state that wakes nobody itself: its calls name whom to wake.
@@ -39,8 +39,9 @@ pub trait HasOutbox {
 
 /// A state behind a lock, which lends it for one call at a time.
 ///
-/// Only this module has the lock, and no reference to the state outlives a call. So whoever made a call has an `Owed`, and only what
-/// the call answered can go from one hold of the lock to another.
+/// Only this module has the lock, and no reference to the state outlives a hold of it. So whoever made a call has an `Owed`, and
+/// only what the call answered can go from one hold of the lock to another. (`into_inner` and `get_mut` of a mutex take no lock:
+/// nobody else reaches it then, so nobody waits.)
 #[derive(Drop)]
 pub struct Guarded<S> {
     state: Mutex<S>,
@@ -74,8 +75,9 @@ impl<S: HasOutbox> Guarded<S> {
 
     /// Polls the future that has this claim, as `lend` makes a call. (The borrow checker doesn't cover a closure that does it.)
     ///
-    /// A waker is made only if the poll has to wait and there is no spare one, in the same hold of the lock. If none can be made, the
-    /// answer is None and nothing has changed. If the poll ends the future, that is cancelled too, in the same hold.
+    /// A waker is made if the poll has to wait and there is no spare one, in the same hold of the lock, or before it if the spare
+    /// one is another task's. If none can be made, the answer is None and nothing has changed. If the poll ends the future, that
+    /// is cancelled too, in the same hold.
     pub fn poll<K, R: Wait>(
         &self,
         rt: &R,
@@ -128,7 +130,8 @@ impl<'a, S: HasOutbox> Model for Owed<'a, S> {
 }
 
 impl<S: HasOutbox> Owed<'_, S> {
-    /// Takes out and wakes so many, the oldest first, with one hold of the lock for each, and none held meanwhile.
+    /// Takes out and wakes so many, the oldest first: each is taken out in a hold of the lock of its own, and woken with no lock
+    /// held.
     ///
     /// Another thread may have taken some of them out; then it wakes them.
     pub fn pay<R: Wait>(self, rt: &R) {
@@ -136,7 +139,7 @@ impl<S: HasOutbox> Owed<'_, S> {
         for _ in 0..count {
             match state.take_oldest(rt) {
                 Some(Some(waker)) => waker.wake(),
-                // The pair of a poll that needed no waker.
+                // No future is registered without a waker, so this doesn't come.
                 Some(None) => {}
                 None => return,
             }
