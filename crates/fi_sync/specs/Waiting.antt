@@ -1,5 +1,5 @@
 -- What a contract sees of a future of a primitive that threads share.
-use Rattle.std.specs.Prelude.{◌≡◌, ◌⊎◌, ℕ, Bool, true, false, Option, Some, None, is_some, IfSome, Result, Err, ⊤}
+use Rattle.std.specs.Prelude.{◌≡◌, ◌⊎◌, ℕ, Bool, true, false, Option, Some, None, is_some, MatchOption, Result, Err, ⊤}
 use Rattle.futures.specs.Poll.{OnPending}
 use Rattle.futures.specs.declared.task.Poll.{Poll}
 use Rattle.futures.specs.declared.task.Poll.TheVariants.{Ready, Pending}
@@ -102,11 +102,11 @@ Befalls cancels true name (Ended left) old new = cancels old name left new
 Befalls cancels false name (GoesOn claim) old new = (claim ≡ name) × (new ≡ old)
 Befalls cancels false name (Ended left) old new = ⊥
 
--- A poll under this name, or none, and what becomes of its future then, lead from old to new.
+-- A poll under this name, or none, which changes nothing, and what becomes of its future then, lead from old to new.
 abbrev pub IsSettled : {S W A B K L : Type 0} → (S → ℕ → Option W → Poll A → S → Type 0) → (S → ℕ → L → S → Type 0) → (A → Bool)
     → ℕ → Option (Poll A × B) → Fate K L → S → S → Type 0
 IsSettled {S} polls cancels is_last name polled fate old new =
-    (between : S) × IfSome polled (λ polled. IsPolled polls name polled.0 old between)
+    (between : S) × MatchOption polled (between ≡ old) (λ polled. IsPolled polls name polled.0 old between)
     × Befalls cancels (is_over is_last polled) name fate between new
 
 -- If a poll with this answer has ended its future, it was one under the future's own name, and a cancel under that name followed it in the

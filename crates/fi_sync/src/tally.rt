@@ -4,7 +4,7 @@ ghost use Rattle.std.specs.Prelude.{◌≡◌, ◌+◌, ◌≤◌};
 use std::marker::Model;
 use std::sync::ledger::{Blank, Book, Ledger, Share};
 
-/// How much is held of what a primitive hands out: the total of its ledger's book. It takes no bytes.
+/// How much is held of what a primitive hands out: the total of its ledger's book.
 #[derive(Drop)]
 pub struct Tally<L: Ledger> {
     book: Book<L>,

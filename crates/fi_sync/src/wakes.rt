@@ -1,5 +1,5 @@
 //! A state that is lent for one call at a time, and the duty to wake those that the call named.
-ghost use Rattle.std.specs.Prelude.{◌≡◌, true, List, Option, IfSome, IfNone, is_some, length};
+ghost use Rattle.std.specs.Prelude.{◌≡◌, true, List, Option, IfSome, IfNone, MatchOption, is_some, length};
 ghost use Rattle.std.specs.Borrow.{MutBor};
 ghost use Rattle.futures.specs.Poll.{OnPending};
 ghost use Rattle.futures.specs.Task.{Covers, Keeps};
@@ -156,7 +156,7 @@ fn poll_or_end<K, S: PollSlot<K>>(
     spare: &mut Option<Waker>,
 ) -> (SlotPolled<S::Output>, Fate<K, S::Left>)
     requires registered { is_some spare.old ≡ true → Covers cx.old (λ s. s ≡ source.now.id) }
-    ensures settled { (old : S) × IsSettled S.polls S.cancels S.Output.is_last claim result.0 result.1 old state.new }
+    ensures settled { IsSettled S.polls S.cancels S.Output.is_last claim result.0 result.1 state.old state.new }
     ensures registered { IfSome result.0 (λ polled. OnPending polled.0 (Covers cx.new (λ s. s ≡ source.now.id))) }
     ensures lacks { IfNone result.0 (cx.new.lacks_waker ≡ true) }
     ensures kept { Keeps cx.old cx.new }
@@ -188,7 +188,7 @@ fn poll_or_register<K, S: PollSlot<K>>(
     spare: &mut Option<Waker>,
 ) -> SlotPolled<S::Output>
     requires registered { is_some spare.old ≡ true → Covers cx.old (λ s. s ≡ source.now.id) }
-    ensures polled { IfSome result (λ polled. (old : S) × IsPolled S.polls slot.0 polled.0 old state.new) }
+    ensures polled { MatchOption result (state.new ≡ state.old) (λ polled. IsPolled S.polls slot.0 polled.0 state.old state.new) }
     ensures registered { IfSome result (λ polled. OnPending polled.0 (Covers cx.new (λ s. s ≡ source.now.id))) }
     ensures lacks { IfNone result (cx.new.lacks_waker ≡ true) }
     ensures kept { Keeps cx.old cx.new }

@@ -10,6 +10,7 @@ use crate::blocks::block::{Block, BlockPtr};
 use crate::blocks::chunk::Chunk;
 use std::alloc::Global;
 use std::marker::{Model, PhantomData, Send, Sync};
+use std::mem::size_of;
 
 /// The owner of the chunks' memory: of the blocks in it, and of the places where none lies. It takes no space.
 pub struct BlockPlaces<T> {
@@ -18,6 +19,8 @@ pub struct BlockPlaces<T> {
     pub(crate) ghost vacant: { Seq (Ptr × Unit {0}) },
     pub(crate) ghost chunks: { Seq (Ptr × ℕ) },
 }
+
+const _: () = prove!(size_of::<BlockPlaces<u64>>() == 0);
 
 impl<T> Model for BlockPlaces<T> {
     ghost also_owns = { λ h. owner_owns T.row h.blocks h.vacant h.chunks };
