@@ -1,5 +1,5 @@
 -- Journals: a state with its history, and the receipts of its calls.
-use Rattle.std.specs.Prelude.{◌≡◌, ℕ, ◌+◌, List, [], ◌∷◌, ◌++◌, map, length}
+use Rattle.std.specs.Prelude.{◌≡◌, ℕ, List, [], ◌∷◌, ◌++◌, map, length}
 use Rattle.fi_run.specs.Run.{IsRun}
 use Rattle.fi_run.specs.declared.journal.Entry.{Entry}
 
