@@ -412,6 +412,20 @@ impl<T: Drop, B: RingBuf<Item = T>, W: Drop> ChannelSendAccess for ChannelState<
     {
         self.fields.remove_send_waiter(slot)
     }
+
+    fn send_checked(&mut self, slot: Slot, waker: W) -> Result<Sent<T, W>, W> {
+        if !self.can_send(slot) {
+            return Err(waker);
+        }
+        Ok(self.send_or_register(slot, waker))
+    }
+
+    fn leave_send(&mut self, slot: Slot) -> (Option<T>, Option<W>) {
+        if !self.has_send(slot) {
+            return (None, None);
+        }
+        self.remove_send_waiter(slot)
+    }
 }
 
 impl<T: Drop, B: RingBuf<Item = T>, W: Drop> ChannelReceiveAccess for ChannelState<T, B, W> {
@@ -477,6 +491,20 @@ impl<T: Drop, B: RingBuf<Item = T>, W: Drop> ChannelReceiveAccess for ChannelSta
         ensures others { OtherReceivesStay slot.0 self.old self.new }
     {
         self.fields.remove_receive_waiter(slot)
+    }
+
+    fn receive_checked(&mut self, slot: Slot, waker: W) -> Result<Received<T, W>, W> {
+        if !self.can_receive(slot) {
+            return Err(waker);
+        }
+        Ok(self.receive_or_register(slot, waker))
+    }
+
+    fn leave_receive(&mut self, slot: Slot) -> Option<W> {
+        if !self.has_receive(slot) {
+            return None;
+        }
+        self.remove_receive_waiter(slot)
     }
 }
 
