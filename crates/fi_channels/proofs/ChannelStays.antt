@@ -99,6 +99,11 @@ module _ {T W : Type 0} (old new : ChannelMachine T W) (was : Holds old) where
   popping_stays waker did =
       these_stay did (λ q. ⊤) (λ q. ⊤) (λ q of lives. given_spares waker q) (λ q of lives. given_spares waker q)
 
+  -- a call that was refused
+  pub same_stay : (sends receives : ℕ → Type 0) → new ≡ old → TheseStay sends receives old new
+  same_stay sends receives same =
+      these_stay (unchanged old new same was) sends receives (λ q of lives. tt) (λ q of lives. tt)
+
   -- a cancel
   pub other_sends_stay : (name : ℕ) → Goes old new (Leaves name) NoEffect → OtherSendsStay name old new
   other_sends_stay name did = these_stay did (λ q. q ≢ name) (λ q. ⊤) (λ q ne lives. ne) (λ q of lives. tt)

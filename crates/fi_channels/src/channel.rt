@@ -1,8 +1,8 @@
 //! The channel of many values, with sends and receives that wait.
-ghost use Rattle.std.specs.Prelude.{◌≡◌, ◌==◌, not, true, false, Option, IfOk, IfErr, OnErr, is_some, length};
+ghost use Rattle.std.specs.Prelude.{◌≡◌, ◌==◌, not, true, false, Option, None, IfOk, IfErr, OnErr, is_some, length};
 ghost use Rattle.futures.specs.Poll.{OnPending};
 ghost use Rattle.fi_parts.specs.Buffer.{empty};
-ghost use Rattle.fi_channels.specs.Polled.{unused_after, Answered, displaced_by, WouldBeReady};
+ghost use Rattle.fi_channels.specs.Polled.{unused_after, Answered, displaced_by, WouldBeReady, LeavesWhere};
 ghost use Rattle.fi_channels.specs.Channel as channel;
 ghost use Rattle.fi_channels.specs.Channel.{opened, send_phase, receive_phase, kind_of, displaced_send};
 ghost use Rattle.fi_channels.specs.Channel.{displaced_receive};
@@ -321,7 +321,10 @@ impl<T: Drop, B: RingBuf<Item = T>, W: Drop> ChannelState<T, B, W> {
         ensures live { channel.can_stream (kind_of self.new slot.0) (receive_phase self.new slot.0) ≡ true }
         ensures others { OtherReceivesStay slot.0 self.old self.new }
     {
-        self.fields.next_or_register(slot, waker)
+        match self.next_checked(slot, waker) {
+            Ok(polled) => polled,
+            Err(_waker) => unreachable!(),
+        }
     }
 
     /// Polls the stream under this slot as `next_or_register` does, if one lives there. Else the waker comes back, and nothing has
@@ -341,10 +344,7 @@ impl<T: Drop, B: RingBuf<Item = T>, W: Drop> ChannelState<T, B, W> {
             ((channel.can_stream (kind_of self.old slot.0) (receive_phase self.old slot.0) ≡ false) × (self.new ≡ self.old)) }
         ensures handed_back { IfErr result (λ back. back ≡ waker) }
     {
-        if !self.can_stream(slot) {
-            return Err(waker);
-        }
-        Ok(self.next_or_register(slot, waker))
+        self.fields.next_checked(slot, waker)
     }
 }
 
@@ -386,25 +386,27 @@ impl<T: Drop, B: RingBuf<Item = T>, W: Drop> ChannelSendAccess for ChannelState<
         self.fields.send_ends_now(slot)
     }
 
-    fn send_or_register(&mut self, slot: Slot, waker: W) -> Sent<T, W>
-        requires { channel.can_send (send_phase self.old slot.0) ≡ true }
-        ensures polled { PollsSend self.old slot.0 waker result.0 self.new }
-        ensures displaced { result.1.displaced ≡ displaced_by_send result.0 (displaced_send self.old slot.0) }
-        ensures unused { result.1.unused ≡ unused_after result.0 waker }
-        ensures live { is_some (send_phase self.new slot.0) ≡ true }
-        ensures pending { OnPending result.0 (channel.can_send (send_phase self.new slot.0) ≡ true) }
+    fn send_checked(&mut self, slot: Slot, waker: W) -> Result<Sent<T, W>, W>
+        ensures polled { IfOk result (λ polled. PollsSend self.old slot.0 waker polled.0 self.new) }
+        ensures displaced { IfOk result
+            (λ polled. polled.1.displaced ≡ displaced_by_send polled.0 (displaced_send self.old slot.0)) }
+        ensures unused { IfOk result (λ polled. polled.1.unused ≡ unused_after polled.0 waker) }
+        ensures live { IfOk result (λ _. is_some (send_phase self.new slot.0) ≡ true) }
+        ensures pending { IfOk result (λ polled. OnPending polled.0 (channel.can_send (send_phase self.new slot.0) ≡ true)) }
         ensures others { OtherSendsStay slot.0 self.old self.new }
+        ensures refused { OnErr result ((channel.can_send (send_phase self.old slot.0) ≡ false) × (self.new ≡ self.old)) }
+        ensures handed_back { IfErr result (λ back. back ≡ waker) }
     {
-        self.fields.send_or_register(slot, waker)
+        self.fields.send_checked(slot, waker)
     }
 
-    fn remove_send_waiter(&mut self, slot: Slot) -> (Option<T>, Option<W>)
-        requires { is_some (send_phase self.old slot.0) ≡ true }
-        ensures cancelled { CancelsSend self.old slot.0 result.0 self.new }
-        ensures displaced { result.1 ≡ displaced_send self.old slot.0 }
+    fn leave_send(&mut self, slot: Slot) -> (Option<T>, Option<W>)
+        ensures cancelled { is_some (send_phase self.old slot.0) ≡ true → CancelsSend self.old slot.0 result.0 self.new }
+        ensures displaced { is_some (send_phase self.old slot.0) ≡ true → result.1 ≡ displaced_send self.old slot.0 }
         ensures others { OtherSendsStay slot.0 self.old self.new }
+        ensures unchanged { is_some (send_phase self.old slot.0) ≡ false → (self.new ≡ self.old) × (result ≡ (None, None)) }
     {
-        self.fields.remove_send_waiter(slot)
+        self.fields.leave_send(slot)
     }
 }
 
@@ -448,29 +450,32 @@ impl<T: Drop, B: RingBuf<Item = T>, W: Drop> ChannelReceiveAccess for ChannelSta
         self.fields.receive_ends_now(slot)
     }
 
-    fn receive_or_register(&mut self, slot: Slot, waker: W) -> Received<T, W>
-        requires { channel.can_receive (kind_of self.old slot.0) (receive_phase self.old slot.0) ≡ true }
-        ensures polled { Answered (PollsReceive self.old slot.0 waker) (λ fault state. ⊥) result.0 self.new }
-        ensures displaced { result.1.displaced ≡ displaced_by result.0 (displaced_receive self.old slot.0) }
-        ensures unused { result.1.unused ≡ unused_after result.0 waker }
-        ensures live { is_some (receive_phase self.new slot.0) ≡ true }
-        ensures pending { OnPending result.0 (channel.can_receive (kind_of self.new slot.0) (receive_phase self.new slot.0) ≡ true) }
+    fn receive_checked(&mut self, slot: Slot, waker: W) -> Result<Received<T, W>, W>
+        ensures polled { IfOk result
+            (λ polled. Answered (PollsReceive self.old slot.0 waker) (λ fault state. ⊥) polled.0 self.new) }
+        ensures displaced { IfOk result (λ polled. polled.1.displaced ≡ displaced_by polled.0 (displaced_receive self.old slot.0)) }
+        ensures unused { IfOk result (λ polled. polled.1.unused ≡ unused_after polled.0 waker) }
+        ensures live { IfOk result (λ _. is_some (receive_phase self.new slot.0) ≡ true) }
+        ensures pending { IfOk result (λ polled. OnPending polled.0
+            (channel.can_receive (kind_of self.new slot.0) (receive_phase self.new slot.0) ≡ true)) }
         ensures others { OtherReceivesStay slot.0 self.old self.new }
+        ensures refused { OnErr result
+            ((channel.can_receive (kind_of self.old slot.0) (receive_phase self.old slot.0) ≡ false) × (self.new ≡ self.old)) }
+        ensures handed_back { IfErr result (λ back. back ≡ waker) }
     {
-        let (answer, leftover) = self.fields.receive_or_register(slot, waker);
+        let (answer, leftover) = self.fields.receive_checked(slot, waker)?;
         match answer {
-            Poll::Pending => (Poll::Pending, leftover),
-            Poll::Ready(item) => (Poll::Ready(Ok(item)), leftover),
+            Poll::Pending => Ok((Poll::Pending, leftover)),
+            Poll::Ready(item) => Ok((Poll::Ready(Ok(item)), leftover)),
         }
     }
 
-    fn remove_receive_waiter(&mut self, slot: Slot) -> Option<W>
-        requires { is_some (receive_phase self.old slot.0) ≡ true }
-        ensures cancelled { CancelsReceive self.old slot.0 self.new }
-        ensures displaced { result ≡ displaced_receive self.old slot.0 }
+    fn leave_receive(&mut self, slot: Slot) -> Option<W>
+        ensures left { LeavesWhere (is_some (receive_phase self.old slot.0)) (CancelsReceive self.old slot.0 self.new)
+            (displaced_receive self.old slot.0) self.old result self.new }
         ensures others { OtherReceivesStay slot.0 self.old self.new }
     {
-        self.fields.remove_receive_waiter(slot)
+        self.fields.leave_receive(slot)
     }
 }
 

@@ -1,9 +1,9 @@
 //! The fields of a channel of many values, over any bounded buffer, and the calls on them.
-ghost use Rattle.std.specs.Prelude.{◌≡◌, ◌==◌, not, true, false, Option, Some, None, length, IfOk, IfErr, OnErr, is_some};
+ghost use Rattle.std.specs.Prelude.{◌≡◌, ◌==◌, not, true, false, Option, Some, None, length, IfOk, IfErr, OnOk, OnErr, is_some};
 ghost use Rattle.fi_parts.specs.Buffer.{Fits, empty};
 ghost use Rattle.fi_parts.specs.Waiting.{phase_of, asks_of, is_registered};
-ghost use Rattle.fi_parts.specs.declared.phase.Phase.TheVariants.{Fresh};
-ghost use Rattle.fi_channels.specs.Polled.{unused_after, WouldBeReady};
+ghost use Rattle.fi_parts.specs.declared.phase.Phase.TheVariants.{Fresh, Complete};
+ghost use Rattle.fi_channels.specs.Polled.{unused_after, WouldBeReady, LeavesWhere};
 ghost use Rattle.fi_channels.specs.Channel.{opened, can_send, can_take, can_receive, can_stream, MakesSend};
 ghost use Rattle.fi_channels.specs.Channel.{MakesReceive};
 ghost use Rattle.fi_channels.specs.Channel.{PollsSend, displaced_by_send, CancelsSend, PollsReceive, PollsNext};
@@ -227,23 +227,107 @@ impl<T: Drop, B: RingBuf<Item = T>, W: Drop> ChannelFields<T, B, W> {
         Err(TryReceiveError::Closed)
     }
 
-    /// Polls a receive or a stream: it takes the oldest value, or is registered, or ends where none will come.
-    pub fn receive_or_register(&mut self, slot: Slot, waker: W) -> (Poll<Option<T>>, Leftover<W>)
+    /// Polls a receive: it takes the oldest value, or is registered, or ends where none will come. Where no receive lives under this slot
+    /// that has not ended, the waker comes back and nothing has changed. One look-up decides which it is.
+    pub fn receive_checked(
+        &mut self,
+        slot: Slot,
+        waker: W,
+    ) -> Result<(Poll<Option<T>>, Leftover<W>), W>
+        requires { IsSound (machine_of B.bounded self.old) }
+        ensures polled { IfOk result
+            (λ polled. PollsReceive (machine_of B.bounded self.old) slot.0 waker polled.0 (machine_of B.bounded self.new)) }
+        ensures displaced { IfOk result (λ polled. polled.1.displaced ≡ displaced_receive (machine_of B.bounded self.old) slot.0) }
+        ensures unused { IfOk result (λ polled. polled.1.unused ≡ unused_after polled.0 waker) }
+        ensures live { OnOk result
+            (can_receive (asks_of self.old.waiters.receives slot.0) (phase_of self.old.waiters.receives slot.0) ≡ true) }
+        ensures refused { OnErr result
+            ((can_receive (asks_of self.old.waiters.receives slot.0) (phase_of self.old.waiters.receives slot.0) ≡ false)
+            × (machine_of B.bounded self.new ≡ machine_of B.bounded self.old)) }
+        ensures handed_back { IfErr result (λ back. back ≡ waker) }
+    {
+        let future = match self.waiters.future::<Receives>(slot) {
+            Some(future) => future,
+            None => return Err(waker),
+        };
+        match (&future.asks, &future.phase) {
+            (ReceiveKind::Single, Phase::Registered(_)) => Ok(self.receive_registered(slot, waker)),
+            (ReceiveKind::Single, Phase::Fresh | Phase::Told) => {
+                Ok(self.receive_apart(slot, ReceiveKind::Single, waker))
+            }
+            _ => Err(waker),
+        }
+    }
+
+    /// Polls a stream: like a receive, but one that has ended ends again, ever after. Where no stream lives under this slot, the waker
+    /// comes back and nothing has changed. One look-up decides which it is.
+    pub fn next_checked(
+        &mut self,
+        slot: Slot,
+        waker: W,
+    ) -> Result<(Poll<Option<T>>, Leftover<W>), W>
+        requires { IsSound (machine_of B.bounded self.old) }
+        ensures polled { IfOk result
+            (λ polled. PollsNext (machine_of B.bounded self.old) slot.0 waker polled.0 (machine_of B.bounded self.new)) }
+        ensures displaced { IfOk result (λ polled. polled.1.displaced ≡ displaced_receive (machine_of B.bounded self.old) slot.0) }
+        ensures unused { IfOk result (λ polled. polled.1.unused ≡ unused_after polled.0 waker) }
+        ensures live { OnOk result
+            (can_stream (asks_of self.old.waiters.receives slot.0) (phase_of self.old.waiters.receives slot.0) ≡ true) }
+        ensures refused { OnErr result
+            ((can_stream (asks_of self.old.waiters.receives slot.0) (phase_of self.old.waiters.receives slot.0) ≡ false)
+            × (machine_of B.bounded self.new ≡ machine_of B.bounded self.old)) }
+        ensures handed_back { IfErr result (λ back. back ≡ waker) }
+    {
+        let future = match self.waiters.future::<Receives>(slot) {
+            Some(future) => future,
+            None => return Err(waker),
+        };
+        match (&future.asks, &future.phase) {
+            (ReceiveKind::Single, _) => Err(waker),
+            (ReceiveKind::Stream, Phase::Registered(_)) => Ok(self.receive_registered(slot, waker)),
+            (ReceiveKind::Stream, Phase::Fresh | Phase::Told) => {
+                Ok(self.receive_apart(slot, ReceiveKind::Stream, waker))
+            }
+            // No receive is complete.
+            (ReceiveKind::Stream, Phase::Complete) => unreachable!(),
+            (ReceiveKind::Stream, Phase::Ended) => {
+                let named = self.waiters.take_out::<Receives>(slot);
+                Ok((Poll::Ready(None), Leftover::of(named, Some(waker))))
+            }
+        }
+    }
+
+    // Polls a receive or a stream that waits: it keeps its place with this newer waker.
+    fn receive_registered(&mut self, slot: Slot, waker: W) -> (Poll<Option<T>>, Leftover<W>)
         requires sound { IsSound (machine_of B.bounded self.old) }
+        requires registered { is_registered (phase_of self.old.waiters.receives slot.0) ≡ true }
+        ensures polled { PollsReceive (machine_of B.bounded self.old) slot.0 waker result.0 (machine_of B.bounded self.new) }
+        ensures displaced { result.1.displaced ≡ displaced_receive (machine_of B.bounded self.old) slot.0 }
+        ensures unused { result.1.unused ≡ unused_after result.0 waker }
+    {
+        self.waiters.take_out::<Receives>(slot);
+        let before = self
+            .waiters
+            .set_phase::<Receives>(slot, Phase::Registered(waker));
+        (Poll::Pending, Leftover::of(before, None))
+    }
+
+    // Polls a fresh or a told receive, or stream: it takes the oldest value, or is registered, or ends where none will come.
+    fn receive_apart(
+        &mut self,
+        slot: Slot,
+        kind: ReceiveKind,
+        waker: W,
+    ) -> (Poll<Option<T>>, Leftover<W>)
+        requires sound { IsSound (machine_of B.bounded self.old) }
+        requires kind { asks_of self.old.waiters.receives slot.0 ≡ Some kind }
         requires live { can_take (phase_of self.old.waiters.receives slot.0) ≡ true }
+        requires apart { is_registered (phase_of self.old.waiters.receives slot.0) ≡ false }
         ensures polled { PollsReceive (machine_of B.bounded self.old) slot.0 waker result.0 (machine_of B.bounded self.new) }
         ensures displaced { result.1.displaced ≡ displaced_receive (machine_of B.bounded self.old) slot.0 }
         ensures unused { result.1.unused ≡ unused_after result.0 waker }
     {
         let named = self.waiters.take_out::<Receives>(slot);
-        let future = self.waiters.future::<Receives>(slot).unwrap();
-        let kind = future.asks;
-        if let Phase::Registered(_) = &future.phase {
-            let before = self
-                .waiters
-                .set_phase::<Receives>(slot, Phase::Registered(waker));
-            return (Poll::Pending, Leftover::of(before, None));
-        }
         if let Some(value) = self.take_next() {
             self.waiters.set_phase::<Receives>(slot, phase_given(kind));
             return (Poll::Ready(Some(value)), Leftover::of(named, Some(waker)));
@@ -256,29 +340,19 @@ impl<T: Drop, B: RingBuf<Item = T>, W: Drop> ChannelFields<T, B, W> {
         (Poll::Ready(None), Leftover::of(named, Some(waker)))
     }
 
-    /// Polls a stream: like a receive, but one that has ended ends again, ever after.
-    pub fn next_or_register(&mut self, slot: Slot, waker: W) -> (Poll<Option<T>>, Leftover<W>)
-        requires sound { IsSound (machine_of B.bounded self.old) }
-        requires live { is_some (phase_of self.old.waiters.receives slot.0) ≡ true }
-        ensures polled { PollsNext (machine_of B.bounded self.old) slot.0 waker result.0 (machine_of B.bounded self.new) }
-        ensures displaced { result.1.displaced ≡ displaced_receive (machine_of B.bounded self.old) slot.0 }
-        ensures unused { result.1.unused ≡ unused_after result.0 waker }
+    /// Removes a receive or a stream, and returns the waker that it had. A told one passes its notice on to the oldest. None where none
+    /// lives under this slot; then nothing has changed.
+    pub fn leave_receive(&mut self, slot: Slot) -> Option<W>
+        requires { IsSound (machine_of B.bounded self.old) }
+        ensures { LeavesWhere (is_some (phase_of self.old.waiters.receives slot.0))
+            (CancelsReceive (machine_of B.bounded self.old) slot.0 (machine_of B.bounded self.new))
+            (displaced_receive (machine_of B.bounded self.old) slot.0) (machine_of B.bounded self.old) result
+            (machine_of B.bounded self.new) }
     {
-        if let Some(Phase::Ended) = self.waiters.phase::<Receives>(slot) {
-            let named = self.waiters.take_out::<Receives>(slot);
-            return (Poll::Ready(None), Leftover::of(named, Some(waker)));
-        }
-        self.receive_or_register(slot, waker)
-    }
-
-    /// Removes a receive or a stream, and returns the waker that it had. A told one passes its notice on to the oldest.
-    pub fn remove_receive_waiter(&mut self, slot: Slot) -> Option<W>
-        requires sound { IsSound (machine_of B.bounded self.old) }
-        requires live { is_some (phase_of self.old.waiters.receives slot.0) ≡ true }
-        ensures cancelled { CancelsReceive (machine_of B.bounded self.old) slot.0 (machine_of B.bounded self.new) }
-        ensures displaced { result ≡ displaced_receive (machine_of B.bounded self.old) slot.0 }
-    {
-        let (future, named) = self.waiters.remove::<Receives>(slot);
+        let (future, named) = match self.waiters.remove::<Receives>(slot) {
+            Some(left) => left,
+            None => return None,
+        };
         let was_told = future.phase.is_told();
         let waker = last_waker(future.phase, named);
         if was_told {
@@ -307,19 +381,35 @@ impl<T: Drop, B: RingBuf<Item = T>, W: Drop> ChannelFields<T, B, W> {
     }
 
     /// Polls a send: its value is stored or waits with it, and the oldest receive is told; a closed channel hands it back.
-    /// Refused if there is no memory to store it; then nothing has changed, and the send still owns its value.
-    pub fn send_or_register(&mut self, slot: Slot, waker: W) -> Sent<T, W>
+    /// Refused if there is no memory to store it; then nothing has changed, and the send still owns its value. Where no send lives under
+    /// this slot that has not ended, the waker comes back and nothing has changed. One look-up decides which it is.
+    pub fn send_checked(&mut self, slot: Slot, waker: W) -> Result<Sent<T, W>, W>
+        requires { IsSound (machine_of B.bounded self.old) }
+        ensures polled { IfOk result
+            (λ polled. PollsSend (machine_of B.bounded self.old) slot.0 waker polled.0 (machine_of B.bounded self.new)) }
+        ensures displaced { IfOk result
+            (λ polled. polled.1.displaced ≡ displaced_by_send polled.0 (displaced_send (machine_of B.bounded self.old) slot.0)) }
+        ensures unused { IfOk result (λ polled. polled.1.unused ≡ unused_after polled.0 waker) }
+        ensures refused { OnErr result ((can_send (phase_of self.old.waiters.sends slot.0) ≡ false)
+            × (machine_of B.bounded self.new ≡ machine_of B.bounded self.old)) }
+        ensures handed_back { IfErr result (λ back. back ≡ waker) }
+    {
+        match self.waiters.phase::<Sends>(slot) {
+            Some(Phase::Fresh) => Ok(self.send_fresh(slot, waker)),
+            Some(Phase::Registered(_)) => Ok(self.send_registered(slot, waker)),
+            Some(Phase::Complete) => Ok(self.send_complete(slot, waker)),
+            None | Some(Phase::Told | Phase::Ended) => Err(waker),
+        }
+    }
+
+    // Polls a send whose value was taken: it ends.
+    fn send_complete(&mut self, slot: Slot, waker: W) -> Sent<T, W>
         requires sound { IsSound (machine_of B.bounded self.old) }
-        requires live { can_send (phase_of self.old.waiters.sends slot.0) ≡ true }
+        requires complete { phase_of self.old.waiters.sends slot.0 ≡ Some Complete }
         ensures polled { PollsSend (machine_of B.bounded self.old) slot.0 waker result.0 (machine_of B.bounded self.new) }
         ensures displaced { result.1.displaced ≡ displaced_by_send result.0 (displaced_send (machine_of B.bounded self.old) slot.0) }
         ensures unused { result.1.unused ≡ unused_after result.0 waker }
     {
-        match self.waiters.phase::<Sends>(slot) {
-            Some(Phase::Fresh) => return self.send_fresh(slot, waker),
-            Some(Phase::Registered(_)) => return self.send_registered(slot, waker),
-            _ => {}
-        }
         let named = self.waiters.take_out::<Sends>(slot);
         self.waiters.set_phase::<Sends>(slot, Phase::Ended);
         (Poll::Ready(Ok(())), Leftover::of(named, Some(waker)))
@@ -377,13 +467,20 @@ impl<T: Drop, B: RingBuf<Item = T>, W: Drop> ChannelFields<T, B, W> {
         (Poll::Ready(Ok(())), Leftover::of(named, Some(waker)))
     }
 
-    /// Removes a send. Returns the value that it still owned, and the waker that it had.
-    pub fn remove_send_waiter(&mut self, slot: Slot) -> (Option<T>, Option<W>)
-        requires { is_some (phase_of self.old.waiters.sends slot.0) ≡ true }
-        ensures cancelled { CancelsSend (machine_of B.bounded self.old) slot.0 result.0 (machine_of B.bounded self.new) }
-        ensures displaced { result.1 ≡ displaced_send (machine_of B.bounded self.old) slot.0 }
+    /// Removes a send. Returns the value that it still owned, and the waker that it had; nothing where none lives under this slot, and
+    /// then nothing has changed.
+    pub fn leave_send(&mut self, slot: Slot) -> (Option<T>, Option<W>)
+        ensures cancelled { is_some (phase_of self.old.waiters.sends slot.0) ≡ true →
+            CancelsSend (machine_of B.bounded self.old) slot.0 result.0 (machine_of B.bounded self.new) }
+        ensures displaced { is_some (phase_of self.old.waiters.sends slot.0) ≡ true →
+            result.1 ≡ displaced_send (machine_of B.bounded self.old) slot.0 }
+        ensures unchanged { is_some (phase_of self.old.waiters.sends slot.0) ≡ false →
+            (machine_of B.bounded self.new ≡ machine_of B.bounded self.old) × (result ≡ (None, None)) }
     {
-        let (future, named) = self.waiters.remove::<Sends>(slot);
+        let (future, named) = match self.waiters.remove::<Sends>(slot) {
+            Some(left) => left,
+            None => return (None, None),
+        };
         let Future { asks, phase } = future;
         (asks, last_waker(phase, named))
     }

@@ -1,6 +1,6 @@
 //! Two sides of waiting futures, sends and receives, over one outbox: the wakers of both stand there in one order.
 ghost use Rattle.std.specs.Prelude.{◌≡◌, ℕ, ◌∷◌, List, [], Some, None, true, false, Option, IfOk};
-ghost use Rattle.std.specs.Prelude.{OnErr, IfErr, MatchOption, length, drop, option_copied};
+ghost use Rattle.std.specs.Prelude.{OnErr, IfErr, IfSome, IfNone, OnSome, MatchOption, length, drop, option_copied};
 ghost use Rattle.std.specs.Borrow.{sem};
 ghost use Rattle.std.specs.FinMap as map;
 ghost use Rattle.fi_parts.specs.Order.{holds};
@@ -224,20 +224,24 @@ impl<D: Drop, E: Drop, W: Drop> TwoSides<D, E, W> {
         S::line_mut(&mut self.lines).exchange(slot, asks)
     }
 
-    /// Removes a live future, also from the queue and the outbox. Returns it as it was, with the waker of its pair.
-    pub fn remove<S: Side<D, E, W>>(&mut self, slot: Slot) -> (Future<S::Asks, W>, Option<W>)
-        requires { IsLive (S.side.waiters self.old) slot.0 }
-        ensures future { map.get (S.side.waiters self.old).live slot.0 ≡ Some result.0 }
-        ensures waker { result.1 ≡ waker_by same_waiter (S.side.waiter slot.0) self.old.out }
-        ensures removed { self.new ≡ S.side.put self.old (without_future (S.side.waiters self.old) slot.0)
-            (without_by same_waiter (S.side.waiter slot.0) self.old.out) }
+    /// Removes a future, also from the queue and the outbox. Returns it as it was, with the waker of its pair. None if none lives in this
+    /// slot; then nothing has changed.
+    pub fn remove<S: Side<D, E, W>>(
+        &mut self,
+        slot: Slot,
+    ) -> Option<(Future<S::Asks, W>, Option<W>)>
+        ensures future { IfSome result (λ left. map.get (S.side.waiters self.old).live slot.0 ≡ Some left.0) }
+        ensures waker { IfSome result (λ left. left.1 ≡ waker_by same_waiter (S.side.waiter slot.0) self.old.out) }
+        ensures removed { OnSome result (self.new ≡ S.side.put self.old (without_future (S.side.waiters self.old) slot.0)
+            (without_by same_waiter (S.side.waiter slot.0) self.old.out)) }
+        ensures absent { IfNone result ((phase_of (S.side.waiters self.old) slot.0 ≡ None) × (self.new ≡ self.old)) }
     {
         let entry = match S::line_mut(&mut self.lines).remove(slot) {
             Some(entry) => entry,
-            None => unreachable!(),
+            None => return None,
         };
         let named = release(&mut self.outbox, entry.ticket);
-        (entry.future, named)
+        Some((entry.future, named))
     }
 
     // Takes the oldest future out of the queue; None if the queue is empty.

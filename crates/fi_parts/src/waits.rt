@@ -133,20 +133,6 @@ impl<D: Drop, W: Drop> Waits<D, W> {
         }
     }
 
-    /// Polls a future as `poll_checked` does, of which the caller has seen that it lives and has not ended.
-    pub fn poll(&mut self, slot: Slot, waker: W, ends: bool) -> (Poll<()>, Leftover<W>)
-        requires ordered { IsOrdered self.old.side self.old.out }
-        requires live { can_be_polled (phase_of self.old.side slot.0) ≡ true }
-        ensures polled { PollsWaiter (phase_of self.old.side slot.0) ends self.old slot.0 waker result.0 self.new }
-        ensures displaced { result.1.displaced ≡ displaced self.old.side self.old.out slot.0 }
-        ensures unused { result.1.unused ≡ unused_after result.0 waker }
-    {
-        match self.poll_checked(slot, waker, ends) {
-            Ok(polled) => polled,
-            Err(_waker) => unreachable!(),
-        }
-    }
-
     /// Registers a future that is not in the queue: it goes to the queue's end.
     pub fn register(&mut self, slot: Slot, waker: W)
         requires live { IsLive self.old.side slot.0 }

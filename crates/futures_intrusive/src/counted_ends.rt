@@ -241,12 +241,16 @@ impl<S: SendsClosed> ChannelSendAccess for CountedEnds<S> {
         self.state.send_ends_now(slot)
     }
 
-    fn send_or_register(&mut self, slot: Slot, waker: PollWaker) -> Sent<S::Item, PollWaker> {
-        self.state.send_or_register(slot, waker)
+    fn send_checked(
+        &mut self,
+        slot: Slot,
+        waker: PollWaker,
+    ) -> Result<Sent<S::Item, PollWaker>, PollWaker> {
+        self.state.send_checked(slot, waker)
     }
 
-    fn remove_send_waiter(&mut self, slot: Slot) -> (Option<S::Item>, Option<PollWaker>) {
-        self.state.remove_send_waiter(slot)
+    fn leave_send(&mut self, slot: Slot) -> (Option<S::Item>, Option<PollWaker>) {
+        self.state.leave_send(slot)
     }
 }
 
@@ -282,15 +286,15 @@ impl<S: ReceivesClosed> ChannelReceiveAccess for CountedEnds<S> {
         self.state.receive_ends_now(slot)
     }
 
-    fn receive_or_register(
+    fn receive_checked(
         &mut self,
         slot: Slot,
         waker: PollWaker,
-    ) -> Received<S::Item, PollWaker> {
-        self.state.receive_or_register(slot, waker)
+    ) -> Result<Received<S::Item, PollWaker>, PollWaker> {
+        self.state.receive_checked(slot, waker)
     }
 
-    fn remove_receive_waiter(&mut self, slot: Slot) -> Option<PollWaker> {
-        self.state.remove_receive_waiter(slot)
+    fn leave_receive(&mut self, slot: Slot) -> Option<PollWaker> {
+        self.state.leave_receive(slot)
     }
 }

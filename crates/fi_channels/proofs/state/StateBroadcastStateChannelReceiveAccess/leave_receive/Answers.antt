@@ -4,7 +4,7 @@ use Rattle.fi_channels.specs.Oneshot.{can_receive}
 use Rattle.fi_channels.specs.OneshotLaws.{receives_are_fit}
 use Rattle.fi_channels.specs.StateBroadcast.{StateMachine, Cancels}
 use Rattle.fi_channels.specs.StateLaws.{rules, same_preserves}
-use Rattle.fi_channels.proofs.state.StateBroadcastStateChannelReceiveAccess.remove_receive_waiter.Goals as goal
+use Rattle.fi_channels.proofs.state.StateBroadcastStateChannelReceiveAccess.leave_receive.Goals as goal
 
 pub invariant_of-self-2 : goal.invariant_of-self-2
 invariant_of-self-2 g c =
