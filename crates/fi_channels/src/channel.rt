@@ -133,8 +133,8 @@ impl<T: Drop, B: RingBuf<Item = T>, W: Drop> ChannelState<T, B, W> {
         self.fields.try_send(value)
     }
 
-    /// Receives the oldest value at once, if there is one. The oldest send that waits then moves its value into the free place, and
-    /// is named to be woken.
+    /// Receives the oldest value at once, if there is one. The oldest send that waits then moves its value into the free place
+    /// (without a buffer its value is the one received), and is named to be woken.
     ///
     /// Else nothing has changed: `Closed` if the channel is closed, else `Empty`. Keeps `GenericChannel::try_receive`.
     pub fn try_receive(&mut self) -> Result<T, TryReceiveError>
@@ -144,7 +144,7 @@ impl<T: Drop, B: RingBuf<Item = T>, W: Drop> ChannelState<T, B, W> {
         self.fields.try_receive()
     }
 
-    /// Closes the channel and names all receives that wait and then all sends, the oldest first on each side.
+    /// Closes the channel and names all receives and then all sends that wait, the oldest first on each side.
     ///
     /// What is buffered can still be received. A send that waited gets its value back at its next poll, or from its cancel.
     /// `AlreadyClosed` if it was closed before; then nothing has changed. Keeps `GenericChannel::close`.
@@ -483,8 +483,8 @@ impl<T: Drop, B: RingBuf<Item = T>, W: Drop> ChannelState<T, Clearable<B>, W> {
     /// Closes the channel as `close` does, and takes out what is buffered, in one call: nothing can be received any more.
     ///
     /// The values come back in their buffer, so that the caller chooses when they are dropped. None if the channel was cleared
-    /// before. It takes no memory; its cost is that of `close`. Futures-intrusive closes and clears in two steps, when its last
-    /// receiver is dropped.
+    /// before. It takes no memory; its cost is that of `close`. (Futures-intrusive closes and clears in two steps, when its last
+    /// receiver is dropped.)
     pub fn close_and_clear(&mut self) -> Option<B>
         ensures cleared { ClosesAndClears B.bounded self.old result self.new }
         ensures no_send_waits { NoSendWaits self.new }

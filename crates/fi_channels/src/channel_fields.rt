@@ -485,7 +485,7 @@ impl<T: Drop, B: RingBuf<Item = T>, W: Drop> ChannelFields<T, B, W> {
         (asks, last_waker(phase, named))
     }
 
-    /// Closes the channel, if it is open: names all receives that wait and then all sends.
+    /// Closes the channel, if it is open: names all receives and then all sends that wait.
     pub fn close(&mut self) -> CloseStatus
         requires { IsSound (machine_of B.bounded self.old) }
         ensures { Closes (machine_of B.bounded self.old) result (machine_of B.bounded self.new) }

@@ -8,8 +8,8 @@ use futures::task::Poll;
 /// The kind of a channel's streams: ready with the next value, or with None once the channel is closed and empty, and ever after.
 pub struct ChannelStreaming;
 
-/// Receives the values of a local channel, one after another. It is spent by `leave` or `cancel`, with its channel; it cannot be
-/// dropped. Its `poll` keeps `Stream::poll_next`.
+/// Receives the values of a local channel, one after another. `leave` or `cancel` spends it, and is lent the channel; it cannot
+/// be dropped. Its `poll` keeps `Stream::poll_next`.
 ///
 /// Keeps `ChannelStream` of futures-intrusive's `channel`.
 pub type LocalChannelStream = LocalFuture<ChannelStreaming>;

@@ -10,7 +10,7 @@ use futures::task::Poll;
 /// again. A cancel gives back the value if that was neither accepted into the buffer, taken nor handed back.
 pub struct ChannelSend;
 
-/// Sends a value on a local channel. It is spent by `leave` or `cancel`, with its channel; it cannot be dropped.
+/// Sends a value on a local channel. `leave` or `cancel` spends it, and is lent the channel; it cannot be dropped.
 ///
 /// Keeps `ChannelSendFuture` of futures-intrusive's `channel`.
 pub type LocalSendFuture = LocalFuture<ChannelSend>;

@@ -108,8 +108,8 @@ impl<D, E: Drop, W> Side<D, E, W> for Receives {
     ghost is_side = { receives_are_a_side };
 }
 
-/// Sends and receives by slot, each side with a queue of those that wait, and the wakers to be woken.
-/// `D` is what a send asks for, `E` what a receive asks for.
+/// Sends and receives by slot, each side with the queue of those with a place in it, and the wakers to be woken. `D` is what a
+/// send asks for, `E` what a receive asks for.
 #[derive(Drop)]
 pub struct TwoSides<D, E, W> {
     lines: Lines<D, E, W>,

@@ -8,7 +8,7 @@ use futures::task::Poll;
 /// oldest queued one is told in its place.
 pub struct MutexLock;
 
-/// Locks a local mutex. It is spent by `leave` or `cancel`, with its mutex; it cannot be dropped.
+/// Locks a local mutex. `leave` or `cancel` spends it, and is lent the mutex; it cannot be dropped.
 ///
 /// Keeps `GenericMutexLockFuture` of futures-intrusive's `sync`, and its `cancel` the drop of that.
 pub type LocalMutexLockFuture = LocalFuture<MutexLock>;

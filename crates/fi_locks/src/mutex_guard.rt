@@ -8,7 +8,7 @@ use crate::mutex::LocalMutex;
 use std::marker::Model;
 use std::ops::{Deref, DerefMut};
 
-/// Holds a local mutex, with its value. It is spent by `unlock`, with its mutex; it cannot be dropped.
+/// Holds a local mutex, with its value. `unlock` spends it, and is lent the mutex; it cannot be dropped.
 ///
 /// Keeps `GenericMutexGuard` of futures-intrusive's `sync`.
 pub struct LocalMutexGuard<T> {
