@@ -1,6 +1,6 @@
 //! Histories as scripts of the program `schedule`.
-ghost use Rattle.std.specs.Prelude.{◌≡◌, ◌≢◌, ◌⊎◌, IfErr, slice_get};
-ghost use Rattle.fi_run.specs.Script.{LeavesWakers, asks_for_waker, took_waker};
+ghost use Rattle.std.specs.Prelude.{◌≡◌, ◌≢◌, ◌⊎◌, IfErr, OnOk, slice_get};
+ghost use Rattle.fi_run.specs.Script.{LeavesWakers, TakesAllWakers, asks_for_waker, took_waker, is_left_out};
 
 use crate::answer::Answer;
 use crate::journal::{Entry, Settled};
@@ -127,6 +127,7 @@ impl<P: ScriptLines> Settled<P> {
     pub fn write_script(&self, script: &mut String) -> Result<(), ScriptError>
         ensures unwritten { IfErr result (λ error. error ≢ ScriptError.NoMemory → script.new ≡ script.old) }
         ensures wakers { IfErr result (λ error. LeavesWakers self.now.history.items error) }
+        ensures whole { OnOk result (TakesAllWakers self.now.history.items) }
     {
         let history = self.history.as_slice();
         check_wakers(history)?;
@@ -160,6 +161,7 @@ fn has_taken<C>(history: &[Entry<C, Answer<u64, u64>>], number: usize) -> bool
 /// Checks that after each entry that takes out a waker there is one that asks for more.
 fn check_wakers<C>(history: &[Entry<C, Answer<u64, u64>>]) -> Result<(), ScriptError>
     ensures wakers { IfErr result (λ error. LeavesWakers history.now error) }
+    ensures whole { OnOk result (TakesAllWakers history.now) }
 {
     for number in 0..history.len() {
         if has_taken(history, number) && !is_wake_call(history, number + 1) {
@@ -170,7 +172,9 @@ fn check_wakers<C>(history: &[Entry<C, Answer<u64, u64>>]) -> Result<(), ScriptE
 }
 
 /// Whether an entry of this answer changed nothing and has no line: a future that could not be made, or isn't there to be called.
-fn is_left_out(answer: &Answer<u64, u64>) -> bool {
+fn is_left_out(answer: &Answer<u64, u64>) -> bool
+    ensures { result ≡ is_left_out answer.now }
+{
     matches!(
         answer,
         Answer::Refused(Fault::NoMemory | Fault::NoSlot) | Answer::Back(_, Fault::NoMemory)

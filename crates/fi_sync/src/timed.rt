@@ -1,5 +1,5 @@
 //! A timer with its clock: what stands behind the lock of the timer that threads share.
-ghost use Rattle.std.specs.Prelude.{◌≡◌, ◌≤◌, ℕ, Err, IfOk, IfErr, OnErr, is_some};
+ghost use Rattle.std.specs.Prelude.{◌≡◌, ◌≤◌, ℕ, Some, None, Err, IfOk, IfErr, OnErr, is_some};
 ghost use Rattle.std.specs.Duration.{as_nanos};
 ghost use Rattle.fi_parts.specs.Machine.{phase_at, displaced_at};
 ghost use Rattle.fi_parts.specs.Deadlines.{IsNextExpiry};
@@ -42,7 +42,8 @@ pub struct TimerWait;
 impl<C: Clock> Timed<C> {
     /// A timer by this clock, that nobody waits for. It takes no memory yet.
     pub(crate) fn new(alloc: Global, clock: C) -> Self
-        ensures { result.timer ≡ opened }
+        ensures timer { result.timer ≡ opened }
+        ensures nobody { result.runner ≡ None }
     {
         Timed {
             timer: TimerState::new(alloc),
@@ -56,6 +57,7 @@ impl<C: Clock> Timed<C> {
         ensures made { IfOk result (λ slot. Makes self.old.timer expiry slot.0 self.new.timer) }
         ensures refused { OnErr result (self.new.timer ≡ self.old.timer) }
         ensures fault { IfErr result (λ fault. fault ≡ Fault.NoMemory) }
+        ensures rest { self.new ≡ record self.old { timer = self.new.timer } }
     {
         self.timer.claim_deadline(expiry)
     }
@@ -65,6 +67,7 @@ impl<C: Clock> Timed<C> {
         ensures made { IfOk result (λ slot. DelaysTimed self.old.timer (as_nanos delay) slot.0 self.new.timer) }
         ensures refused { OnErr result (self.new.timer ≡ self.old.timer) }
         ensures fault { IfErr result (λ fault. fault ≡ Fault.NoMemory) }
+        ensures rest { self.new ≡ record self.old { timer = self.new.timer } }
     {
         let now = self.clock.now();
         self.timer.claim_delay(now, delay)
@@ -80,7 +83,8 @@ impl<C: Clock> Timed<C> {
     /// Tells those whose expiry is not after the clock's time now.
     pub(crate) fn check_expirations(&mut self)
         // At some moment: that it is the clock's is not said.
-        ensures { (now : ℕ) × Checks self.old.timer now self.new.timer }
+        ensures checked { (now : ℕ) × Checks self.old.timer now self.new.timer }
+        ensures rest { self.new ≡ record self.old { timer = self.new.timer } }
     {
         let now = self.clock.now();
         self.timer.check_expirations(now);
@@ -88,7 +92,7 @@ impl<C: Clock> Timed<C> {
 
     /// Rouses whoever sleeps at this parker, once a future waits for an earlier moment than the next check's.
     pub(crate) fn run_by(&mut self, parker: Arc<Parker, Global>)
-        ensures { self.new.timer ≡ self.old.timer }
+        ensures { self.new ≡ record self.old { runner = Some (record { parker = parker; next_check = 0 }) } }
     {
         self.runner = Some(Runner {
             parker,
@@ -98,7 +102,7 @@ impl<C: Clock> Timed<C> {
 
     /// Rouses nobody any more.
     pub(crate) fn end_running(&mut self)
-        ensures { self.new.timer ≡ self.old.timer }
+        ensures { self.new ≡ record self.old { runner = None } }
     {
         self.runner = None;
     }
@@ -108,6 +112,8 @@ impl<C: Clock> Timed<C> {
     pub(crate) fn check_and_plan(&mut self, at_most: u64) -> u64
         ensures checked { (now : ℕ) × Checks self.old.timer now self.new.timer }
         ensures bounded { result ≤ at_most }
+        ensures clock { self.new.clock ≡ self.old.clock }
+        ensures runner { is_some self.new.runner ≡ is_some self.old.runner }
     {
         let moment = self.clock.now();
         self.timer.check_expirations(moment);
@@ -134,7 +140,8 @@ impl<C: Clock> PollSlot<TimerWait> for Timed<C> {
     type Output = Result<(), Fault>;
 
     // At some moment. A poll that the timer makes is never refused.
-    ghost polls = { λ old name waker answer new. PollsWhere (can_be_polled (phase_at old.timer name))
+    ghost polls = { λ old name waker answer new. (new ≡ record old { timer = new.timer })
+        × PollsWhere (can_be_polled (phase_at old.timer name))
         (PollsTimed (λ timed. timed.timer) old.timer name waker) (Err Fault.NoSlot) old answer new };
 
     ghost leaves = { λ old name waker answer. leftover_after answer (displaced_at old.timer name) waker };
@@ -158,7 +165,8 @@ impl<C: Clock> PollSlot<TimerWait> for Timed<C> {
 impl<C: Clock> Cancel<TimerWait> for Timed<C> {
     type Left = Option<PollWaker>;
 
-    ghost cancels = { λ old name left new. LeavesWhere (is_some (phase_at old.timer name)) (Cancels old.timer name new.timer)
+    ghost cancels = { λ old name left new. (new ≡ record old { timer = new.timer })
+        × LeavesWhere (is_some (phase_at old.timer name)) (Cancels old.timer name new.timer)
         (displaced_at old.timer name) old left new };
 
     fn cancel(&mut self, slot: Slot) -> Option<PollWaker> {
@@ -172,10 +180,10 @@ impl<C: Clock> HasOutbox for Timed<C> {
 
     ghost wakers = { λ timed. wakers_of timed.timer.waiting.out };
 
-    ghost wakes = { λ old answer new. Wakes old.timer answer new.timer };
+    ghost wakes = { λ old answer new. (new ≡ record old { timer = new.timer }) × Wakes old.timer answer new.timer };
 
     fn next_wake(&mut self) -> Option<PollWaker>
-        ensures { Wakes self.old.timer result self.new.timer }
+        ensures step { (self.new ≡ record self.old { timer = self.new.timer }) × Wakes self.old.timer result self.new.timer }
     {
         self.timer.next_wake()
     }

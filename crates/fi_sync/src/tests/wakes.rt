@@ -52,7 +52,7 @@ fn are_woken<R: Wait + Abort>(rt: &R, tasks: &Queue, expected: &[usize]) -> bool
 }
 
 // A waker of a task of its own, and that task.
-fn waker<R: Wait + Abort>(rt: &R, tasks: &Queue, source: &Source) -> (Waker, usize) {
+pub(super) fn waker<R: Wait + Abort>(rt: &R, tasks: &Queue, source: &Source) -> (Waker, usize) {
     let vacancy = tasks.add().expect(rt, "memory");
     let task = vacancy.task();
     vacancy.schedule();
