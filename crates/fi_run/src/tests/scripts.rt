@@ -104,6 +104,24 @@ fn openings_without_a_line(rt: HostRuntime) -> Result<(), Fail> {
 }
 
 #[test]
+fn a_mismatch_says_what_is_missing(rt: HostRuntime) {
+    assert!(rt;
+        reads(
+            rt.alloc(),
+            &Mismatch::Seats,
+            "seats of the desk are missing"
+        )
+    );
+    assert!(rt;
+        reads(
+            rt.alloc(),
+            &Mismatch::Entry(3),
+            "entry 3 has no receipt at its seat"
+        )
+    );
+}
+
+#[test]
 fn errors_become_io_errors(rt: HostRuntime) {
     assert_eq!(rt;
         io::Error::from(ScriptError::NoMemory).kind(),

@@ -22,8 +22,8 @@ const B: Slot = Slot(1);
 
 const C: Slot = Slot(2);
 
-/// Makes the calls in a journal, which answers them so. Its history has to be the script of the row, and the program has to answer
-/// that as the row has it.
+/// Makes the calls in a journal, which answers them so. Its history has to be the script of the row, appended to what was there, and
+/// the program has to answer that as the row has it.
 fn check_history<P: ScriptLines + Drop>(
     rt: &impl Abort,
     alloc: Global,
@@ -40,9 +40,10 @@ where
         let receipt = journal.record(0, *call)?;
         assert_eq!(rt; receipt.answer(), *answer, "{row}");
     }
-    let mut script = String::new(alloc);
+    let mut script = String::from_str(alloc, "before")?;
     journal.settle().write_script(&mut script)?;
-    let wanted = script_of(alloc, row)?;
+    let mut wanted = String::from_str(alloc, "before")?;
+    wanted.push_str(script_of(alloc, row)?.as_str())?;
     assert_eq!(rt; script.as_str(), wanted.as_str());
     check_row(rt, alloc, row)
 }
@@ -91,6 +92,14 @@ fn event_history(rt: HostRuntime) -> Result<(), Fail> {
         (EventCall::NextWake, Answer::Woken(None)),
     ];
     check_history::<EventState<u64>>(&rt, rt.alloc(), false, entries.as_slice(), EVENT)
+}
+
+#[test]
+fn history_of_an_event_that_is_set(rt: HostRuntime) -> Result<(), Fail> {
+    let entries = [(EventCall::IsSet, Answer::Flag(true))];
+    let row = "event set
+hold is-set -> true";
+    check_history::<EventState<u64>>(&rt, rt.alloc(), true, entries.as_slice(), row)
 }
 
 #[test]
@@ -291,6 +300,41 @@ fn channel_history(rt: HostRuntime) -> Result<(), Fail> {
     )
 }
 
+/// The first line of a channel over an array of each other length that a script names.
+#[test]
+fn histories_over_arrays(rt: HostRuntime) -> Result<(), Fail> {
+    let alloc = rt.alloc();
+    let entries = [(ChannelCall::TrySend(3), Answer::Back(3, Fault::Full))];
+    let row = "channel array 0
+hold try-send 3 -> full 3";
+    check_history::<ChannelState<u64, ArrayBuf<u64, 0>, u64>>(
+        &rt,
+        alloc,
+        0,
+        entries.as_slice(),
+        row,
+    )?;
+    let entries = [(ChannelCall::TrySend(3), Answer::Done)];
+    let row = "channel array 2
+hold try-send 3 -> ok";
+    check_history::<ChannelState<u64, ArrayBuf<u64, 2>, u64>>(
+        &rt,
+        alloc,
+        2,
+        entries.as_slice(),
+        row,
+    )?;
+    let row = "channel array 5
+hold try-send 3 -> ok";
+    check_history::<ChannelState<u64, ArrayBuf<u64, 5>, u64>>(
+        &rt,
+        alloc,
+        5,
+        entries.as_slice(),
+        row,
+    )
+}
+
 /// The first line of a channel over each heap buffer, up to the greatest capacity that a script names.
 #[test]
 fn histories_over_heap_buffers(rt: HostRuntime) -> Result<(), Fail> {
@@ -299,13 +343,13 @@ fn histories_over_heap_buffers(rt: HostRuntime) -> Result<(), Fail> {
         (ChannelCall::TrySend(3), Answer::Done),
         (ChannelCall::TryReceive, Answer::Item(3)),
     ];
-    let row = "channel fixed 7
+    let row = "channel fixed 65536
 hold try-send 3 -> ok
 hold try-receive -> some 3";
     check_history::<ChannelState<u64, FixedHeapBuf<u64>, u64>>(
         &rt,
         alloc,
-        7,
+        65536,
         entries.as_slice(),
         row,
     )?;
@@ -525,4 +569,13 @@ fn pool_history(rt: HostRuntime) -> Result<(), Fail> {
         (PoolCall::Shutdown, Answer::Already),
     ];
     check_history::<PoolState<u64>>(&rt, rt.alloc(), (1, 2), entries.as_slice(), POOL)
+}
+
+/// The first line of a pool with the greatest capacity that a script names.
+#[test]
+fn history_of_a_large_pool(rt: HostRuntime) -> Result<(), Fail> {
+    let entries = [(PoolCall::Submit(5), Answer::Done)];
+    let row = "pool 3 65536
+hold submit 5 -> ok";
+    check_history::<PoolState<u64>>(&rt, rt.alloc(), (3, 65536), entries.as_slice(), row)
 }

@@ -94,6 +94,7 @@ fn refusals_say_what_is_wrong(rt: HostRuntime) {
         )
     );
     assert!(rt; reads(rt.alloc(), &TrySendError::Full(3), "the channel is full"));
+    assert!(rt; reads(rt.alloc(), &TrySendError::NoMemory(3), "out of memory"));
     assert!(rt;
         reads(
             rt.alloc(),

@@ -95,6 +95,25 @@ fn errors_say_what_is_wrong(rt: HostRuntime) {
     assert!(rt; reads(rt.alloc(), &Fault::NoMemory, "out of memory"));
     assert!(rt; reads(rt.alloc(), &Fault::Closed, "the channel is closed"));
     assert!(rt; reads(rt.alloc(), &Fault::Full, "the channel is full"));
+    assert!(rt; reads(rt.alloc(), &Fault::Empty, "the channel is empty"));
+    let text = "the future was cancelled, has ended, or is of another kind";
+    assert!(rt; reads(rt.alloc(), &Fault::NoSlot, text));
+    let text = "there would be more permits than can be counted";
+    assert!(rt; reads(rt.alloc(), &Fault::Overflow, text));
+    assert!(rt;
+        reads(
+            rt.alloc(),
+            &Fault::NotHeld,
+            "more was given back than is held"
+        )
+    );
+    assert!(rt;
+        reads(
+            rt.alloc(),
+            &Fault::TooManyEnds,
+            "no further end or seat can be made"
+        )
+    );
     assert!(rt; reads(rt.alloc(), &NoRoom(3), "out of memory"));
     assert!(rt; reads(rt.alloc(), &ChannelSendError(3), "the channel is closed"));
 }
@@ -111,5 +130,9 @@ fn faults_become_io_errors(rt: HostRuntime) {
     assert_eq!(rt; kind(Fault::NoMemory), Some(ErrorKind::OutOfMemory));
     assert_eq!(rt; kind(Fault::Closed), Some(ErrorKind::BrokenPipe));
     assert_eq!(rt; kind(Fault::Empty), Some(ErrorKind::WouldBlock));
+    assert_eq!(rt; kind(Fault::Full), Some(ErrorKind::WouldBlock));
     assert_eq!(rt; kind(Fault::NoSlot), Some(ErrorKind::Other));
+    assert_eq!(rt; kind(Fault::Overflow), Some(ErrorKind::Other));
+    assert_eq!(rt; kind(Fault::NotHeld), Some(ErrorKind::Other));
+    assert_eq!(rt; kind(Fault::TooManyEnds), Some(ErrorKind::Other));
 }
