@@ -176,10 +176,9 @@ fn poll_send<T: Drop, B: RingBuf<Item = T>, W: Drop>(
 ) -> Answer<T, W>
     ensures { Step channel.old (calls.PollSend slot waker) result channel.new }
 {
-    if !channel.can_send(slot) {
+    let Ok((answer, _leftover)) = channel.send_checked(slot, waker) else {
         return Answer::Refused(Fault::NoSlot);
-    }
-    let (answer, _leftover) = channel.send_or_register(slot, waker);
+    };
     match answer {
         Poll::Pending => Answer::Pending,
         Poll::Ready(Ok(())) => Answer::Done,
@@ -215,10 +214,10 @@ fn poll_next<T: Drop, B: RingBuf<Item = T>, W: Drop>(
 ) -> Answer<T, W>
     ensures { Step channel.old (calls.PollNext slot waker) result channel.new }
 {
-    if !channel.can_stream(slot) {
+    ChannelState::show(channel);
+    let Ok((answer, _leftover)) = channel.next_checked(slot, waker) else {
         return Answer::Refused(Fault::NoSlot);
-    }
-    let (answer, _leftover) = channel.next_or_register(slot, waker);
+    };
     match answer {
         Poll::Pending => Answer::Pending,
         Poll::Ready(Some(value)) => Answer::Item(value),

@@ -116,10 +116,9 @@ impl<T: Drop, W: Drop, G: GivesValue<T>> Primitive for OneValueState<T, W, G> {
                 Err(fault) => Answer::Refused(fault),
             },
             OneshotCall::Poll(slot, waker) => {
-                if !self.can_receive(slot) {
+                let Ok((answer, _leftover)) = self.receive_checked(slot, waker) else {
                     return Answer::Refused(Fault::NoSlot);
-                }
-                let (answer, _leftover) = self.receive_or_register(slot, waker);
+                };
                 match answer {
                     Poll::Ready(Ok(Some(value))) => Answer::Item(value),
                     Poll::Ready(Ok(None)) => Answer::Nothing,

@@ -110,10 +110,9 @@ impl<T: Clone, W: Drop> Primitive for StateBroadcastState<T, W> {
                 Err(fault) => Answer::Refused(fault),
             },
             StateCall::Poll(slot, waker) => {
-                if !self.can_receive(slot) {
+                let Ok((answer, _leftover)) = self.receive_checked(slot, waker) else {
                     return Answer::Refused(Fault::NoSlot);
-                }
-                let (answer, _leftover) = self.receive_or_register(slot, waker);
+                };
                 match answer {
                     Poll::Ready(answer) => received(answer),
                     Poll::Pending => Answer::Pending,

@@ -104,18 +104,20 @@ impl<T: Drop, B: RingBuf<Item = T>> PollSlot<ChannelStreaming> for ChannelState<
     ghost leaves = { λ old name waker answer. leftover_of_next answer (displaced_receive old name) waker };
 
     fn poll_slot(&mut self, slot: Slot, waker: PollWaker) -> SlotPolled<Self::Output> {
-        if !self.can_stream(slot) {
-            let answer = Poll::Ready(Some(Err(Fault::NoSlot)));
-            return Some((answer, Leftover::of(None, Some(waker))));
-        }
-        if waker.is_none() && !self.next_ends_now(slot) {
+        if waker.is_none() && !self.next_ends_now(slot) && self.can_stream(slot) {
             return None;
         }
-        let (answer, leftover) = self.next_or_register(slot, waker);
-        match answer {
-            Poll::Ready(Some(item)) => Some((Poll::Ready(Some(Ok(item))), leftover)),
-            Poll::Ready(None) => Some((Poll::Ready(None), leftover)),
-            Poll::Pending => Some((Poll::Pending, leftover)),
+        ChannelState::show(self);
+        match self.next_checked(slot, waker) {
+            Ok((answer, leftover)) => match answer {
+                Poll::Ready(Some(item)) => Some((Poll::Ready(Some(Ok(item))), leftover)),
+                Poll::Ready(None) => Some((Poll::Ready(None), leftover)),
+                Poll::Pending => Some((Poll::Pending, leftover)),
+            },
+            Err(waker) => {
+                let answer = Poll::Ready(Some(Err(Fault::NoSlot)));
+                Some((answer, Leftover::of(None, Some(waker))))
+            }
         }
     }
 }
