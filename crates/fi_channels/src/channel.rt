@@ -1,5 +1,5 @@
 //! The channel of many values, with sends and receives that wait.
-ghost use Rattle.std.specs.Prelude.{◌≡◌, ◌==◌, not, true, false, Option, None, IfOk, IfErr, OnErr, is_some, length};
+ghost use Rattle.std.specs.Prelude.{◌≡◌, ◌==◌, not, true, false, Option, None, IfOk, IfErr, OnOk, OnErr, is_some, length};
 ghost use Rattle.futures.specs.Poll.{OnPending};
 ghost use Rattle.fi_parts.specs.Buffer.{empty};
 ghost use Rattle.fi_channels.specs.Polled.{unused_after, Answered, displaced_by, WouldBeReady, LeavesWhere};
@@ -339,7 +339,8 @@ impl<T: Drop, B: RingBuf<Item = T>, W: Drop> ChannelState<T, B, W> {
         ensures unused { IfOk result (λ polled. polled.1.unused ≡ unused_after polled.0 waker) }
         ensures live { IfOk result
             (λ _. channel.can_stream (kind_of self.new slot.0) (receive_phase self.new slot.0) ≡ true) }
-        ensures others { IfOk result (λ polled. OtherReceivesStay slot.0 self.old self.new) }
+        ensures others { OtherReceivesStay slot.0 self.old self.new }
+        ensures pollable { OnOk result (channel.can_stream (kind_of self.old slot.0) (receive_phase self.old slot.0) ≡ true) }
         ensures refused { OnErr result
             ((channel.can_stream (kind_of self.old slot.0) (receive_phase self.old slot.0) ≡ false) × (self.new ≡ self.old)) }
         ensures handed_back { IfErr result (λ back. back ≡ waker) }
@@ -394,6 +395,7 @@ impl<T: Drop, B: RingBuf<Item = T>, W: Drop> ChannelSendAccess for ChannelState<
         ensures live { IfOk result (λ _. is_some (send_phase self.new slot.0) ≡ true) }
         ensures pending { IfOk result (λ polled. OnPending polled.0 (channel.can_send (send_phase self.new slot.0) ≡ true)) }
         ensures others { OtherSendsStay slot.0 self.old self.new }
+        ensures sendable { OnOk result (channel.can_send (send_phase self.old slot.0) ≡ true) }
         ensures refused { OnErr result ((channel.can_send (send_phase self.old slot.0) ≡ false) × (self.new ≡ self.old)) }
         ensures handed_back { IfErr result (λ back. back ≡ waker) }
     {
@@ -459,6 +461,7 @@ impl<T: Drop, B: RingBuf<Item = T>, W: Drop> ChannelReceiveAccess for ChannelSta
         ensures pending { IfOk result (λ polled. OnPending polled.0
             (channel.can_receive (kind_of self.new slot.0) (receive_phase self.new slot.0) ≡ true)) }
         ensures others { OtherReceivesStay slot.0 self.old self.new }
+        ensures pollable { OnOk result (channel.can_receive (kind_of self.old slot.0) (receive_phase self.old slot.0) ≡ true) }
         ensures refused { OnErr result
             ((channel.can_receive (kind_of self.old slot.0) (receive_phase self.old slot.0) ≡ false) × (self.new ≡ self.old)) }
         ensures handed_back { IfErr result (λ back. back ≡ waker) }

@@ -390,6 +390,7 @@ impl<T: Drop, B: RingBuf<Item = T>, W: Drop> ChannelFields<T, B, W> {
         ensures displaced { IfOk result
             (λ polled. polled.1.displaced ≡ displaced_by_send polled.0 (displaced_send (machine_of B.bounded self.old) slot.0)) }
         ensures unused { IfOk result (λ polled. polled.1.unused ≡ unused_after polled.0 waker) }
+        ensures live { OnOk result (can_send (phase_of self.old.waiters.sends slot.0) ≡ true) }
         ensures refused { OnErr result ((can_send (phase_of self.old.waiters.sends slot.0) ≡ false)
             × (machine_of B.bounded self.new ≡ machine_of B.bounded self.old)) }
         ensures handed_back { IfErr result (λ back. back ≡ waker) }

@@ -117,7 +117,8 @@ impl<T: Drop, B: RingBuf<Item = T>, W: Drop> Primitive for ChannelState<T, B, W>
         ensures fault { IfErr result (λ fault. fault ≡ Fault.NoMemory) }
     {
         let state = ChannelState::with_capacity(alloc, capacity)?;
-        ChannelState::show(&state);
+        // What holds of every channel holds of this one.
+        let _ = state.wake_count();
         Ok(state)
     }
 
@@ -194,10 +195,9 @@ fn poll_receive<T: Drop, B: RingBuf<Item = T>, W: Drop>(
 ) -> Answer<T, W>
     ensures { Step channel.old (calls.PollReceive slot waker) result channel.new }
 {
-    if !channel.can_receive(slot) {
+    let Ok((answer, _leftover)) = channel.receive_checked(slot, waker) else {
         return Answer::Refused(Fault::NoSlot);
-    }
-    let (answer, _leftover) = channel.receive_or_register(slot, waker);
+    };
     match answer {
         Poll::Pending => Answer::Pending,
         Poll::Ready(Ok(Some(value))) => Answer::Item(value),
@@ -214,7 +214,6 @@ fn poll_next<T: Drop, B: RingBuf<Item = T>, W: Drop>(
 ) -> Answer<T, W>
     ensures { Step channel.old (calls.PollNext slot waker) result channel.new }
 {
-    ChannelState::show(channel);
     let Ok((answer, _leftover)) = channel.next_checked(slot, waker) else {
         return Answer::Refused(Fault::NoSlot);
     };

@@ -107,7 +107,6 @@ impl<T: Drop, B: RingBuf<Item = T>> PollSlot<ChannelStreaming> for ChannelState<
         if waker.is_none() && !self.next_ends_now(slot) && self.can_stream(slot) {
             return None;
         }
-        ChannelState::show(self);
         match self.next_checked(slot, waker) {
             Ok((answer, leftover)) => match answer {
                 Poll::Ready(Some(item)) => Some((Poll::Ready(Some(Ok(item))), leftover)),

@@ -27,13 +27,13 @@ impl<C: ChannelReceiveAccess<Waker = PollWaker>> PollSlot<ChannelReceive> for C 
     ghost leaves = { λ old name waker answer. leftover_after answer (C.waker_of old name) waker };
 
     fn poll_slot(&mut self, slot: Slot, waker: PollWaker) -> SlotPolled<Self::Output> {
-        if !self.can_receive(slot) {
-            return no_slot(waker);
-        }
-        if waker.is_none() && !self.receive_ends_now(slot) {
+        if waker.is_none() && !self.receive_ends_now(slot) && self.can_receive(slot) {
             return None;
         }
-        Some(self.receive_or_register(slot, waker))
+        match self.receive_checked(slot, waker) {
+            Ok(polled) => Some(polled),
+            Err(waker) => no_slot(waker),
+        }
     }
 }
 

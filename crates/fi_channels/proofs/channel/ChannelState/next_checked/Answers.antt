@@ -1,6 +1,7 @@
-use Rattle.std.proofs.Common.{IfOk, subst, sym}
+use Rattle.std.proofs.Common.{rules, IfOk, subst, sym}
 use Rattle.fi_channels.specs.Channel.{ChannelMachine}
 use Rattle.fi_channels.specs.ChannelFields.{machine_of}
+use Rattle.fi_channels.specs.ChannelStays.{OtherReceivesStay}
 use Rattle.fi_channels.proofs.ChannelLaws.{Holds, Receives, polls_next, still_streams}
 use Rattle.fi_channels.proofs.ChannelStays.{polled_receive_stays}
 use Rattle.fi_channels.proofs.Results.{either, of_made, of_made_beside}
@@ -32,6 +33,8 @@ returns-clause-live g c =
 
 pub returns-clause-others : goal.returns-clause-others
 returns-clause-others g c =
+    let unchanged : OtherReceivesStay c.args.slot.0 (old g c) (old g c) = search rules in
     rw (← c.self.view_is)
-    (of_made c.next_checked.result _ _ (did g c)
-    (λ polled now. polled_receive_stays (old g c) (new g c) c.self.invariant c.args.slot.0 c.args.waker polled.0 now.0))
+    (either c.next_checked.result _ _ (OtherReceivesStay c.args.slot.0 (old g c) (new g c)) (did g c) c.next_checked.ensures.refused
+    (λ polled now. polled_receive_stays (old g c) (new g c) c.self.invariant c.args.slot.0 c.args.waker polled.0 now.0)
+    (λ same. subst (OtherReceivesStay c.args.slot.0 (old g c)) (sym same.1) unchanged))
