@@ -353,7 +353,6 @@ impl<T: Drop, B: RingBuf<Item = T>, W: Drop> ChannelSendAccess for ChannelState<
     ghost use Rattle.std.specs.Prelude.{is_some};
     ghost use Rattle.fi_channels.specs.Channel as channel;
     ghost use Rattle.fi_channels.specs.ChannelStays as channel_stays;
-    ghost use Rattle.std.proofs.Common.{rules};
 
     type Item = T;
 
@@ -370,8 +369,6 @@ impl<T: Drop, B: RingBuf<Item = T>, W: Drop> ChannelSendAccess for ChannelState<
     ghost withdraws = { channel.CancelsSend };
 
     ghost others_stay = { channel_stays.OtherSendsStay };
-
-    ghost unchanged_stay = { Prim.search rules };
 
     fn can_send(&self, slot: Slot) -> bool {
         self.fields.can_send(slot)
@@ -417,7 +414,6 @@ impl<T: Drop, B: RingBuf<Item = T>, W: Drop> ChannelReceiveAccess for ChannelSta
     ghost use Rattle.fi_channels.specs.Polled.{Answered};
     ghost use Rattle.fi_channels.specs.Channel as channel;
     ghost use Rattle.fi_channels.specs.ChannelStays as channel_stays;
-    ghost use Rattle.std.proofs.Common.{rules};
 
     type Item = T;
 
@@ -435,8 +431,6 @@ impl<T: Drop, B: RingBuf<Item = T>, W: Drop> ChannelReceiveAccess for ChannelSta
     ghost cancels = { channel.CancelsReceive };
 
     ghost others_stay = { channel_stays.OtherReceivesStay };
-
-    ghost unchanged_stay = { Prim.search rules };
 
     fn can_receive(&self, slot: Slot) -> bool {
         self.fields.can_receive(slot)

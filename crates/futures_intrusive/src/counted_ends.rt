@@ -227,8 +227,6 @@ impl<S: SendsClosed> ChannelSendAccess for CountedEnds<S> {
 
     ghost others_stay = { λ name old new. S.others_stay name old.state new.state };
 
-    ghost unchanged_stay = { λ name ends. S.unchanged_stay name ends.state };
-
     fn can_send(&self, slot: Slot) -> bool {
         self.state.can_send(slot)
     }
@@ -271,8 +269,6 @@ impl<S: ReceivesClosed> ChannelReceiveAccess for CountedEnds<S> {
     ghost cancels = { λ old name new. OnState (λ before after. S.cancels before name after) old new };
 
     ghost others_stay = { λ name old new. S.others_stay name old.state new.state };
-
-    ghost unchanged_stay = { λ name ends. S.unchanged_stay name ends.state };
 
     fn can_receive(&self, slot: Slot) -> bool {
         self.state.can_receive(slot)
