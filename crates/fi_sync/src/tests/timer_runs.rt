@@ -7,7 +7,8 @@ use std::sync::atomic::{AtomicU64, Ordering};
 use std::thread::Threads;
 use std::{thread, time};
 
-// The system's clock, which counts its readings: one for each poll of a future and for each check.
+// The system's clock, which counts its readings: one for each poll of a future, two for one that has to wait and has no waker, and one for
+// each check.
 #[derive(Drop)]
 struct Counted<'a, R> {
     clock: &'a StdClock<R>,
