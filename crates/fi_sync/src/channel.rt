@@ -1,7 +1,8 @@
 //! The channel of many values that threads share.
-ghost use Rattle.std.specs.Prelude.{◌≡◌, IfOk, IfErr};
+ghost use Rattle.std.specs.Prelude.{◌≡◌, IfOk, IfErr, false};
 ghost use Rattle.fi_parts.specs.declared.errors.Fault.{Fault};
-ghost use Rattle.fi_channels.specs.ChannelErrors.{value_in};
+ghost use Rattle.fi_channels.specs.ChannelErrors.{value_in, is_full};
+ghost use Rattle.fi_channels.specs.declared.channel_errors.TrySendError.{TrySendError};
 ghost use Rattle.fi_sync.specs.Waiting.{IsNew};
 
 use crate::blocking::{Blocking, wait_for};
@@ -182,9 +183,24 @@ impl<T: Drop, B: RingBuf<Item = T>, R: Wait> GenericChannel<T, B, R> {
 impl<T: Drop, B: RingBuf<Item = T>, R: Blocking> GenericChannel<T, B, R> {
     /// Blocks this thread until the value is stored or taken. Else the value comes back: with `Closed`, or with `NoMemory` where
     /// no executor can be made or the buffer could not grow; never with `Full`.
-    pub fn send_blocking(&self, value: T) -> Result<(), TrySendError<T>> {
-        match self.send(value) {
+    pub fn send_blocking(&self, value: T) -> Result<(), TrySendError<T>>
+        ensures never_full { IfErr result (λ refused. is_full refused ≡ false) }
+    {
+        match self.send_or_hand_back(value) {
             Ok(mut send) => send.wait_blocking(self.monitor.runtime()),
+            Err(refused) => Err(refused),
+        }
+    }
+
+    // A future that sends the value; where none can be made, the value comes back with `NoMemory`.
+    fn send_or_hand_back(
+        &self,
+        value: T,
+    ) -> Result<ChannelSendFuture<'_, ChannelState<T, B, PollWaker>, R>, TrySendError<T>>
+        ensures handed_back { IfErr result (λ refused. refused ≡ TrySendError.NoMemory value) }
+    {
+        match self.send(value) {
+            Ok(send) => Ok(send),
             Err(NoRoom(value)) => Err(TrySendError::NoMemory(value)),
         }
     }

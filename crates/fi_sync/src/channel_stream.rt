@@ -1,6 +1,6 @@
 //! Streams of the channels that threads share.
-ghost use Rattle.std.specs.Prelude.{◌≡◌, Option, Some, Err, false, is_some, is_none};
-ghost use Rattle.futures.specs.Poll.{OnPending};
+ghost use Rattle.std.specs.Prelude.{◌≡◌, ⊤, List, Option, Result, Some, Err, IfSome, OnSome, false, is_some, is_none};
+ghost use Rattle.futures.specs.Poll.{OnPending, IfReady};
 ghost use Rattle.futures.specs.Task.{Covers, Keeps};
 ghost use Rattle.futures.specs.declared.task.waker.Waker.{Waker};
 ghost use Rattle.fi_channels.specs.Channel.{receive_phase, CancelsReceive, displaced_receive};
@@ -77,7 +77,18 @@ impl<T: Drop, B: RingBuf<Item = T>, R: Wait> Stream for ChannelStream<'_, T, B, 
 
     ghost needs = { λ stream source. source ≡ stream.source };
 
-    fn poll_next(&mut self, cx: &mut Context<'_>) -> Poll<Option<Result<T, Fault>>> {
+    fn poll_next(&mut self, cx: &mut Context<'_>) -> Poll<Option<Result<T, Fault>>>
+        ensures value { IfReady result (λ _. ⊤) }
+        ensures rest { IfReady result (λ item. IfSome item (λ _. (xs : List (Result T Fault)) (last : Option (Result T Fault)) → ⊤ → ⊤)) }
+        ensures goes { IfReady result (λ item. OnSome item ⊤) }
+        ensures again { OnPending result ⊤ }
+        ensures same { OnPending result ((xs : List (Result T Fault)) (last : Option (Result T Fault)) → ⊤ → ⊤) }
+        ensures registered { OnPending result (Covers cx.new (λ source. source ≡ self.new.source)) }
+        ensures kept { Keeps cx.old cx.new }
+        ensures stands { self.new ≡ polled is_none self.old result }
+        ensures answered { IsStreamAnswer (PollsStream {T = T} {W = Option Waker}) self.old.name self.old.has_ended
+            cx.new.lacks_waker result }
+    {
         self.poll_item(cx)
     }
 }

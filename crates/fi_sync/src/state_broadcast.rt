@@ -1,5 +1,7 @@
 //! The state broadcast that threads share.
-ghost use Rattle.std.specs.Prelude.{◌≡◌, IfOk, IfErr};
+ghost use Rattle.std.specs.Prelude.{◌≡◌, Option, IfOk, IfErr, OnErr};
+ghost use Rattle.futures.specs.declared.task.waker.Waker.{Waker};
+ghost use Rattle.fi_channels.specs.StateBroadcast.{StateMachine, MayLackNewer, newer_than};
 ghost use Rattle.fi_parts.specs.declared.errors.Fault.{Fault};
 ghost use Rattle.fi_sync.specs.Waiting.{IsNew};
 
@@ -90,6 +92,8 @@ impl<T: Clone, R: Wait> StateBroadcastChannel<T, R> {
     /// not be allocated. Keeps `StateBroadcastChannel::try_receive`.
     pub fn try_receive(&self, seen: StateId) -> Result<Option<(StateId, T)>, Fault>
         ensures fault { IfErr result (λ fault. fault ≡ Fault.NoMemory) }
+        // In some hold of the lock there was a newer state, whose clone can fail.
+        ensures lacks { OnErr result ((state : StateMachine T (Option Waker)) × MayLackNewer T.is_infallible (newer_than state.own seen)) }
     {
         self.monitor
             .call(seen, |channel, seen| channel.try_receive(seen))

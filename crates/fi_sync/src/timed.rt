@@ -6,7 +6,7 @@ ghost use Rattle.fi_parts.specs.Deadlines.{IsNextExpiry};
 ghost use Rattle.fi_parts.specs.Polled.{LeavesWhere};
 ghost use Rattle.fi_parts.specs.declared.errors.Fault.{Fault};
 ghost use Rattle.fi_locks.specs.Timer.{opened, can_be_polled, Makes, Checks, Cancels};
-ghost use Rattle.fi_sync.specs.Timed.{DelaysTimed, PollsTimed};
+ghost use Rattle.fi_sync.specs.Timed.{DelaysTimed, PollsTimed, ChecksAndPlans, planned_for};
 ghost use Rattle.fi_sync.specs.Waiting.{PollsWhere, leftover_after};
 
 use crate::claim::Cancel;
@@ -110,19 +110,26 @@ impl<C: Clock> Timed<C> {
     /// Tells those whose expiry is not after the clock's time now, and plans the runner's next check for the next expiry, or for this
     /// many milliseconds from now if that is earlier. Answers how many milliseconds are left until then.
     pub(crate) fn check_and_plan(&mut self, at_most: u64) -> u64
-        ensures checked { (now : ℕ) × Checks self.old.timer now self.new.timer }
+        // At some moment: that it is the clock's is not said.
+        ensures planned { ChecksAndPlans self.old.timer self.old.runner at_most result self.new.timer self.new.runner }
         ensures bounded { result ≤ at_most }
         ensures clock { self.new.clock ≡ self.old.clock }
-        ensures runner { is_some self.new.runner ≡ is_some self.old.runner }
     {
         let moment = self.clock.now();
         self.timer.check_expirations(moment);
         let next = self.timer.next_expiration().unwrap_or(u64::MAX);
         let left = next.saturating_sub(moment).min(at_most);
-        if let Some(runner) = &mut self.runner {
-            runner.next_check = moment.saturating_add(left);
-        }
+        self.plan(moment.saturating_add(left));
         left
+    }
+
+    // Plans the runner's next check for this moment.
+    fn plan(&mut self, moment: u64)
+        ensures { self.new ≡ record self.old { runner = planned_for self.old.runner moment } }
+    {
+        if let Some(runner) = &mut self.runner {
+            runner.next_check = moment;
+        }
     }
 
     // Rouses the runner, if a future waits for an earlier moment than that of its next check.

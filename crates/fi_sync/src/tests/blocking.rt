@@ -6,13 +6,14 @@ use crate::{
     UnbufferedChannel,
 };
 use fi_channels::TrySendError;
-use fi_parts::StateId;
-use std::alloc::AllocGlobal;
+use fi_parts::{Fault, StateId};
+use std::alloc::{Alloc, AllocGlobal};
+use std::random::RandomSource;
 use std::sync::Wait;
 use std::sync::atomic::{AtomicBool, AtomicU64, Ordering};
-use std::thread;
 use std::thread::Threads;
-use std::time::Duration;
+use std::time::{self, Duration};
+use std::{io, thread};
 
 // Sends a one, and closes the channel.
 fn send_and_close<R: Blocking>(channel: &UnbufferedChannel<u64, R>) {
@@ -68,6 +69,60 @@ fn waits_block_until_they_are_told(rt: HostRuntime) {
     assert!(rt; are_told(&rt, &event, &states, &answer));
 }
 
+// Whether a wait is over only once the event was set, some time after the wait began.
+fn waits_until_set<'a, R>(rt: &'a R, event: &'a ManualResetEvent<R>) -> bool
+where
+    R: Blocking + Threads + time::Clock + Send + Sync,
+{
+    let is_set = &AtomicBool::new(false);
+    thread::scope(thread::scope_env(), rt, |scope| {
+        let _ = scope.spawn(move || {
+            thread::sleep(rt, Duration::from_millis(20));
+            is_set.store(true, Ordering::SeqCst);
+            event.set();
+        });
+        event.wait_blocking() == Ok(()) && is_set.load(Ordering::SeqCst)
+    })
+}
+
+#[test]
+fn a_wait_blocks_until_the_event_is_set(rt: HostRuntime) {
+    let event = ManualResetEvent::new(rt.alloc(), rt, false);
+    assert!(rt; waits_until_set(&rt, &event));
+}
+
+// A runtime without random bytes, so that no executor can be made.
+#[derive(Drop)]
+struct NoExecutor<R> {
+    rt: R,
+}
+
+impl<R: Wait> Wait for NoExecutor<R> {}
+
+impl<R> RandomSource for NoExecutor<R> {
+    fn fill_bytes(&self, _bytes: &mut [u8]) -> io::Result<()> {
+        Err(io::Error::from(io::ErrorKind::Other))
+    }
+}
+
+impl<R: Alloc> Alloc for NoExecutor<R> {
+    type A = R::A;
+
+    fn alloc(&self) -> R::A {
+        self.rt.alloc()
+    }
+}
+
+// A call that can't block is refused: a value to be sent comes back, and one that could be received stays.
+#[test]
+fn calls_without_an_executor_lose_nothing(rt: HostRuntime) {
+    let channel = Channel::<u64, 2, NoExecutor<HostRuntime>>::new(rt.alloc(), NoExecutor { rt });
+    assert!(rt; channel.send_blocking(5) == Err(TrySendError::NoMemory(5)));
+    assert!(rt; channel.len() == 0 && channel.try_send(6).is_ok());
+    assert!(rt; channel.receive_blocking() == Err(Fault::NoMemory));
+    assert!(rt; channel.try_receive() == Ok(6));
+}
+
 // Lets time pass until it is over.
 fn tick<R: Wait>(timer: &TimerService<Shown<'_>, R>, time: &AtomicU64, is_over: &AtomicBool) {
     for _ in 0..10_000_000u32 {
@@ -78,6 +133,46 @@ fn tick<R: Wait>(timer: &TimerService<Shown<'_>, R>, time: &AtomicU64, is_over: 
         timer.check_expirations();
         thread::yield_now();
     }
+}
+
+// Lets five milliseconds pass as soon as somebody waits, and keeps the moment that is waited for.
+fn skip_ahead<R: Wait>(timer: &TimerService<Shown<'_>, R>, time: &AtomicU64, moment: &AtomicU64) {
+    for _ in 0..10_000_000u32 {
+        if let Some(next) = timer.next_expiration() {
+            moment.store(next, Ordering::SeqCst);
+            time.fetch_add(5, Ordering::SeqCst);
+            timer.check_expirations();
+            return;
+        }
+        thread::yield_now();
+    }
+}
+
+// The moment at which a wait for at most five milliseconds is over, if what is waited for doesn't come.
+fn limit_of<'a, 'b, R>(
+    rt: &'a R,
+    timer: &'a TimerService<Shown<'b>, R>,
+    event: &'a ManualResetEvent<R>,
+    time: &'a AtomicU64,
+) -> Option<u64>
+where
+    R: Blocking + Threads + Send + Sync,
+{
+    let mut wait = event.wait().ok()?;
+    let moment = &AtomicU64::new(0);
+    let late = thread::scope(thread::scope_env(), rt, |scope| {
+        let _ = scope.spawn(move || skip_ahead(timer, time, moment));
+        timer.wait_at_most(Duration::from_millis(5), &mut wait)
+    });
+    (late == Ok(None)).then_some(moment.load(Ordering::SeqCst))
+}
+
+#[test]
+fn a_wait_is_over_at_its_limit(rt: HostRuntime) {
+    let time = &AtomicU64::new(100);
+    let timer = TimerService::new(rt.alloc(), rt, Shown { time });
+    let event = ManualResetEvent::new(rt.alloc(), rt, false);
+    assert_eq!(rt; limit_of(&rt, &timer, &event, time), Some(105));
 }
 
 // Whether a receive is waited for in vain, and then has its value.

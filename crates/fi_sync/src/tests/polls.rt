@@ -76,6 +76,19 @@ fn ready_locks_wake_nobody(rt: HostRuntime) {
     lock_in_peace::<HostRuntime, Brand>(rt, task, Blank::new(1))
 }
 
+// The poll that ends a future keeps the wakers of the polls before it, which were made for the same task: their drop would wake it.
+#[test]
+fn a_ready_poll_after_others_wakes_nobody(rt: HostRuntime) {
+    let task = MockTask::new(&rt).expect(&rt, "memory");
+    let event = ManualResetEvent::new(rt.alloc(), rt, false);
+    let mut wait = event.wait().expect(&rt, "memory");
+    assert!(rt; task.poll(&mut wait).is_pending() && task.poll(&mut wait).is_pending());
+    assert!(rt; !task.is_woken());
+    event.set();
+    assert!(rt; task.is_woken() && task.poll(&mut wait) == Poll::Ready(Ok(())));
+    assert!(rt; !task.is_woken());
+}
+
 // The newest waker is the one that is woken. One that a poll displaced is kept, and is let go when another comes, which has its task
 // polled once.
 #[test]

@@ -2,7 +2,7 @@
 ghost use Rattle.fi_sync.specs.Blanks.{IsPermitBlank};
 
 use super::{sends, shares};
-use crate::Semaphore;
+use crate::{Blocking, Semaphore};
 use futures::executor::block_on;
 use std::alloc::AllocGlobal;
 use std::marker::Brand;
@@ -32,4 +32,23 @@ where
 #[test]
 fn semaphore_crosses_threads(rt: HostRuntime) {
     crosses::<HostRuntime, Brand>(rt, Blank::new(u64::MAX))
+}
+
+// Whether a call that blocks acquires what it is asked for, of three permits.
+fn acquires_two<R: Blocking, L: Ledger>(rt: R, blank: Blank) -> bool
+where
+    R: Copy,
+    requires blank { IsPermitBlank L.Ledger blank }
+{
+    let semaphore = Semaphore::<R, L>::new(rt.alloc(), rt, blank, true, 3);
+    let Ok(mut releaser) = semaphore.acquire_blocking(2) else {
+        return false;
+    };
+    let are_held = semaphore.held() == 2 && semaphore.permits() == 1;
+    are_held && releaser.disarm() == 2 && semaphore.held() == 0
+}
+
+#[test]
+fn a_call_that_blocks_acquires_its_permits(rt: HostRuntime) {
+    assert!(rt; acquires_two::<HostRuntime, Brand>(rt, Blank::new(u64::MAX)));
 }

@@ -2,7 +2,7 @@
 ghost use Rattle.fi_sync.specs.Blanks.{IsPermitBlank};
 
 use super::sends;
-use crate::{SharedSemaphore, SharedSemaphoreAcquireFuture, SharedSemaphoreReleaser};
+use crate::{Blocking, SharedSemaphore, SharedSemaphoreAcquireFuture, SharedSemaphoreReleaser};
 use futures::executor::block_on;
 use futures::task::Poll;
 use futures::test::MockTask;
@@ -89,4 +89,21 @@ where
 #[test]
 fn shared_semaphore_crosses_threads(rt: HostRuntime) {
     assert!(rt; crosses::<HostRuntime, Brand>(rt, Blank::new(u64::MAX)));
+}
+
+// Whether a call that blocks acquires what it is asked for, of three permits.
+fn acquires_two<R: Blocking + Drop + Copy, L: Ledger>(rt: R, blank: Blank) -> Option<bool>
+where
+    requires blank { IsPermitBlank L.Ledger blank }
+{
+    let semaphore = SharedSemaphore::<R, L>::new(rt.alloc(), rt, blank, true, 3).ok()?;
+    let mut releaser = semaphore.acquire_blocking(2).ok()?;
+    let are_held = semaphore.held() == 2 && semaphore.permits() == 1;
+    Some(are_held && releaser.disarm() == 2 && semaphore.held() == 0)
+}
+
+#[test]
+fn a_call_that_blocks_acquires_its_permits(rt: HostRuntime) {
+    let is_right = acquires_two::<HostRuntime, Brand>(rt, Blank::new(u64::MAX));
+    assert_eq!(rt; is_right, Some(true));
 }
