@@ -86,9 +86,10 @@ impl From<AllocError> for ScriptError {
 /// # Examples
 ///
 /// ```
-/// let mut script = String::new(alloc);
+/// let mut script = String::from_str(alloc, "before")?;
 /// journal.settle().write_script(&mut script)?;
-/// let wanted = script_of(alloc, row)?;
+/// let mut wanted = String::from_str(alloc, "before")?;
+/// wanted.push_str(script_of(alloc, row)?.as_str())?;
 /// assert_eq!(rt; script.as_str(), wanted.as_str());
 /// ```
 pub trait ScriptLines: Primitive<Answer = Answer<u64, u64>, Waker = u64> {
