@@ -1,4 +1,4 @@
-use Rattle.std.proofs.Common.{rules, Option, OnErr, MutBor}
+use Rattle.std.proofs.Common.{rules, Option, OnErr}
 use Rattle.futures.specs.declared.task.waker.Waker.{Waker}
 use Rattle.fi_channels.specs.StateBroadcast.{StateMachine, MayLackNewer, newer_than}
 use Rattle.fi_sync.proofs.Answered.{at_some}
