@@ -1,5 +1,5 @@
 //! The ends of a channel: what its senders and its receivers have in common.
-ghost use Rattle.std.specs.Prelude.{◌≡◌, ◌⊎◌, ℕ, Ok, OnOk, IfOk, IfErr, Option, Result};
+ghost use Rattle.std.specs.Prelude.{◌≡◌, ◌⊎◌, ℕ, Ok, Err, OnOk, OnErr, IfOk, IfErr, Option, Result};
 ghost use Rattle.std.specs.Arc.{arc_value};
 ghost use Rattle.fi_parts.specs.declared.errors.Fault.{Fault};
 ghost use Rattle.futures_intrusive.specs.Ends.{Counted, AddsSender, AddsReceiver, LeavesSender, DropsReceiver};
@@ -41,6 +41,7 @@ pub trait CloneSide<S: ClosesByEnds>: Side<S> {
     /// One end more. Refused with `TooManyEnds` exactly if there are `isize::MAX`; then nothing changes.
     fn add_end(ends: &mut CountedEnds<S>) -> Result<(), Fault>
         ensures added { adds ends.old result ends.new }
+        ensures refused { OnErr result (ends.new ≡ ends.old) }
         ensures fault { IfErr result (λ fault. fault ≡ Fault.TooManyEnds) };
 }
 
@@ -83,11 +84,12 @@ struct Membership<K> {
 }
 
 impl<K> Membership<K> {
-    /// Counts one end more.
+    /// Counts one end more. Refused with `TooManyEnds` if there are `isize::MAX`; then nothing changes.
     fn join<S: ClosesByEnds>(ends: &mut CountedEnds<S>) -> Result<Self, Fault>
     where
         K: CloneSide<S>,
         ensures counted { OnOk result (K.adds ends.old (Ok tt) ends.new) }
+        ensures refused { IfErr result (λ fault. K.adds ends.old (Err fault) ends.new × (ends.new ≡ ends.old)) }
         ensures fault { IfErr result (λ fault. fault ≡ Fault.TooManyEnds) }
     {
         K::add_end(ends)?;
@@ -157,10 +159,13 @@ impl<S: ClosesByEnds + Drop, R: Wait + Drop, K: CloneSide<S>> End<S, R, K> {
         // The channel counted one end more, in some hold of its lock.
         ensures counted { OnOk result ((old : Counted S) × (new : Counted S) × K.adds old (Ok tt) new) }
         ensures fault { IfErr result (λ fault. (fault ≡ Fault.NoMemory) ⊎ (fault ≡ Fault.TooManyEnds)) }
+        // Where the channel refused one end more, it was left as it was.
+        ensures refused { IfErr result (λ fault. fault ≡ Fault.TooManyEnds → (old : Counted S) × K.adds old (Err fault) old) }
     {
         let channel = self.share()?;
         let join = |ends: &mut CountedEnds<S>, ()| -> Result<Membership<K>, Fault>
             ensures counted { OnOk result (K.adds ends.old (Ok tt) ends.new) }
+            ensures refused { IfErr result (λ fault. K.adds ends.old (Err fault) ends.new × (ends.new ≡ ends.old)) }
             ensures fault { IfErr result (λ fault. fault ≡ Fault.TooManyEnds) }
         { Membership::join(ends) };
         let membership = channel.call((), join)?;
@@ -177,7 +182,10 @@ impl<S: ClosesByEnds + Drop, R: Wait + Drop, K: Side<S>> Drop for End<S, R, K> {
             channel,
             membership,
         } = self;
-        let cleared = channel.call(membership, |ends, membership| membership.leave(ends));
+        let leave = |ends: &mut CountedEnds<S>, membership: Membership<K>| -> Option<S::Cleared>
+            ensures { K.drops ends.old result ends.new }
+        { membership.leave(ends) };
+        let cleared = channel.call(membership, leave);
         // With no lock held: the drop of a value may run any code, that of an end of this channel too.
         drop(cleared);
         drop(channel);

@@ -1,7 +1,8 @@
 //! The ends of the state broadcast.
-ghost use Rattle.std.specs.Prelude.{◌≡◌, IfOk, IfErr, OnOk, OnErr, Ok, Err};
+ghost use Rattle.std.specs.Prelude.{◌≡◌, Option, IfOk, IfErr, OnOk, OnErr, Ok, Err};
+ghost use Rattle.futures.specs.declared.task.waker.Waker.{Waker};
 ghost use Rattle.fi_parts.specs.declared.errors.Fault.{Fault};
-ghost use Rattle.fi_channels.specs.StateBroadcast.{Makes, Sends, TriesReceive, MayLackNewer, newer_than};
+ghost use Rattle.fi_channels.specs.StateBroadcast.{StateMachine, Makes, Sends, TriesReceive, MayLackNewer, newer_than};
 ghost use Rattle.fi_sync.specs.Waiting.{IsNew};
 ghost use Rattle.futures_intrusive.specs.Ends.{OnState};
 
@@ -100,6 +101,8 @@ impl<T: Clone + Drop, R: Wait + Drop> StateReceiver<T, R> {
     /// `StateReceiver::try_receive`.
     pub fn try_receive(&self, seen: StateId) -> Result<Option<(StateId, T)>, Fault>
         ensures fault { IfErr result (λ fault. fault ≡ Fault.NoMemory) }
+        // In some hold of the lock there was a newer state, whose clone can fail.
+        ensures lacks { OnErr result ((state : StateMachine T (Option Waker)) × MayLackNewer T.is_infallible (newer_than state.own seen)) }
     {
         self.channel()
             .call(seen, |ends, seen| ends.try_receive(seen))
