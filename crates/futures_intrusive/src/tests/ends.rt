@@ -1,11 +1,14 @@
 //! Ends that are owned and counted: the last of a side closes the channel, and wakes those who wait.
 
+mod blocking;
+mod debug;
 mod drops;
 mod threads;
 
 use crate::channel::GenericChannel;
 use crate::channel::shared::{
     Receiver, Sender, channel, oneshot_broadcast_channel, oneshot_channel, state_broadcast_channel,
+    unbuffered_channel,
 };
 use fi_channels::{SendFault, TryReceiveError, TrySendError};
 use fi_parts::buffer::GrowingHeapBuf;
@@ -120,6 +123,14 @@ fn shared_channel_ends_close_after_receivers(rt: HostRuntime) {
     let stream = receiver.into_stream().ok().expect(&rt, "memory");
     drop(stream);
     assert!(rt; sender.try_send(1) == Err(TrySendError::Closed(1)));
+}
+
+#[test]
+fn an_unbuffered_channel_has_no_room(rt: HostRuntime) {
+    let ends = unbuffered_channel::<u64, HostRuntime>(rt.alloc(), rt);
+    let (sender, receiver) = ends.expect(&rt, "memory");
+    assert!(rt; sender.capacity() == 0 && receiver.capacity() == 0);
+    assert!(rt; sender.try_send(1) == Err(TrySendError::Full(1)));
 }
 
 /// The ends of a channel, and a borrowed one that gets the same calls.

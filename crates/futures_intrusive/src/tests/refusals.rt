@@ -1,6 +1,7 @@
 //! Each request for memory is refused in turn, by taking all memory that the process can have.
 //!
 //! Where nothing is refused, as in a run without proofs, `memory_runs_out` fails and the others say nothing.
+mod blocking;
 mod boxes;
 mod buffers;
 mod deliveries;
