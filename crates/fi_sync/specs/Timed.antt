@@ -2,15 +2,21 @@
 use Rattle.std.specs.Prelude.{◌≡◌, ◌+◌, ◌-◌, ◌^◌, ℕ, min, Option, Some, None, Result, unwrap_or}
 use Rattle.futures.specs.declared.task.Poll.{Poll}
 use Rattle.fi_channels.specs.Polled.{Answered}
-use Rattle.fi_locks.specs.Timer.{TimerMachine, expiry_after, Makes, Polls, Checks}
+use Rattle.fi_locks.specs.Timer.{TimerMachine, can_be_polled, expiry_after, Makes, Polls, Checks}
 use Rattle.fi_parts.specs.Deadlines.{IsNextExpiry}
 use Rattle.fi_parts.specs.declared.errors.Fault.{Fault}
+use Rattle.fi_sync.specs.Waiting.{PollsAt, WouldWait}
 use Rattle.fi_sync.specs.declared.timed.Runner.{Runner}
 
 -- A poll is the timer's at some moment; the timer refuses none. That the moment is the clock's is not said.
 abbrev pub PollsTimed : {S W : Type 0} → (S → TimerMachine W) → TimerMachine W → ℕ → W → Poll (Result (Unit {0}) Fault) → S → Type 0
 PollsTimed timer_of old name waker answer new =
     (now : ℕ) × Answered (λ polled timed. Polls old name now waker polled (timer_of timed)) (λ fault timed. ⊥) answer new
+
+-- A poll would have to wait at some moment. That this is the clock's is not said.
+abbrev pub WaitsTimed : {W : Type 0} → TimerMachine W → ℕ → Type 0
+WaitsTimed timer name =
+    (now : ℕ) × WouldWait (PollsAt can_be_polled (λ old name waker answer new. Polls old name now waker answer new)) timer name
 
 -- A future is made for the moment so many nanoseconds after some moment. That this moment is the clock's is not said.
 abbrev pub DelaysTimed : {W : Type 0} → TimerMachine W → ℕ → ℕ → TimerMachine W → Type 0

@@ -5,7 +5,7 @@ use Rattle.futures.specs.declared.task.Poll.{Poll}
 use Rattle.futures.specs.declared.task.Poll.TheVariants.{Ready, Pending}
 use Rattle.fi_channels.specs.Polled.{Answered, displaced_by, unused_after}
 use Rattle.fi_parts.specs.Machine.{Machine, phase_at, displaced_at}
-use Rattle.fi_parts.specs.Polled.{LeavesWhere}
+use Rattle.fi_parts.specs.Polled.{LeavesWhere, WouldBeReady}
 use Rattle.fi_parts.specs.declared.errors.Fault.{Fault}
 use Rattle.fi_parts.specs.declared.phase.Leftover.{Leftover}
 use Rattle.fi_parts.specs.declared.phase.Phase.{Phase}
@@ -42,6 +42,10 @@ abbrev pub PollsWhere : {S A : Type 0} → Bool → (Poll A → S → Type 0) �
 PollsWhere true polls refusal old answer new = polls answer new
 PollsWhere false polls refusal old answer new = (answer ≡ Ready refusal) × (new ≡ old)
 
+-- The same of a state whose futures can be polled where the first says so, and are polled as the second says.
+abbrev pub PollsOr : {S W A : Type 0} → (S → ℕ → Bool) → (S → ℕ → W → Poll A → S → Type 0) → A → S → ℕ → W → Poll A → S → Type 0
+PollsOr can polls refusal old name waker answer new = PollsWhere (can old name) (polls old name waker) refusal old answer new
+
 -- the wakers of no more use: the one that the future had, and the poll's own; a refused poll leaves the future's
 abbrev pub leftover_after : {A W : Type 0} → Poll (Result A Fault) → Option W → W → Leftover W
 leftover_after answer had waker =
@@ -76,12 +80,25 @@ abbrev pub IsPolled : {S W A : Type 0} → (S → ℕ → Option W → Poll A �
 IsPolled {S} {W} polls name answer old new =
     (waker : Option W) × polls old name waker answer new × OnPending answer (is_some waker ≡ true)
 
+-- A poll under this name would have to wait, whatever its waker is.
+abbrev pub WouldWait : {S W A : Type 0} → (S → ℕ → W → Poll A → S → Type 0) → S → ℕ → Type 0
+WouldWait polls old name = WouldBeReady (polls old name) false
+
+-- A poll under this name would have had to wait in some hold of the lock.
+abbrev pub HadToWait : {S : Type 0} → (S → ℕ → Type 0) → ℕ → Type 0
+HadToWait {S} waits name = (old : S) × waits old name
+
+-- The same of a future's own name.
+abbrev pub HadToWaitBy : {S : Type 0} → (S → ℕ → Type 0) → Option ℕ → Type 0
+HadToWaitBy waits own = (name : ℕ) × (own ≡ Some name) × HadToWait waits name
+
 -- A future that has ended stays pending. Another answers as its state did in some hold of the lock, where it was polled under the
--- future's own name, or that it has no memory where it had to wait and no waker could be made.
-abbrev pub IsAnswer : {S W A : Type 0} → (S → ℕ → Option W → Poll A → S → Type 0) → A → Option ℕ → Bool → Bool → Poll A → Type 0
-IsAnswer polls no_memory own true lacks_waker answer = answer ≡ Pending
-IsAnswer {S} {W} polls no_memory own false lacks_waker answer =
-    ((lacks_waker ≡ true) × (answer ≡ Ready no_memory))
+-- future's own name, or that it has no memory where it had to wait then and no waker could be made.
+abbrev pub IsAnswer : {S W A : Type 0} → (S → ℕ → Option W → Poll A → S → Type 0) → (S → ℕ → Type 0) → A → Option ℕ → Bool → Bool
+    → Poll A → Type 0
+IsAnswer polls waits no_memory own true lacks_waker answer = answer ≡ Pending
+IsAnswer {S} {W} polls waits no_memory own false lacks_waker answer =
+    ((lacks_waker ≡ true) × (answer ≡ Ready no_memory) × HadToWaitBy waits own)
     ⊎ ((old : S) × (name : ℕ) × (new : S) × (own ≡ Some name) × IsPolled polls name answer old new)
 
 -- whether a poll under a slot was answered, and the answer ends its future

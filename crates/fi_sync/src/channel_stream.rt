@@ -7,7 +7,7 @@ ghost use Rattle.fi_channels.specs.Channel.{receive_phase, CancelsReceive, displ
 ghost use Rattle.fi_parts.specs.Polled.{LeavesWhere};
 ghost use Rattle.fi_parts.specs.declared.errors.Fault.{Fault};
 ghost use Rattle.fi_sync.specs.Streams.{PollsStream, IsStreamAnswer, leftover_of_next};
-ghost use Rattle.fi_sync.specs.Waiting.{polled};
+ghost use Rattle.fi_sync.specs.Waiting.{polled, WouldWait};
 
 use crate::claim::{Cancel, Claim};
 use crate::monitor::Monitor;
@@ -111,6 +111,8 @@ impl<T: Drop, B: RingBuf<Item = T>> PollSlot<ChannelStreaming> for ChannelState<
     type Output = Option<Result<T, Fault>>;
 
     ghost polls = { PollsStream };
+
+    ghost would_wait = { WouldWait PollsStream };
 
     ghost leaves = { λ old name waker answer. leftover_of_next answer (displaced_receive old name) waker };
 

@@ -2,7 +2,7 @@
 ghost use Rattle.std.specs.Prelude.{◌≡◌, false, Ok, IfOk, IfSome, IfErr, OnErr, not};
 ghost use Rattle.fi_parts.specs.declared.errors.Fault.{Fault};
 ghost use Rattle.fi_locks.specs.Mutex.{opened, is_free, can_be_polled, Makes, Polls, Cancels, TriesLock, Unlocks};
-ghost use Rattle.fi_sync.specs.Waiting.{PollsAt, leftover_at, CancelsAt};
+ghost use Rattle.fi_sync.specs.Waiting.{PollsAt, WouldWait, leftover_at, CancelsAt};
 ghost use Rattle.fi_sync.specs.Blanks.{IsLockBlank};
 
 use crate::claim::Cancel;
@@ -152,6 +152,8 @@ impl<T: Drop, L: Ledger> PollSlot<MutexLock> for CountedMutex<T, L> {
     type Output = Result<Locked<T, L>, Fault>;
 
     ghost polls = { PollsAt can_be_polled Polls };
+
+    ghost would_wait = { WouldWait (PollsAt can_be_polled Polls) };
 
     ghost leaves = { leftover_at };
 

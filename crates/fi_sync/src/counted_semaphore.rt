@@ -2,7 +2,7 @@
 ghost use Rattle.std.specs.Prelude.{◌≡◌, ◌+◌, ◌≤◌, ◌^◌, IfOk, IfSome, IfErr, OnErr, is_some};
 ghost use Rattle.fi_parts.specs.declared.errors.Fault.{Fault};
 ghost use Rattle.fi_locks.specs.Semaphore.{opened, can_be_polled, Makes, Polls, Cancels, TriesAcquire, Releases, GivesBack, Disarms};
-ghost use Rattle.fi_sync.specs.Waiting.{PollsAt, leftover_at, CancelsAt};
+ghost use Rattle.fi_sync.specs.Waiting.{PollsAt, WouldWait, leftover_at, CancelsAt};
 ghost use Rattle.fi_sync.specs.Blanks.{IsPermitBlank};
 
 use crate::claim::Cancel;
@@ -125,6 +125,8 @@ impl<L: Ledger> PollSlot<SemaphoreAcquire> for CountedSemaphore<L> {
     type Output = Result<Grant<L>, Fault>;
 
     ghost polls = { PollsAt can_be_polled Polls };
+
+    ghost would_wait = { WouldWait (PollsAt can_be_polled Polls) };
 
     ghost leaves = { leftover_at };
 

@@ -1,6 +1,6 @@
 //! A wait for an event that threads share.
 ghost use Rattle.fi_channels.specs.Event.{can_be_polled, Polls, Cancels};
-ghost use Rattle.fi_sync.specs.Waiting.{PollsAt, leftover_at, CancelsAt};
+ghost use Rattle.fi_sync.specs.Waiting.{PollsAt, WouldWait, leftover_at, CancelsAt};
 
 use crate::claim::Cancel;
 use crate::monitor::Monitor;
@@ -20,6 +20,8 @@ impl PollSlot<EventWait> for EventState<PollWaker> {
     type Output = Result<(), Fault>;
 
     ghost polls = { PollsAt can_be_polled Polls };
+
+    ghost would_wait = { WouldWait (PollsAt can_be_polled Polls) };
 
     ghost leaves = { leftover_at };
 

@@ -4,7 +4,7 @@ ghost use Rattle.std.specs.Borrow.{MutBor};
 ghost use Rattle.futures.specs.Poll.{OnPending};
 ghost use Rattle.futures.specs.Task.{Covers, Keeps};
 ghost use Rattle.fi_parts.specs.declared.errors.Slot.{Slot};
-ghost use Rattle.fi_sync.specs.Waiting.{IsLeft, IsSettled};
+ghost use Rattle.fi_sync.specs.Waiting.{HadToWait, IsLeft, IsSettled};
 
 mod taken_apart;
 
@@ -102,6 +102,7 @@ impl<S: HasOutbox, R: Wait> Monitor<S, R> {
         ensures polled { (old : S) × (new : S) × IsSettled S.polls S.cancels S.Output.is_last claim result.0 result.1 old new }
         ensures registered { IfSome result.0 (λ polled. OnPending polled.0 (Covers cx.new (λ s. s ≡ self.now))) }
         ensures lacks { IfNone result.0 (cx.new.lacks_waker ≡ true) }
+        ensures put_off { IfNone result.0 (HadToWait S.would_wait claim) }
         ensures kept { Keeps cx.old cx.new }
     {
         let (polled, fate, owed) = self.state.poll(&self.rt, claim, cx, &self.source, spare);

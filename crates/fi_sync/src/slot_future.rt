@@ -67,6 +67,9 @@ pub trait PollSlot<K>: Cancel<K> {
     /// A poll under this name with this waker, or without one, may answer this and go on from old to new.
     ghost polls: { Self → ℕ → Option Waker → Poll Self.Output → Self → Type 0 };
 
+    /// A poll under this name, at some moment if it asks for the time, would have to wait.
+    ghost would_wait: { Self → ℕ → Type 0 };
+
     /// The wakers of no more use after such a poll.
     ghost leaves: { Self → ℕ → Option Waker → Poll Self.Output → Leftover (Option Waker) };
 
@@ -78,7 +81,8 @@ pub trait PollSlot<K>: Cancel<K> {
         ensures polled { IfSome result (λ polled. polls self.old slot.0 waker polled.0 self.new) }
         ensures leftover { IfSome result (λ polled. polled.1 ≡ leaves self.old slot.0 waker polled.0) }
         ensures waits { IfSome result (λ polled. OnPending polled.0 (is_some waker ≡ true)) }
-        ensures lacks { IfNone result ((waker ≡ None) × (self.new ≡ self.old)) };
+        ensures lacks { IfNone result ((waker ≡ None) × (self.new ≡ self.old)) }
+        ensures put_off { IfNone result (would_wait self.old slot.0) };
 }
 
 /// A future of the kind `K` of a primitive that threads share, which it reaches by a reference or an `Arc`. The poll that ends it
@@ -166,7 +170,7 @@ where
         ensures kept { Keeps cx.old cx.new }
         ensures stands { self.new ≡ polled M.State.Output.is_last self.old result }
         ensures spent { self.old.has_ended ≡ true → result ≡ Poll.Pending }
-        ensures answered { IsAnswer M.State.polls (M.State.Output.refusal Fault.NoMemory) self.old.name self.old.has_ended
+        ensures answered { IsAnswer M.State.polls M.State.would_wait (M.State.Output.refusal Fault.NoMemory) self.old.name self.old.has_ended
             cx.new.lacks_waker result }
         ensures cancelled { IsEndedBy M.State.polls M.State.cancels (ends M.State.Output.is_last result) self.old.name result }
     {

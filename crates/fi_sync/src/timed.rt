@@ -6,7 +6,7 @@ ghost use Rattle.fi_parts.specs.Deadlines.{IsNextExpiry};
 ghost use Rattle.fi_parts.specs.Polled.{LeavesWhere};
 ghost use Rattle.fi_parts.specs.declared.errors.Fault.{Fault};
 ghost use Rattle.fi_locks.specs.Timer.{opened, can_be_polled, Makes, Checks, Cancels};
-ghost use Rattle.fi_sync.specs.Timed.{DelaysTimed, PollsTimed, ChecksAndPlans, planned_for};
+ghost use Rattle.fi_sync.specs.Timed.{DelaysTimed, PollsTimed, WaitsTimed, ChecksAndPlans, planned_for};
 ghost use Rattle.fi_sync.specs.Waiting.{PollsWhere, leftover_after};
 
 use crate::claim::Cancel;
@@ -150,6 +150,8 @@ impl<C: Clock> PollSlot<TimerWait> for Timed<C> {
     ghost polls = { λ old name waker answer new. (new ≡ record old { timer = new.timer })
         × PollsWhere (can_be_polled (phase_at old.timer name))
         (PollsTimed (λ timed. timed.timer) old.timer name waker) (Err Fault.NoSlot) old answer new };
+
+    ghost would_wait = { λ old. WaitsTimed old.timer };
 
     ghost leaves = { λ old name waker answer. leftover_after answer (displaced_at old.timer name) waker };
 

@@ -4,7 +4,7 @@ ghost use Rattle.std.specs.Borrow.{MutBor};
 ghost use Rattle.futures.specs.Poll.{OnPending};
 ghost use Rattle.futures.specs.Task.{Covers, Keeps};
 ghost use Rattle.futures.specs.declared.task.waker.Waker.{Waker};
-ghost use Rattle.fi_sync.specs.Waiting.{is_over, IsPolled, IsSettled};
+ghost use Rattle.fi_sync.specs.Waiting.{is_over, HadToWait, IsPolled, IsSettled};
 ghost use Rattle.fi_sync.specs.Wakes.{TakesFirst};
 
 mod taken_apart;
@@ -92,6 +92,7 @@ impl<S: HasOutbox> Guarded<S> {
             × IsSettled S.polls S.cancels S.Output.is_last claim result.0 result.1 old new }
         ensures registered { IfSome result.0 (λ polled. OnPending polled.0 (Covers cx.new (λ s. s ≡ source.now.id))) }
         ensures lacks { IfNone result.0 (cx.new.lacks_waker ≡ true) }
+        ensures put_off { IfNone result.0 (HadToWait S.would_wait claim) }
         ensures kept { Keeps cx.old cx.new }
     {
         if spare.is_some() {
@@ -159,6 +160,7 @@ fn poll_or_end<K, S: PollSlot<K>>(
     ensures settled { IsSettled S.polls S.cancels S.Output.is_last claim result.0 result.1 state.old state.new }
     ensures registered { IfSome result.0 (λ polled. OnPending polled.0 (Covers cx.new (λ s. s ≡ source.now.id))) }
     ensures lacks { IfNone result.0 (cx.new.lacks_waker ≡ true) }
+    ensures put_off { IfNone result.0 (S.would_wait state.old claim) }
     ensures kept { Keeps cx.old cx.new }
 {
     let polled = poll_or_register(state, claim.slot(), cx, source, spare);
@@ -191,6 +193,7 @@ fn poll_or_register<K, S: PollSlot<K>>(
     ensures polled { MatchOption result (state.new ≡ state.old) (λ polled. IsPolled S.polls slot.0 polled.0 state.old state.new) }
     ensures registered { IfSome result (λ polled. OnPending polled.0 (Covers cx.new (λ s. s ≡ source.now.id))) }
     ensures lacks { IfNone result (cx.new.lacks_waker ≡ true) }
+    ensures put_off { IfNone result (S.would_wait state.old slot.0) }
     ensures kept { Keeps cx.old cx.new }
 {
     if let Some(polled) = state.poll_slot(slot, spare.take()) {

@@ -84,11 +84,14 @@ impl<T: Drop, B: RingBuf<Item = T>> PollSlot<ChannelStreaming>
     for CountedEnds<ChannelState<T, Clearable<B>, PollWaker>> {
     ghost use Rattle.fi_channels.specs.Channel.{displaced_receive};
     ghost use Rattle.fi_sync.specs.Streams.{leftover_of_next};
+    ghost use Rattle.fi_sync.specs.Waiting.{WouldWait};
     ghost use Rattle.futures_intrusive.specs.SharedStreams.{PollsSharedStream};
 
     type Output = Option<Result<T, Fault>>;
 
     ghost polls = { PollsSharedStream };
+
+    ghost would_wait = { WouldWait PollsSharedStream };
 
     ghost leaves = { λ old name waker answer. leftover_of_next answer (displaced_receive old.state name) waker };
 
