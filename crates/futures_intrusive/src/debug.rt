@@ -12,8 +12,10 @@ use std::sync::Wait;
 
 /// A kind of channel, by the names that `Debug` shows of its ends.
 pub trait EndNames {
+    /// The name of a sending end.
     fn sender() -> &'static str;
 
+    /// The name of a receiving end.
     fn receiver() -> &'static str;
 }
 
