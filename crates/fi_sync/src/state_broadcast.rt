@@ -65,7 +65,7 @@ impl<T: Clone, R> StateBroadcastChannel<T, R> {
 }
 
 impl<T: Clone, R: Wait> StateBroadcastChannel<T, R> {
-    /// Sends the next state and wakes all receives that wait, the oldest first. The state before it is let go after the lock is.
+    /// Sends the next state and wakes all receives that wait, the oldest first. The state before it is dropped with no lock held.
     ///
     /// Refused, with the value, on a closed channel and after `u64::MAX` states. Keeps `StateBroadcastChannel::send`.
     pub fn send(&self, value: T) -> Result<(), ChannelSendError<T>>

@@ -20,7 +20,8 @@ use std::time::Duration;
 /// How long `TimerService::run` sleeps at most before it looks at its event again, in milliseconds.
 const LONGEST_SLEEP: u64 = 10;
 
-/// A timer: its futures are ready once a check at or past their moment has told them. Threads share it by reference.
+/// A timer: a future of it is ready at its first poll if its moment has come by then, and else once a check has told it. Threads
+/// share it by reference.
 ///
 /// Only a check tells futures, so some thread has to `run` the timer, or to call `check_expirations` as time
 /// passes. Each call but `new` takes the lock, and wakes those who were told and not woken yet. Keeps

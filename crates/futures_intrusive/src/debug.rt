@@ -1,4 +1,4 @@
-//! `Debug` of the shared ends. As in futures-intrusive each shows a name alone, and takes no lock.
+//! `Debug` of the shared ends: each shows a name alone, and takes no lock.
 use crate::counted_ends::{ClosesByEnds, CountedEnds};
 use crate::ends::{End, Receivers, Senders};
 use crate::shared_stream::SharedStream;
