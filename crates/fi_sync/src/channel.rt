@@ -182,7 +182,7 @@ impl<T: Drop, B: RingBuf<Item = T>, R: Wait> GenericChannel<T, B, R> {
 
 impl<T: Drop, B: RingBuf<Item = T>, R: Blocking> GenericChannel<T, B, R> {
     /// Blocks this thread until the value is stored or taken. Else the value comes back: with `Closed`, or with `NoMemory` where
-    /// no executor can be made or the buffer could not grow; never with `Full`.
+    /// no future or no executor can be made, or the buffer could not grow; never with `Full`.
     pub fn send_blocking(&self, value: T) -> Result<(), TrySendError<T>>
         ensures never_full { IfErr result (λ refused. is_full refused ≡ false) }
     {
@@ -206,7 +206,7 @@ impl<T: Drop, B: RingBuf<Item = T>, R: Blocking> GenericChannel<T, B, R> {
     }
 
     /// Blocks this thread until a value comes, and receives it; None once the channel is closed and empty. Refused with
-    /// `NoMemory` where no executor can be made; then it took nothing.
+    /// `NoMemory` where no future or no executor can be made; then it took nothing.
     pub fn receive_blocking(&self) -> Result<Option<T>, Fault> {
         let receive = self.receive()?;
         wait_for(self.monitor.runtime(), receive)?

@@ -50,7 +50,7 @@ impl<'a, T: Drop, B: RingBuf<Item = T>, R: Wait> ChannelStream<'a, T, B, R> {
         }
     }
 
-    /// `Stream::poll_next`, with a contract that says what it answers.
+    /// Polls for the next value: `Stream::poll_next`, with a contract that says what it answers.
     pub fn poll_item(&mut self, cx: &mut Context<'_>) -> Poll<Option<Result<T, Fault>>>
         ensures registered { OnPending result (Covers cx.new (λ source. source ≡ self.new.source)) }
         ensures kept { Keeps cx.old cx.new }

@@ -84,7 +84,7 @@ impl<R: Wait> ManualResetEvent<R> {
 }
 
 impl<R: Blocking> ManualResetEvent<R> {
-    /// Blocks this thread until the event is set. Refused with `NoMemory` where no executor can be made.
+    /// Blocks this thread until the event is set. Refused with `NoMemory` where no future or no executor can be made.
     pub fn wait_blocking(&self) -> Result<(), Fault> {
         let wait = self.wait()?;
         wait_for(self.monitor.runtime(), wait)?

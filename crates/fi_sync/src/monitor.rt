@@ -88,9 +88,9 @@ impl<S: HasOutbox, R: Wait> Monitor<S, R> {
     }
 
     /// Polls the future that has this claim, as `call` makes a call. A spare waker is used up if the poll waits, or comes back as
-    /// unused. None if the poll has to wait and no waker can be made; then nothing has changed.
+    /// unused. None if the poll has to wait, has no spare one and no waker can be made; then nothing has changed.
     ///
-    /// A future that the poll ends is cancelled in the same hold of the lock. Another's claim comes back.
+    /// A future that the poll ends is cancelled in the same hold of the lock. The claim of one that goes on comes back.
     pub fn poll<K>(
         &self,
         claim: Claim<K>,
@@ -125,13 +125,16 @@ impl<S: HasOutbox, R: Wait> Monitor<S, R> {
 
 /// What reaches a primitive that threads share: a reference to it, or an `Arc`.
 pub trait HasMonitor: Drop {
+    /// What stands behind the primitive's lock.
     type State: HasOutbox;
 
+    /// What waits for the lock.
     type Runtime: Wait;
 
     /// The source that the state's futures register at.
     ghost source: { Self → ℕ };
 
+    /// The primitive's state behind its lock.
     fn monitor(&self) -> &Monitor<Self::State, Self::Runtime>
         ensures { result.now ≡ source self.now };
 }

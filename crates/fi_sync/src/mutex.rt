@@ -117,8 +117,8 @@ impl<T: Drop, R: Wait, L: Ledger> Mutex<T, R, L> {
 }
 
 impl<T: Drop, R: Blocking, L: Ledger> Mutex<T, R, L> {
-    /// Blocks this thread until the mutex is free for it, and locks it: its guard. Refused with `NoMemory` where no executor can
-    /// be made.
+    /// Blocks this thread until the mutex is free for it, and locks it: its guard. Refused with `NoMemory` where no future or no
+    /// executor can be made.
     pub fn lock_blocking(&self) -> Result<MutexGuard<'_, T, R, L>, Fault> {
         let lock = self.lock()?;
         wait_for(self.monitor.runtime(), lock)?

@@ -112,7 +112,7 @@ impl<T: Drop, G: GivesValue<T>, R: Wait> OneValueChannel<T, G, R> {
 
 impl<T: Drop, G: GivesValue<T>, R: Blocking> OneValueChannel<T, G, R> {
     /// Blocks this thread until the value comes, and receives it as `receive`: None if none will come. Refused with `NoMemory`
-    /// where no executor can be made, or there is no memory to clone the value into; then it took nothing.
+    /// where no future or no executor can be made, or there is no memory to clone the value into; then it took nothing.
     pub fn receive_blocking(&self) -> Result<Option<T>, Fault> {
         let receive = self.receive()?;
         wait_for(self.monitor.runtime(), receive)?

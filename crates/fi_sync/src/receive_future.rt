@@ -11,11 +11,11 @@ use crate::wakes::PollWaker;
 use fi_channels::{ChannelReceive, ChannelReceiveAccess};
 use fi_parts::{Fault, Slot};
 
-/// Receives one value from a channel, or None once it is closed and empty. Its drop gives back what it had not used: a receive
-/// that was told of a value passes that on.
+/// Receives one value from a channel, or None if none will come. Its drop unregisters it; if it was told of a value, the oldest
+/// receive that waits is told in its place.
 ///
-/// Its output is refused with `NoMemory` also where a clone of the value could not be allocated. Keeps `ChannelReceiveFuture` of
-/// futures-intrusive's `channel`.
+/// Its output is refused as every `SlotFuture`'s, and also where a clone of the value could not be allocated. Keeps
+/// `ChannelReceiveFuture` of futures-intrusive's `channel`.
 pub type ChannelReceiveFuture<'a, C, R> = SlotFuture<&'a Monitor<C, R>, ChannelReceive>;
 
 impl<C: ChannelReceiveAccess<Waker = PollWaker>> PollSlot<ChannelReceive> for C {

@@ -18,8 +18,9 @@ use std::sync::ledger::{Blank, Ledger};
 /// A semaphore: futures acquire permits, several at once, and releasers give them back. Threads share it by reference.
 ///
 /// A fair semaphore tells its futures in the order of their first polls; those told together are granted in the order in which
-/// they are polled again. An unfair one lets a caller that finds permits free pass those that wait. Each call but `new` takes the
-/// lock. Keeps `GenericSemaphore` of futures-intrusive's `sync`.
+/// they are polled again. An unfair one lets a caller that finds permits free pass those that wait; once futures of different
+/// needs were made, one whose need is free can be left without a notice. Each call but `new` takes the lock. Keeps
+/// `GenericSemaphore` of futures-intrusive's `sync`.
 ///
 /// # Examples
 ///
@@ -114,8 +115,8 @@ impl<R: Wait, L: Ledger> Semaphore<R, L> {
 }
 
 impl<R: Blocking, L: Ledger> Semaphore<R, L> {
-    /// Blocks this thread until this many permits are granted: their releaser. Refused with `NoMemory` where no executor can be
-    /// made.
+    /// Blocks this thread until this many permits are granted: their releaser. Refused with `NoMemory` where no future or no
+    /// executor can be made.
     pub fn acquire_blocking(&self, permits: usize) -> Result<SemaphoreReleaser<'_, R, L>, Fault> {
         let acquire = self.acquire(permits)?;
         wait_for(self.monitor.runtime(), acquire)?

@@ -140,8 +140,8 @@ impl<R: Wait + Drop, L: Ledger> SharedSemaphore<R, L> {
         self.monitor.call((), |semaphore, ()| semaphore.held())
     }
 
-    /// Blocks this thread until this many permits are granted: their releaser. Refused with `NoMemory` where no executor can be
-    /// made.
+    /// Blocks this thread until this many permits are granted: their releaser. Refused with `NoMemory` where no future or no
+    /// executor can be made.
     pub fn acquire_blocking(&self, permits: usize) -> Result<SharedSemaphoreReleaser<R, L>, Fault>
     where
         R: Blocking,

@@ -65,7 +65,7 @@ impl<T: Clone, R> StateBroadcastChannel<T, R> {
 }
 
 impl<T: Clone, R: Wait> StateBroadcastChannel<T, R> {
-    /// Sends the next state and wakes all receives that wait, the oldest first. The state before it is let go after the lock is.
+    /// Sends the next state and wakes all receives that wait, the oldest first. The state before it is dropped with no lock held.
     ///
     /// Refused, with the value, on a closed channel and after `u64::MAX` states. Keeps `StateBroadcastChannel::send`.
     pub fn send(&self, value: T) -> Result<(), ChannelSendError<T>>
@@ -114,8 +114,8 @@ impl<T: Clone, R: Wait> StateBroadcastChannel<T, R> {
 
 impl<T: Clone, R: Blocking> StateBroadcastChannel<T, R> {
     /// Blocks this thread until there is a state whose number is greater than `seen`, and receives the newest; None once the
-    /// channel is closed and has no such state. Refused with `NoMemory` where no executor can be made, or there is no memory to
-    /// clone the state into.
+    /// channel is closed and has no such state. Refused with `NoMemory` where no future or no executor can be made, or there is
+    /// no memory to clone the state into.
     pub fn receive_blocking(&self, seen: StateId) -> Result<Option<(StateId, T)>, Fault> {
         let receive = self.receive(seen)?;
         wait_for(self.monitor.runtime(), receive)?

@@ -20,7 +20,8 @@ use std::time::Duration;
 /// How long `TimerService::run` sleeps at most before it looks at its event again, in milliseconds.
 const LONGEST_SLEEP: u64 = 10;
 
-/// A timer: its futures are ready once a check at or past their moment has told them. Threads share it by reference.
+/// A timer: a future of it is ready at its first poll if its moment has come by then, and else once a check has told it. Threads
+/// share it by reference.
 ///
 /// Only a check tells futures, so some thread has to `run` the timer, or to call `check_expirations` as time
 /// passes. Each call but `new` takes the lock, and wakes those who were told and not woken yet. Keeps
@@ -42,8 +43,10 @@ pub struct TimerService<C, R> {
     monitor: Monitor<Timed<C>, R>,
 }
 
-/// Waits for a moment of a timer's clock. Its drop unregisters it. Ready at its first poll if the clock has reached the moment, else
-/// once a check has told it. Keeps `TimerFuture` of futures-intrusive's `timer`.
+/// Waits for a moment of a timer's clock. Its drop unregisters it, and tells nobody.
+///
+/// Its output is Ok at its first poll if the clock has reached the moment, else once a check has told it, and refused as every
+/// `SlotFuture`'s. Keeps `TimerFuture` of futures-intrusive's `timer`.
 pub type TimerFuture<'a, C, R> = SlotFuture<&'a Monitor<Timed<C>, R>, TimerWait>;
 
 impl<C, R> Model for TimerService<C, R> {
@@ -131,7 +134,7 @@ impl<C: Clock + Drop, R: Blocking> TimerService<C, R> {
     /// goes on: it may be waited for again, cancelled or dropped.
     ///
     /// The time is over when a check finds it so: another thread has to `run` the timer, or to call `check_expirations`. Refused
-    /// with `NoMemory` where no executor can be made; the future goes on then too.
+    /// with `NoMemory` where no delay or no executor can be made; the future goes on then too.
     pub fn wait_at_most<F: Future>(
         &self,
         limit: Duration,

@@ -76,8 +76,8 @@ impl<S: HasOutbox> Guarded<S> {
     /// Polls the future that has this claim, as `lend` makes a call. (The borrow checker doesn't cover a closure that does it.)
     ///
     /// A waker is made if the poll has to wait and there is no spare one, in the same hold of the lock, or before it if the spare
-    /// one is another task's. If none can be made, the answer is None and nothing has changed. If the poll ends the future, that
-    /// is cancelled too, in the same hold.
+    /// one is another task's. If the poll has to wait and there is none then, the answer is None and nothing has changed. If the
+    /// poll ends the future, that is cancelled too, in the same hold.
     pub fn poll<K, R: Wait>(
         &self,
         rt: &R,

@@ -81,7 +81,8 @@ pub trait ManyReceivers: ClosesByEnds {}
 /// A channel's state, and how many senders and receivers it has.
 ///
 /// In every value of this type a channel without senders is closed, and one without receivers is closed and has nothing buffered.
-/// Only a drop that makes a count 0 closes the channel. All calls take constant time but that one, which names all who wait.
+/// Of adds and drops only a drop that makes a count 0 closes the channel. They take constant time but that one, which names all
+/// who wait.
 #[derive(Drop)]
 pub struct CountedEnds<S: ClosesByEnds> {
     pub(crate) state: S,

@@ -1,4 +1,4 @@
-//! `Debug` of the shared ends. As in futures-intrusive each shows a name alone, and takes no lock.
+//! `Debug` of the shared ends: each shows a name alone, and takes no lock.
 use crate::counted_ends::{ClosesByEnds, CountedEnds};
 use crate::ends::{End, Receivers, Senders};
 use crate::shared_stream::SharedStream;
@@ -12,8 +12,10 @@ use std::sync::Wait;
 
 /// A kind of channel, by the names that `Debug` shows of its ends.
 pub trait EndNames {
+    /// The name of a sending end.
     fn sender() -> &'static str;
 
+    /// The name of a receiving end.
     fn receiver() -> &'static str;
 }
 

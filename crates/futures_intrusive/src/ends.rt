@@ -109,8 +109,8 @@ impl<K> Membership<K> {
 
 /// One end of a channel, on the side `K`. It owns a share of the channel, and is counted there.
 ///
-/// The drop of the last end of a side closes the channel and wakes all who wait. A future that an end made keeps the channel
-/// alive, but is not counted.
+/// The drop of the last end of a side closes the channel and wakes all who wait; the last receiver's also drops the values that a
+/// channel of many has buffered. A future that an end made keeps the channel alive, but is not counted.
 pub struct End<S: ClosesByEnds + Drop, R: Wait + Drop, K: Side<S>> {
     channel: SharedChannel<S, R>,
     membership: Membership<K>,

@@ -20,7 +20,7 @@ pub type OneValueSender<T, G, R> = End<OneValueState<T, PollWaker, G>, R, Sender
 /// The receiving end of such a channel.
 pub type OneValueReceiver<T, G, R> = End<OneValueState<T, PollWaker, G>, R, Receivers>;
 
-/// Keeps `OneshotSender` of futures-intrusive's `channel::shared`.
+/// The sending end of a channel whose value goes to one receive. Keeps `OneshotSender` of futures-intrusive's `channel::shared`.
 ///
 /// # Examples
 ///
@@ -32,7 +32,7 @@ pub type OneValueReceiver<T, G, R> = End<OneValueState<T, PollWaker, G>, R, Rece
 /// ```
 pub type OneshotSender<T, R> = OneValueSender<T, TakesValue, R>;
 
-/// Keeps `OneshotReceiver`.
+/// The receiving end of a channel whose value goes to one receive. Keeps `OneshotReceiver`.
 ///
 /// # Examples
 ///
@@ -45,7 +45,7 @@ pub type OneshotSender<T, R> = OneValueSender<T, TakesValue, R>;
 /// ```
 pub type OneshotReceiver<T, R> = OneValueReceiver<T, TakesValue, R>;
 
-/// Keeps `OneshotBroadcastSender`.
+/// The sending end of a channel of whose value each receive gets a clone. Keeps `OneshotBroadcastSender`.
 ///
 /// # Examples
 ///
@@ -57,8 +57,8 @@ pub type OneshotReceiver<T, R> = OneValueReceiver<T, TakesValue, R>;
 /// ```
 pub type OneshotBroadcastSender<T, R> = OneValueSender<T, ClonesValue, R>;
 
-/// Keeps `OneshotBroadcastReceiver`, which can be cloned. The channel closes where the last of them is dropped; in
-/// futures-intrusive where any is.
+/// The receiving end of a channel of whose value each receive gets a clone; it can be cloned. The channel closes once the last of
+/// them is dropped; in futures-intrusive once any is. Keeps `OneshotBroadcastReceiver`.
 ///
 /// # Examples
 ///
