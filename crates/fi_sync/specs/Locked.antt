@@ -4,7 +4,7 @@ use Rattle.futures.specs.declared.task.Poll.{Poll}
 use Rattle.futures.specs.declared.task.waker.Waker.{Waker}
 use Rattle.fi_locks.specs.Mutex.{can_be_polled, Polls}
 use Rattle.fi_parts.specs.declared.errors.Fault.{Fault}
-use Rattle.fi_sync.specs.Waiting.{PollsAt, WouldWait, IsAnswer}
+use Rattle.fi_sync.specs.Waiting.{PollsAt, IsUntimedAnswer}
 
 -- how many holds of a mutex there are, that is free or not
 abbrev pub holds_if : Bool → ℕ
@@ -15,5 +15,5 @@ holds_if false = 1
 -- lock, where it was polled under the future's own name, or that it has no memory where it had to wait and no waker could be made.
 abbrev pub IsLockAnswer : {T : Type 0} → Option ℕ → Bool → Bool → Poll (Result T Fault) → Type 0
 IsLockAnswer {T} own has_ended lacks_waker answer =
-    IsAnswer (PollsAt can_be_polled (Polls {T = T} {W = Option Waker}))
-    (WouldWait (PollsAt can_be_polled (Polls {T = T} {W = Option Waker}))) (Err Fault.NoMemory) own has_ended lacks_waker answer
+    IsUntimedAnswer (PollsAt can_be_polled (Polls {T = T} {W = Option Waker})) (Err Fault.NoMemory)
+    own has_ended lacks_waker answer

@@ -6,7 +6,7 @@ use Rattle.fi_channels.specs.Channel.{ChannelMachine, can_stream, kind_of, recei
 use Rattle.fi_channels.specs.Polled.{unused_after}
 use Rattle.fi_parts.specs.declared.errors.Fault.{Fault}
 use Rattle.fi_parts.specs.declared.phase.Leftover.{Leftover}
-use Rattle.fi_sync.specs.Waiting.{PollsWhere, WouldWait, IsAnswer}
+use Rattle.fi_sync.specs.Waiting.{PollsWhere, IsUntimedAnswer}
 
 -- A poll that is not refused is one of these; a channel refuses none.
 abbrev pub Streamed : {T S : Type 0} → (Poll (Option T) → S → Type 0) → Poll (Option (Result T Fault)) → S → Type 0
@@ -36,4 +36,4 @@ abbrev pub IsStreamAnswer : {S T W : Type 0} → (S → ℕ → Option W → Pol
     → Option ℕ → Bool → Bool → Poll (Option (Result T Fault)) → Type 0
 IsStreamAnswer polls own true lacks_waker answer = answer ≡ Ready None
 IsStreamAnswer polls own false lacks_waker answer =
-    IsAnswer polls (WouldWait polls) (Some (Err Fault.NoMemory)) own false lacks_waker answer
+    IsUntimedAnswer polls (Some (Err Fault.NoMemory)) own false lacks_waker answer

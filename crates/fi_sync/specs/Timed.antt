@@ -13,10 +13,10 @@ abbrev pub PollsTimed : {S W : Type 0} → (S → TimerMachine W) → TimerMachi
 PollsTimed timer_of old name waker answer new =
     (now : ℕ) × Answered (λ polled timed. Polls old name now waker polled (timer_of timed)) (λ fault timed. ⊥) answer new
 
--- A poll would have to wait at some moment. That this is the clock's is not said.
+-- A poll under this name would have to wait at some moment. That this is the clock's is not said.
 abbrev pub WaitsTimed : {W : Type 0} → TimerMachine W → ℕ → Type 0
 WaitsTimed timer name =
-    (now : ℕ) × WouldWait (PollsAt can_be_polled (λ old name waker answer new. Polls old name now waker answer new)) timer name
+    (now : ℕ) × WouldWait (PollsAt can_be_polled (λ old name. Polls old name now)) timer name
 
 -- A future is made for the moment so many nanoseconds after some moment. That this moment is the clock's is not said.
 abbrev pub DelaysTimed : {W : Type 0} → TimerMachine W → ℕ → ℕ → TimerMachine W → Type 0

@@ -42,9 +42,11 @@ abbrev pub PollsWhere : {S A : Type 0} → Bool → (Poll A → S → Type 0) �
 PollsWhere true polls refusal old answer new = polls answer new
 PollsWhere false polls refusal old answer new = (answer ≡ Ready refusal) × (new ≡ old)
 
--- The same of a state whose futures can be polled where the first says so, and are polled as the second says.
-abbrev pub PollsOr : {S W A : Type 0} → (S → ℕ → Bool) → (S → ℕ → W → Poll A → S → Type 0) → A → S → ℕ → W → Poll A → S → Type 0
-PollsOr can polls refusal old name waker answer new = PollsWhere (can old name) (polls old name waker) refusal old answer new
+-- A poll under a slot of a state: as the second relation says where the first predicate holds of the slot; else it is refused.
+abbrev pub PollsOrRefuses : {S W A : Type 0} → (S → ℕ → Bool) → (S → ℕ → W → Poll A → S → Type 0) → A
+    → S → ℕ → W → Poll A → S → Type 0
+PollsOrRefuses can_be_polled polls refusal old name waker answer new =
+    PollsWhere (can_be_polled old name) (polls old name waker) refusal old answer new
 
 -- the wakers of no more use: the one that the future had, and the poll's own; a refused poll leaves the future's
 abbrev pub leftover_after : {A W : Type 0} → Poll (Result A Fault) → Option W → W → Leftover W
@@ -94,12 +96,18 @@ HadToWaitBy waits own = (name : ℕ) × (own ≡ Some name) × HadToWait waits n
 
 -- A future that has ended stays pending. Another answers as its state did in some hold of the lock, where it was polled under the
 -- future's own name, or that it has no memory where it had to wait then and no waker could be made.
-abbrev pub IsAnswer : {S W A : Type 0} → (S → ℕ → Option W → Poll A → S → Type 0) → (S → ℕ → Type 0) → A → Option ℕ → Bool → Bool
-    → Poll A → Type 0
+abbrev pub IsAnswer : {S W A : Type 0} → (S → ℕ → Option W → Poll A → S → Type 0) → (S → ℕ → Type 0) → A
+    → Option ℕ → Bool → Bool → Poll A → Type 0
 IsAnswer polls waits no_memory own true lacks_waker answer = answer ≡ Pending
 IsAnswer {S} {W} polls waits no_memory own false lacks_waker answer =
     ((lacks_waker ≡ true) × (answer ≡ Ready no_memory) × HadToWaitBy waits own)
     ⊎ ((old : S) × (name : ℕ) × (new : S) × (own ≡ Some name) × IsPolled polls name answer old new)
+
+-- The same of a state whose polls ask for no time, so that its machine's polls say where they have to wait.
+abbrev pub IsUntimedAnswer : {S W A : Type 0} → (S → ℕ → Option W → Poll A → S → Type 0) → A
+    → Option ℕ → Bool → Bool → Poll A → Type 0
+IsUntimedAnswer polls no_memory own has_ended lacks_waker answer =
+    IsAnswer polls (WouldWait polls) no_memory own has_ended lacks_waker answer
 
 -- whether a poll under a slot was answered, and the answer ends its future
 abbrev pub is_over : {A B : Type 0} → (A → Bool) → Option (Poll A × B) → Bool

@@ -2,7 +2,7 @@
 ghost use Rattle.std.specs.Prelude.{Err};
 ghost use Rattle.fi_parts.specs.Polled.{LeavesWhere};
 ghost use Rattle.fi_parts.specs.declared.errors.Fault.{Fault};
-ghost use Rattle.fi_sync.specs.Waiting.{PollsOr, WouldWait, leftover_after};
+ghost use Rattle.fi_sync.specs.Waiting.{PollsOrRefuses, WouldWait, leftover_after};
 
 use crate::claim::Cancel;
 use crate::monitor::Monitor;
@@ -21,9 +21,9 @@ pub type ChannelReceiveFuture<'a, C, R> = SlotFuture<&'a Monitor<C, R>, ChannelR
 impl<C: ChannelReceiveAccess<Waker = PollWaker>> PollSlot<ChannelReceive> for C {
     type Output = Result<Option<C::Item>, Fault>;
 
-    ghost polls = { PollsOr C.is_pollable C.receives (Err Fault.NoSlot) };
+    ghost polls = { PollsOrRefuses C.is_pollable C.receives (Err Fault.NoSlot) };
 
-    ghost would_wait = { WouldWait (PollsOr C.is_pollable C.receives (Err Fault.NoSlot)) };
+    ghost would_wait = { WouldWait (PollsOrRefuses C.is_pollable C.receives (Err Fault.NoSlot)) };
 
     ghost leaves = { λ old name waker answer. leftover_after answer (C.waker_of old name) waker };
 

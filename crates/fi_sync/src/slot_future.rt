@@ -170,8 +170,8 @@ where
         ensures kept { Keeps cx.old cx.new }
         ensures stands { self.new ≡ polled M.State.Output.is_last self.old result }
         ensures spent { self.old.has_ended ≡ true → result ≡ Poll.Pending }
-        ensures answered { IsAnswer M.State.polls M.State.would_wait (M.State.Output.refusal Fault.NoMemory) self.old.name self.old.has_ended
-            cx.new.lacks_waker result }
+        ensures answered { IsAnswer M.State.polls M.State.would_wait (M.State.Output.refusal Fault.NoMemory)
+            self.old.name self.old.has_ended cx.new.lacks_waker result }
         ensures cancelled { IsEndedBy M.State.polls M.State.cancels (ends M.State.Output.is_last result) self.old.name result }
     {
         let monitor = self.monitor.monitor();

@@ -2,7 +2,7 @@ use Rattle.std.proofs.Common.{rules, ◌≡◌, true, false, subst, is_none, Opt
 use Rattle.futures.specs.declared.task.waker.Waker.{Waker}
 use Rattle.fi_parts.specs.declared.errors.Fault.{Fault}
 use Rattle.fi_sync.specs.Streams.{PollsStream}
-use Rattle.fi_sync.specs.Waiting.{SharedFuture, WouldWait, IsAnswer}
+use Rattle.fi_sync.specs.Waiting.{SharedFuture, IsUntimedAnswer}
 use Rattle.fi_sync.proofs.Answered.{streamed_by, spent_by}
 use Rattle.fi_sync.proofs.channel_stream.ChannelStream.poll_item.Goals as goal
 
@@ -18,6 +18,5 @@ returns-clause-answered g c =
     let lives : c.args.self.now.has_ended ≡ false = search rules in
     streamed_by (PollsStream {T = g.row.T.Denot} {W = Option Waker}) c.args.self.now.name c.args.self.now.has_ended
     c.poll.new.cx.lacks_waker c.poll.result lives
-    (subst (λ future. IsAnswer (PollsStream {T = g.row.T.Denot} {W = Option Waker})
-    (WouldWait (PollsStream {T = g.row.T.Denot} {W = Option Waker})) (Some (Err Fault.NoMemory)) (SharedFuture.name future)
-    (SharedFuture.has_ended future) c.poll.new.cx.lacks_waker c.poll.result) own c.poll.ensures.answered)
+    (subst (λ future. IsUntimedAnswer (PollsStream {T = g.row.T.Denot} {W = Option Waker}) (Some (Err Fault.NoMemory))
+    (SharedFuture.name future) (SharedFuture.has_ended future) c.poll.new.cx.lacks_waker c.poll.result) own c.poll.ensures.answered)
