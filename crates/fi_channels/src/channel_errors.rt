@@ -6,7 +6,7 @@ use std::error::Error;
 use std::fmt;
 use std::io::{self, ErrorKind};
 
-/// Why a send ended without its value, or got no further.
+/// Why a send failed: the channel is closed, or a poll was refused.
 ///
 /// # Examples
 ///
@@ -22,7 +22,8 @@ use std::io::{self, ErrorKind};
 pub enum SendFault<T> {
     /// The channel is closed; the value is handed back.
     Closed(T),
-    /// The poll was refused and the send still owns its value: `NoMemory` if the buffer could not grow.
+    /// The poll was refused and the send still owns its value: `NoMemory` if the buffer could not grow, or a send that threads
+    /// share had to wait and no waker could be made.
     Fault(Fault),
 }
 
@@ -81,7 +82,7 @@ pub enum TrySendError<T> {
     Full(T),
     /// The channel is closed.
     Closed(T),
-    /// The buffer could not grow.
+    /// There was no memory: the buffer could not grow, or a call that blocks could make no future or no executor.
     NoMemory(T),
 }
 
@@ -98,7 +99,7 @@ impl<T> fmt::Display for TrySendError<T> {
 impl<T: fmt::Debug + Drop> Error for TrySendError<T> {}
 
 /// So that `?` serves where an `io::Error` is answered: `WouldBlock` where the channel is full, `BrokenPipe` where it is closed,
-/// `OutOfMemory` where its buffer could not grow. The value is dropped.
+/// `OutOfMemory` where there was no memory. The value is dropped.
 impl<T: Drop> From<TrySendError<T>> for io::Error {
     fn from(refused: TrySendError<T>) -> io::Error {
         io::Error::from(match refused {
@@ -160,7 +161,7 @@ impl<T: Drop> TrySendError<T> {
         }
     }
 
-    /// Returns whether the buffer could not grow.
+    /// Returns whether there was no memory.
     pub fn is_memory(&self) -> bool
         ensures { result ≡ is_memory self.now }
     {

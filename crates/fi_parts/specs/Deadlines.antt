@@ -17,7 +17,7 @@ module _ {W : Type 0} where
   abbrev pub expiry_of : Waiters ℕ W → ℕ → ℕ
   expiry_of side name = unwrap_or (asks_of side name) 0
 
-  -- this name is registered, so in the map of those that wait to their expiries
+  -- this name is registered: it waits for its expiry
   abbrev pub is_entered : Waiters ℕ W → ℕ → Bool
   is_entered side name = is_registered (phase_of side name)
 

@@ -87,7 +87,7 @@ module _ {D W : Type 0} where
     pub once : Apart names
 
   -- The effect may happen to these waiters, and `Now` holds of the waiters and of the change of the pairs that it leads to. A poll or a
-  -- cancel takes out the future's pair. The popping of a pair, and one effect after the other, are told in TakesEffect.
+  -- cancel takes out the future's pair. The popping of a pair, and one effect after the other, stand in TakesEffect.
   abbrev pub LeadsTo : WaiterEffect D W → Waiters D W → (Waiters D W → PairsChange W → Type 0) → Type 0
   LeadsTo NoChange side Now = Now side Keep
   LeadsTo (Inserts name asks) side Now = (phase_of side name ≡ None) × Now (insert_fresh side name asks) Keep

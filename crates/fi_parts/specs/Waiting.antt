@@ -9,7 +9,7 @@ use Rattle.fi_parts.specs.declared.phase.Phase.{Phase}
 use Rattle.fi_parts.specs.declared.phase.Phase.TheVariants.{Fresh, Registered, Told, Ended}
 use Rattle.fi_parts.specs.declared.phase.Future.{Future}
 
--- The live futures of one store by name, and the names of those that wait, oldest first.
+-- The live futures of one store by name, and the queue: the names of those with a place in it, oldest first.
 pub record Waiters (D W : Type 0) : Type 0 where
   pub live : map.FinMap nat_cmp (Future D W)
   pub queue : List ℕ

@@ -22,7 +22,8 @@ use std::{io, time};
 /// }
 /// ```
 pub trait Clock {
-    /// The time in milliseconds since a moment of the clock's own.
+    /// The time in milliseconds since a moment of the clock's own. A timer that threads share calls it with its lock held, so it
+    /// must not call that timer.
     fn now(&self) -> u64;
 }
 

@@ -6,8 +6,9 @@ ghost use Rattle.futures.specs.declared.task.Poll.{Poll};
 use crate::errors::Slot;
 use futures::task::Poll;
 
-/// A kind of future, by the name that `Debug` shows.
+/// A kind of future.
 pub trait FutureKind {
+    /// The name that `Debug` shows.
     fn name() -> &'static str;
 }
 
@@ -16,9 +17,10 @@ pub trait FutureKind {
 /// No call asks its caller for anything: a poll changes nothing where no future lives under the slot that has not ended, a cancel
 /// where none lives there.
 pub trait FuturesOf<S>: FutureKind {
+    /// Who is to be woken.
     type Waker: Drop;
 
-    /// What a poll is told beside its waker: the time, of a timer's future, and else nothing.
+    /// What a poll is given beside its waker: the time, of a timer's future, and else nothing.
     type Moment;
 
     /// What a poll gives that is ready.

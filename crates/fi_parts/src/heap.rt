@@ -13,8 +13,9 @@ use std::marker::Model;
 
 /// A priority queue of slots, the least value first.
 ///
-/// Each live slot holds a value. A live slot is in the heap from `insert` until `remove`, and equal
-/// values may be in it at once. Only `claim` takes memory.
+/// Each live slot holds a value. A live slot is in the heap from `insert` until `remove`, and equal values may be in it at once.
+/// Only `claim` takes memory. All other calls take constant time but `remove`, which takes a step for each child of the slot's
+/// node.
 ///
 /// Keeps `PairingHeap` of futures-intrusive, with slots in place of pinned nodes.
 ///

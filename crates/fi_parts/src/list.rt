@@ -57,6 +57,7 @@ impl<T> LinkedList<T> {
     }
 
     /// Returns `true` if no slot is in the list. The slots in the list are live, none is there twice, and there are fewer than 2^64.
+    /// Keeps `LinkedList::is_empty`.
     pub fn is_empty(&self) -> bool
         ensures empty { result ≡ (length self.now.order == 0) }
         ensures listed { IsListed self.now }
@@ -245,7 +246,7 @@ impl<T> LinkedList<T> {
         self.blocks.last_item()
     }
 
-    /// The youngest slot's value, for writing; None for an empty list.
+    /// The youngest slot's value, for writing; None for an empty list. Keeps `LinkedList::peek_first_mut`.
     pub fn peek_first_mut(&mut self) -> Option<&mut T>
         ensures* writes_back { sem 𝓛 (LendsEnd T.row self.entry (youngest self.old.order) result) }
         ensures value { option_copied_mut result ≡ item_of self.old (youngest self.old.order) }

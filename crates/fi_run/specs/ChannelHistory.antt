@@ -67,7 +67,7 @@ module _ {T W : Type 0} where
   last_next first name [] = next_at_first (kind_of first name) (receive_phase first name)
   last_next first name (entry ∷ history) = next_step name entry.0 entry.1 (last_next first name history)
 
-  -- a poll of a stream that gave its end gives it again, whatever it is told
+  -- a poll of a stream that gave its end gives it again
   abbrev pub EndsAgain : LastNext → Answer T W → Type 0
   EndsAgain GaveEnd answer = answer ≡ End
   EndsAgain last answer = ⊤

@@ -22,7 +22,8 @@ module _ {T : Type 0} where
   IsCopyOf is_clone None copy = ⊥
   IsCopyOf is_clone (Some value) copy = is_clone value copy
 
--- An open channel had no new close; one that was open at first and is closed had one.
+-- An open channel had no new close; one that was open at first and is closed had one. One that was closed at first is closed, and had
+-- none.
 abbrev pub OpenFits : Bool → Bool → ℕ → Type 0
 OpenFits true true closes = closes ≡ 0
 OpenFits true false closes = closes ≡ 1

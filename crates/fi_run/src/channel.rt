@@ -22,8 +22,8 @@ use std::alloc::Global;
 /// A call on a channel.
 ///
 /// Sends have their own slots; receives and streams share theirs, and each is polled by its own call. Making one may answer
-/// `Refused(NoMemory)`, of a send `Back(value, NoMemory)`. A poll or a cancel where none lives, or a poll of one that has ended,
-/// answers `Refused(NoSlot)`.
+/// `Refused(NoMemory)`, of a send `Back(value, NoMemory)`. A poll or a cancel where none of the kind lives, or a poll of a send
+/// or a receive that has ended, answers `Refused(NoSlot)`.
 ///
 /// # Examples
 ///
@@ -53,7 +53,7 @@ pub enum ChannelCall<T, W> {
     PollReceive(Slot, W),
     /// Polls a stream. Answers `Pending`, `Item`; `End` once the channel is closed and empty, and ever after.
     PollNext(Slot, W),
-    /// Cancels a send. Answers `Item`: the value, which was not accepted or not taken yet; else `Nothing`.
+    /// Cancels a send. Answers `Item` with the value if the send still had it: it was not polled, or waits; else `Nothing`.
     CancelSend(Slot),
     /// Cancels a receive or a stream. Answers `Done`.
     CancelReceive(Slot),

@@ -431,8 +431,9 @@ where
 
     /// Compares the history with the receipts of all seats that were made, and gives out the opening, the history and the state.
     ///
-    /// Refused with `Seats` where fewer seats were given than were made, and with `Entry` where an entry and the receipts of its seat do
-    /// not fit. It takes time linear in the history and, but for sorting them, in the seats, and no memory.
+    /// Refused with `Seats` where fewer seats were given than were made or their numbers are not those from 0 on, and with
+    /// `Entry` where an entry and the receipts of its seat do not fit. It takes time linear in the history and, but for sorting
+    /// them, in the seats, and no memory.
     pub fn settle(self, seats: Vec<Seat<P, L>>) -> Result<Settled<P>, Mismatch>
     where
         P: Drop,

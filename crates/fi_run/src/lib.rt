@@ -23,11 +23,7 @@ mod runs;
 mod script;
 mod semaphore;
 mod state;
-#[cfg(test)]
-mod tests;
 mod timer;
-#[cfg(test)]
-mod uses;
 
 pub use answer::Answer;
 pub use channel::{ChannelCall, every_run_of_a_channel};

@@ -187,7 +187,8 @@ fn disarm<W: Drop>(semaphore: &mut SemaphoreState<W>, permits: usize) -> Answer<
 /// those that wait, in the order of first polls, and whoever was not told is granted permits only if nobody waits; a pending future's
 /// last waker is registered, stands in the outbox, or was handed out since; and no wake is owed.
 ///
-/// A future that needs no permits never waits, and no permits at all are always granted.
+/// A future that needs no permits never waits, and no permits at all are always granted. Of an unfair semaphore of which futures
+/// needed different numbers "no wake is owed" claims nothing.
 pub fn every_run_of_a_semaphore<W: Drop>()
     ensures opened { (permits : ℕ) (is_fair : Bool) (first : SemaphoreMachine W) → Opens (permits, is_fair) first
         → IsSound first × OwesNoWake first }

@@ -31,8 +31,6 @@ mod shared_semaphore;
 mod slot_future;
 mod state_broadcast;
 mod tally;
-#[cfg(test)]
-mod tests;
 mod timed;
 mod timer;
 mod wakes;

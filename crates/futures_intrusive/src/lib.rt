@@ -27,8 +27,6 @@ pub mod run;
 mod shared_stream;
 mod state_ends;
 pub mod sync;
-#[cfg(test)]
-mod tests;
 pub mod timer;
 
 pub use fi_parts::{Fault, Leftover, NoRoom, Slot};

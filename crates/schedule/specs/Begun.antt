@@ -9,7 +9,7 @@ use Rattle.schedule.specs.declared.fault.ScriptFault.TheVariants.{Read, Write, B
 abbrev pub Begins : Option (List ℕ) → Option (List ℕ) → List ℕ → Type 0
 Begins old new text = (front : List ℕ) × (rest : List ℕ) × (text ≡ front ++ rest) × Appends old new front
 
--- the line that tells a fault
+-- the line that reports a fault
 abbrev pub fault_line : ScriptFault → List ℕ
 fault_line Read = codes "schedule: read failed\n"
 fault_line Write = codes "schedule: write failed\n"

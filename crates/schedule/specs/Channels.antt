@@ -18,7 +18,7 @@ capacity_of Array5 = 5
 capacity_of (Fixed capacity) = capacity
 capacity_of (Growing capacity) = capacity
 
--- A channel is opened with all places of its buffer.
+-- A channel is opened empty, with its buffer's capacity.
 abbrev pub OpensOver : Buffer → ChannelMachine ℕ ℕ → Type 0
 OpensOver buffer state = Opens (λ capacity. capacity) (capacity_of buffer) state
 

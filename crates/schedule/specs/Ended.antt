@@ -5,7 +5,7 @@ use Rattle.schedule.specs.Script.{IfFault}
 use Rattle.schedule.specs.Statuses.{status_of}
 use Rattle.schedule.specs.declared.fault.ScriptFault.{ScriptFault}
 
--- All lines were answered and nothing is told, or a fault ended the run and was told.
+-- All lines were answered and nothing is reported, or a fault ended the run and was reported.
 abbrev pub EndsScript : ℕ → Type 0 → Type 0 → (ℕ → Type 0) → Type 0 → Option (List ℕ) → Option (List ℕ) → Type 0
 EndsScript status untouched answered refused short before after = ((status ≡ 0) × answered × (after ≡ before))
     ⊎ ((fault : ScriptFault) × (status ≡ status_of fault) × IfFault untouched refused short fault

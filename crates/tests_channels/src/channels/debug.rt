@@ -1,0 +1,163 @@
+//! The texts of `Debug`, which are those of the Rust crate, and of `Display`.
+use fi_channels::{
+    ClonesValue, EventState, LocalChannel, LocalOneshotBroadcastChannel, LocalOneshotChannel,
+    LocalStateBroadcastChannel, SendFault, TakesValue, TryReceiveError, TrySendError,
+};
+use fi_parts::{ChannelSendError, Fault, NoRoom};
+use std::alloc::AllocError;
+use std::io::{self, ErrorKind};
+use tests_help::texts::{reads, shows};
+
+#[test]
+fn an_event_shows_its_name(rt: HostRuntime) {
+    let event: EventState<u64> = EventState::new(rt.alloc(), false);
+    assert!(rt; shows(rt.alloc(), &event, "ManualResetEvent"));
+}
+
+#[test]
+fn a_oneshot_shows_its_name(rt: HostRuntime) {
+    let channel: LocalOneshotChannel<u32, u64> = LocalOneshotChannel::new(rt.alloc());
+    assert!(rt; shows(rt.alloc(), &channel, "GenericOneshotChannel"));
+}
+
+#[test]
+fn a_oneshot_broadcast_shows_its_name(rt: HostRuntime) {
+    let channel: LocalOneshotBroadcastChannel<u32, u64> = LocalOneshotBroadcastChannel::new(
+        rt.alloc(),
+    );
+    assert!(rt; shows(rt.alloc(), &channel, "GenericOneshotBroadcastChannel"));
+}
+
+#[test]
+fn a_state_broadcast_shows_its_name(rt: HostRuntime) {
+    let channel: LocalStateBroadcastChannel<u32, u64> = LocalStateBroadcastChannel::new(rt.alloc());
+    assert!(rt; shows(rt.alloc(), &channel, "GenericStateBroadcastChannel"));
+}
+
+#[test]
+fn a_channel_shows_its_name(rt: HostRuntime) {
+    let channel: LocalChannel<u32, 2, u64> = LocalChannel::new(rt.alloc());
+    assert!(rt; shows(rt.alloc(), &channel, "Channel"));
+}
+
+#[test]
+fn ways_of_giving_show_their_names(rt: HostRuntime) {
+    assert!(rt; shows(rt.alloc(), &TakesValue, "TakesValue"));
+    assert!(rt; shows(rt.alloc(), &ClonesValue, "ClonesValue"));
+}
+
+#[test]
+fn a_wait_shows_its_name(rt: HostRuntime) {
+    let mut event: EventState<u64> = EventState::new(rt.alloc(), false);
+    let wait = event.wait().expect(&rt, "room");
+    let shown = shows(rt.alloc(), &wait, "GenericWaitForEventFuture");
+    wait.cancel(&mut event);
+    assert!(rt; shown);
+}
+
+#[test]
+fn a_receive_shows_its_name(rt: HostRuntime) {
+    let mut channel: LocalOneshotChannel<u32, u64> = LocalOneshotChannel::new(rt.alloc());
+    let receive = channel.receive().expect(&rt, "room");
+    let shown = shows(rt.alloc(), &receive, "ChannelReceiveFuture");
+    receive.cancel(&mut channel);
+    assert!(rt; shown);
+}
+
+#[test]
+fn a_send_shows_its_name(rt: HostRuntime) {
+    let mut channel: LocalChannel<u32, 2, u64> = LocalChannel::new(rt.alloc());
+    let send = channel.send(5).expect(&rt, "room");
+    let shown = shows(rt.alloc(), &send, "ChannelSendFuture");
+    let unsent = send.cancel(&mut channel);
+    assert!(rt; shown);
+    assert_eq!(rt; unsent, Some(5));
+}
+
+#[test]
+fn a_stream_shows_its_name(rt: HostRuntime) {
+    let mut channel: LocalChannel<u32, 2, u64> = LocalChannel::new(rt.alloc());
+    let stream = channel.stream().expect(&rt, "room");
+    let shown = shows(rt.alloc(), &stream, "ChannelStream");
+    stream.cancel(&mut channel);
+    assert!(rt; shown);
+}
+
+#[test]
+fn refusals_say_what_is_wrong(rt: HostRuntime) {
+    assert!(rt; reads(rt.alloc(), &SendFault::Closed(3), "the channel is closed"));
+    assert!(rt;
+        reads(
+            rt.alloc(),
+            &SendFault::<u8>::Fault(Fault::NoMemory),
+            "out of memory"
+        )
+    );
+    assert!(rt; reads(rt.alloc(), &TrySendError::Full(3), "the channel is full"));
+    assert!(rt; reads(rt.alloc(), &TrySendError::NoMemory(3), "out of memory"));
+    assert!(rt;
+        reads(
+            rt.alloc(),
+            &TrySendError::Closed(3),
+            "the channel is closed"
+        )
+    );
+    assert!(rt; reads(rt.alloc(), &TryReceiveError::Empty, "the channel is empty"));
+    assert!(rt;
+        reads(
+            rt.alloc(),
+            &TryReceiveError::Closed,
+            "the channel is closed and empty"
+        )
+    );
+}
+
+// Answers the refusal as an `io::Error`, by `?`.
+fn sends(refused: TrySendError<u8>) -> io::Result<()> {
+    Err(refused)?;
+    Ok(())
+}
+
+#[test]
+fn refusals_become_io_errors(rt: HostRuntime) {
+    let kind = |refused| sends(refused).err().map(|error| error.kind());
+    assert_eq!(rt; kind(TrySendError::Full(3)), Some(ErrorKind::WouldBlock));
+    assert_eq!(rt; kind(TrySendError::Closed(3)), Some(ErrorKind::BrokenPipe));
+    assert_eq!(rt;
+        kind(TrySendError::NoMemory(3)),
+        Some(ErrorKind::OutOfMemory)
+    );
+    let closed = io::Error::from(SendFault::Closed(3));
+    let no_memory = io::Error::from(SendFault::<u8>::Fault(Fault::NoMemory));
+    assert_eq!(rt; closed.kind(), ErrorKind::BrokenPipe);
+    assert_eq!(rt; no_memory.kind(), ErrorKind::OutOfMemory);
+    assert_eq!(rt; io::Error::from(NoRoom(3)).kind(), ErrorKind::OutOfMemory);
+    assert_eq!(rt;
+        io::Error::from(ChannelSendError(3)).kind(),
+        ErrorKind::BrokenPipe
+    );
+    assert_eq!(rt;
+        io::Error::from(TryReceiveError::Empty).kind(),
+        ErrorKind::WouldBlock
+    );
+    assert_eq!(rt;
+        io::Error::from(TryReceiveError::Closed).kind(),
+        ErrorKind::BrokenPipe
+    );
+}
+
+// Answers the refusal as a `Fault`, by `?`.
+fn fault_of(refused: TrySendError<u8>) -> Result<(), Fault> {
+    Err(refused)?;
+    Ok(())
+}
+
+#[test]
+fn refusals_become_faults(rt: HostRuntime) {
+    assert_eq!(rt; fault_of(TrySendError::Full(3)), Err(Fault::Full));
+    assert_eq!(rt; Fault::from(NoRoom(3)), Fault::NoMemory);
+    assert_eq!(rt; Fault::from(AllocError), Fault::NoMemory);
+    assert_eq!(rt; Fault::from(SendFault::Closed(3)), Fault::Closed);
+    assert_eq!(rt; Fault::from(ChannelSendError(3)), Fault::Closed);
+    assert_eq!(rt; Fault::from(TryReceiveError::Empty), Fault::Empty);
+}

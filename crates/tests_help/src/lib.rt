@@ -1,0 +1,4 @@
+//! What tests of several crates share.
+#![tactic(auto)]
+
+pub mod texts;

@@ -1,0 +1,5 @@
+//! Tests of the parts that the primitives stand on.
+#![tactic(auto)]
+
+#[cfg(test)]
+mod parts;

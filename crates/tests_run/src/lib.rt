@@ -1,0 +1,7 @@
+//! Tests of the runs, journals and desks.
+#![tactic(auto)]
+
+#[cfg(test)]
+mod tests;
+#[cfg(test)]
+mod uses;

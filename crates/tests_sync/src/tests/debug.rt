@@ -1,0 +1,144 @@
+//! The texts of `Debug`: those of the Rust crate.
+ghost use Rattle.fi_sync.specs.Blanks.{IsLockBlank, IsPermitBlank};
+
+use fi_locks::LocalMutex;
+use fi_parts::{MockClock, StateId};
+use fi_sync::{
+    Channel, ManualResetEvent, Mutex, OneshotBroadcastChannel, OneshotChannel, Semaphore,
+    SharedSemaphore, StateBroadcastChannel, TimerService,
+};
+use std::alloc::{AllocGlobal, Global};
+use std::fmt;
+use std::marker::Brand;
+use std::sync::Wait;
+use std::sync::ledger::{Blank, Ledger};
+
+fn shows<D: fmt::Debug>(alloc: Global, value: &D, wanted: &str) -> bool {
+    match format!(in alloc; "{value:?}") {
+        Ok(text) => text.as_str() == wanted,
+        Err(_) => false,
+    }
+}
+
+#[test]
+fn an_event_and_a_timer_show_their_names(rt: HostRuntime) {
+    let event = ManualResetEvent::new(rt.alloc(), rt, false);
+    assert!(rt; shows(rt.alloc(), &event, "ManualResetEvent"));
+    let wait = event.wait().expect(&rt, "memory");
+    assert!(rt; shows(rt.alloc(), &wait, "GenericWaitForEventFuture"));
+    let timer = TimerService::new(rt.alloc(), rt, MockClock::new());
+    assert!(rt; shows(rt.alloc(), &timer, "TimerService"));
+    let deadline = timer.deadline(5).expect(&rt, "memory");
+    assert!(rt; shows(rt.alloc(), &deadline, "TimerFuture"));
+}
+
+#[test]
+fn channels_of_one_value_show_their_names(rt: HostRuntime) {
+    let oneshot: OneshotChannel<u64, HostRuntime> = OneshotChannel::new(rt.alloc(), rt);
+    assert!(rt; shows(rt.alloc(), &oneshot, "GenericOneshotChannel"));
+    let broadcast: OneshotBroadcastChannel<u64, HostRuntime> = OneshotBroadcastChannel::new(
+        rt.alloc(),
+        rt,
+    );
+    assert!(rt; shows(rt.alloc(), &broadcast, "GenericOneshotBroadcastChannel"));
+    let states: StateBroadcastChannel<u64, HostRuntime> = StateBroadcastChannel::new(
+        rt.alloc(),
+        rt,
+    );
+    assert!(rt; shows(rt.alloc(), &states, "GenericStateBroadcastChannel"));
+    let receive = states.receive(StateId::new()).expect(&rt, "memory");
+    assert!(rt; shows(rt.alloc(), &receive, "ChannelReceiveFuture"));
+}
+
+#[test]
+fn a_channel_shows_its_name(rt: HostRuntime) {
+    let channel: Channel<u64, 2, HostRuntime> = Channel::new(rt.alloc(), rt);
+    assert!(rt; shows(rt.alloc(), &channel, "Channel"));
+}
+
+#[test]
+fn a_send_shows_its_name(rt: HostRuntime) {
+    let channel: Channel<u64, 2, HostRuntime> = Channel::new(rt.alloc(), rt);
+    let send = channel.send(5).ok().expect(&rt, "room");
+    assert!(rt; shows(rt.alloc(), &send, "ChannelSendFuture"));
+}
+
+#[test]
+fn a_stream_shows_its_name(rt: HostRuntime) {
+    let channel: Channel<u64, 2, HostRuntime> = Channel::new(rt.alloc(), rt);
+    let stream = channel.stream().expect(&rt, "memory");
+    assert!(rt; shows(rt.alloc(), &stream, "ChannelStream"));
+}
+
+fn mutex_shows<R: Wait + AllocGlobal + Copy, L: Ledger>(rt: R, blank: Blank) -> Option<bool>
+    requires blank { IsLockBlank L.Ledger blank }
+{
+    let alloc = rt.alloc();
+    let mutex = Mutex::<u64, R, L>::new(alloc, rt, blank, 7, true);
+    let free = shows(alloc, &mutex, "Mutex { is_locked: false }");
+    let lock = mutex.lock().ok()?;
+    let guard = mutex.try_lock()?;
+    let locked = shows(alloc, &mutex, "Mutex { is_locked: true }");
+    let names = shows(alloc, &guard, "GenericMutexGuard")
+        && shows(alloc, &lock, "GenericMutexLockFuture");
+    Some(free && locked && names)
+}
+
+#[test]
+fn a_local_mutex_shows_whether_it_is_locked(rt: HostRuntime) {
+    let mut mutex: LocalMutex<u64, u64> = LocalMutex::new(rt.alloc(), 7, true);
+    let value = mutex.try_take();
+    assert!(rt; value.is_some() && shows(rt.alloc(), &mutex, "Mutex { is_locked: true }"));
+}
+
+#[test]
+fn a_mutex_shows_whether_it_is_locked(rt: HostRuntime) {
+    assert_eq!(rt;
+        mutex_shows::<HostRuntime, Brand>(rt, Blank::new(1)),
+        Some(true)
+    );
+}
+
+fn semaphore_shows<R: Wait + AllocGlobal + Copy, L: Ledger>(rt: R, blank: Blank) -> Option<bool>
+    requires blank { IsPermitBlank L.Ledger blank }
+{
+    let alloc = rt.alloc();
+    let semaphore = Semaphore::<R, L>::new(alloc, rt, blank, true, 5);
+    let releaser = semaphore.try_acquire(2)?;
+    let acquire = semaphore.acquire(1).ok()?;
+    let names = shows(alloc, &releaser, "GenericSemaphoreReleaser")
+        && shows(alloc, &acquire, "GenericSemaphoreAcquireFuture");
+    Some(names && shows(alloc, &semaphore, "Semaphore { permits: 3 }"))
+}
+
+#[test]
+fn a_semaphore_shows_its_permits(rt: HostRuntime) {
+    let blank = Blank::new(18446744073709551615);
+    assert_eq!(rt;
+        semaphore_shows::<HostRuntime, Brand>(rt, blank),
+        Some(true)
+    );
+}
+
+fn shared_semaphore_shows<R, L: Ledger>(rt: R, blank: Blank) -> Option<bool>
+where
+    R: Wait + AllocGlobal + Copy + Drop,
+    requires blank { IsPermitBlank L.Ledger blank }
+{
+    let alloc = rt.alloc();
+    let semaphore = SharedSemaphore::<R, L>::new(alloc, rt, blank, true, 5).ok()?;
+    let releaser = semaphore.try_acquire(2).ok()??;
+    let acquire = semaphore.acquire(1).ok()?;
+    let names = shows(alloc, &releaser, "GenericSharedSemaphoreReleaser")
+        && shows(alloc, &acquire, "GenericSharedSemaphoreAcquireFuture");
+    Some(names && shows(alloc, &semaphore, "Semaphore { permits: 3 }"))
+}
+
+#[test]
+fn a_shared_semaphore_shows_its_permits(rt: HostRuntime) {
+    let blank = Blank::new(18446744073709551615);
+    assert_eq!(rt;
+        shared_semaphore_shows::<HostRuntime, Brand>(rt, blank),
+        Some(true)
+    );
+}
