@@ -6,9 +6,8 @@ use fi_parts::buffer::{ArrayBuf, FixedHeapBuf, GrowingHeapBuf, RingBuf};
 use fi_parts::{Fault, NoRoom};
 use std::alloc::Global;
 use std::marker::Model;
-use std::process::Abort;
 use std::rc::Rc;
-use std::test::*;
+use tests_help::texts::shows;
 
 /// Takes the oldest item, if there is one, and then puts the item behind the others: what a full channel does where a send waits.
 fn refill<B: RingBuf>(buffer: &mut B, item: B::Item) -> Result<Option<B::Item>, NoRoom<B::Item>>
@@ -67,28 +66,25 @@ impl<T: Drop, B: RingBuf<Item = T>> Desk<T, B> {
 }
 
 /// Makes a buffer, at the second try if the first is refused.
-fn make<B: RingBuf>(rt: &impl Abort, alloc: Global, capacity: usize) -> B {
+fn make<B: RingBuf>(alloc: Global, capacity: usize) -> Option<B> {
     match B::with_capacity(alloc, capacity) {
-        Ok(buffer) => buffer,
-        Err(fault) => {
-            assert_eq!(rt; fault, Fault::NoMemory);
-            B::with_capacity(alloc, capacity).expect(rt, "memory for a buffer")
-        }
+        Ok(buffer) => Some(buffer),
+        Err(Fault::NoMemory) => B::with_capacity(alloc, capacity).ok(),
+        Err(_) => None,
     }
 }
 
 /// Puts the item behind the others, at the second try if the first is refused. A refused push changes nothing.
-fn put<B: RingBuf<Item = u32>>(rt: &impl Abort, buffer: &mut B, item: u32) {
-    assert!(rt; buffer.can_push());
+fn put<B: RingBuf<Item = u32>>(buffer: &mut B, item: u32) -> bool {
+    if !buffer.can_push() {
+        return false;
+    }
     let (len, reserved) = (buffer.len(), buffer.reserved());
     let Err(NoRoom(back)) = buffer.push(item) else {
-        return;
+        return true;
     };
-    assert_eq!(rt;
-        (back, buffer.len(), buffer.reserved(), reserved),
-        (item, len, len, len)
-    );
-    assert!(rt; buffer.push(back).is_ok());
+    let is_unchanged = back == item && buffer.len() == len && buffer.reserved() == reserved;
+    is_unchanged && reserved == len && buffer.push(back).is_ok()
 }
 
 /// Takes the oldest item, if there is one.
@@ -99,186 +95,262 @@ fn take<B: RingBuf>(buffer: &mut B) -> Option<B::Item> {
     Some(buffer.pop())
 }
 
+/// Puts these items, one after another.
+fn puts<B: RingBuf<Item = u32>>(buffer: &mut B, items: &[u32]) -> bool {
+    for item in items {
+        if !put(buffer, *item) {
+            return false;
+        }
+    }
+    true
+}
+
+/// Takes the items, which are these.
+fn takes<B: RingBuf<Item = u32>>(buffer: &mut B, items: &[u32]) -> bool {
+    for item in items {
+        if take(buffer) != Some(*item) {
+            return false;
+        }
+    }
+    true
+}
+
+/// Puts these items, and after each one more can be pushed or can't.
+fn fills<B: RingBuf<Item = u32>>(buffer: &mut B, rows: &[(u32, bool)]) -> bool {
+    for (item, can_push) in rows {
+        if !put(buffer, *item) || buffer.can_push() != *can_push {
+            return false;
+        }
+    }
+    true
+}
+
+/// Takes the items, which are these, and leaves so many each time.
+fn empties<B: RingBuf<Item = u32>>(buffer: &mut B, rows: &[(u32, usize)]) -> bool {
+    for (item, len) in rows {
+        if take(buffer) != Some(*item) || buffer.len() != *len {
+            return false;
+        }
+    }
+    true
+}
+
+/// Puts these items, and has memory for so many after each.
+fn grows<B: RingBuf<Item = u32>>(buffer: &mut B, rows: &[(u32, usize)]) -> bool {
+    for (item, reserved) in rows {
+        if !put(buffer, *item) || buffer.reserved() != *reserved {
+            return false;
+        }
+    }
+    true
+}
+
 /// Runs a buffer of 5 items through more pushes than it has room for.
-fn buffer_order<B: RingBuf<Item = u32>>(rt: &impl Abort, mut buffer: B) {
-    assert_eq!(rt; buffer.capacity(), 5);
-    for item in [1, 2, 3] {
-        put(rt, &mut buffer, item);
+fn keeps_order<B: RingBuf<Item = u32>>(buffer: &mut B) -> bool {
+    buffer.capacity() == 5
+        && puts(buffer, &[1, 2, 3])
+        && takes(buffer, &[1, 2])
+        && buffer.len() == 1
+        && takes(buffer, &[3])
+        && buffer.is_empty()
+        && fills(buffer, &[(4, true), (5, true), (6, true), (7, true), (8, false)])
+        && empties(buffer, &[(4, 4), (5, 3), (6, 2), (7, 1), (8, 0)])
+        && take(buffer).is_none()
+}
+
+/// A buffer that is made for so many keeps the order.
+fn made_keeps_order<B: RingBuf<Item = u32>>(alloc: Global, capacity: usize) -> bool {
+    match make::<B>(alloc, capacity) {
+        Some(mut buffer) => keeps_order(&mut buffer),
+        None => false,
     }
-    assert_eq!(rt; take(&mut buffer), Some(1));
-    assert_eq!(rt; take(&mut buffer), Some(2));
-    assert_eq!(rt; buffer.len(), 1);
-    assert_eq!(rt; take(&mut buffer), Some(3));
-    assert!(rt; buffer.is_empty());
-    for (item, can_push) in [(4, true), (5, true), (6, true), (7, true), (8, false)] {
-        put(rt, &mut buffer, item);
-        assert_eq!(rt; buffer.can_push(), can_push);
-    }
-    for (item, len) in [(4, 4), (5, 3), (6, 2), (7, 1), (8, 0)] {
-        assert_eq!(rt; take(&mut buffer), Some(item));
-        assert_eq!(rt; buffer.len(), len);
-    }
-    assert_eq!(rt; take(&mut buffer), None);
 }
 
 /// Pushes two items for each one that it pops, until 30 are held, so that a buffer wraps round while it grows, and then pops all.
-fn wraps_round<B: RingBuf<Item = u32>>(rt: &impl Abort, mut buffer: B) {
+fn wraps_round<B: RingBuf<Item = u32>>(buffer: &mut B) -> bool {
     for turn in 0..29 {
-        put(rt, &mut buffer, 2 * turn);
-        put(rt, &mut buffer, 2 * turn + 1);
-        assert_eq!(rt; take(&mut buffer), Some(turn));
+        if !puts(buffer, &[2 * turn, 2 * turn + 1]) || take(buffer) != Some(turn) {
+            return false;
+        }
     }
     for item in 29..58 {
-        assert_eq!(rt; take(&mut buffer), Some(item));
+        if take(buffer) != Some(item) {
+            return false;
+        }
     }
-    assert!(rt; buffer.is_empty());
+    buffer.is_empty()
+}
+
+/// A buffer that is made for 30 wraps round.
+fn made_wraps_round<B: RingBuf<Item = u32>>(alloc: Global) -> bool {
+    match make::<B>(alloc, 30) {
+        Some(mut buffer) => wraps_round(&mut buffer),
+        None => false,
+    }
 }
 
 /// A buffer of no items is empty and full.
-fn holds_nothing<B: RingBuf<Item = u32>>(rt: &impl Abort, mut buffer: B) {
-    assert_eq!(rt;
-        (buffer.capacity(), buffer.reserved(), buffer.len()),
-        (0, 0, 0)
-    );
-    assert!(rt; buffer.is_empty() && !buffer.can_push());
-    assert_eq!(rt; take(&mut buffer), None);
+fn holds_nothing<B: RingBuf<Item = u32>>(buffer: &mut B) -> bool {
+    buffer.capacity() == 0
+        && buffer.reserved() == 0
+        && buffer.len() == 0
+        && buffer.is_empty()
+        && !buffer.can_push()
+        && take(buffer).is_none()
+}
+
+/// A new buffer holds nothing, and neither does one that is made for so many.
+fn made_holds_nothing<B: RingBuf<Item = u32>>(alloc: Global, capacity: usize) -> bool {
+    match make::<B>(alloc, capacity) {
+        Some(mut buffer) => holds_nothing(&mut buffer) && holds_nothing(&mut B::new(alloc)),
+        None => false,
+    }
 }
 
 // The next three tests give the same answers where one allocation fails, whichever it is: see `rt try --test --fail-alloc N`.
 
 #[test]
 fn buffer_order_of_each(rt: HostRuntime) {
-    buffer_order(&rt, ArrayBuf::<u32, 5>::new(rt.alloc()));
-    buffer_order::<ArrayBuf<u32, 5>>(&rt, make(&rt, rt.alloc(), 9));
-    buffer_order::<FixedHeapBuf<u32>>(&rt, make(&rt, rt.alloc(), 5));
-    buffer_order::<GrowingHeapBuf<u32>>(&rt, make(&rt, rt.alloc(), 5));
+    let alloc = rt.alloc();
+    let is_kept = keeps_order(&mut ArrayBuf::<u32, 5>::new(alloc))
+        && made_keeps_order::<ArrayBuf<u32, 5>>(alloc, 9)
+        && made_keeps_order::<FixedHeapBuf<u32>>(alloc, 5)
+        && made_keeps_order::<GrowingHeapBuf<u32>>(alloc, 5);
+    assert!(rt; is_kept);
 }
 
 #[test]
 fn wraps_round_as_it_grows(rt: HostRuntime) {
-    wraps_round(&rt, ArrayBuf::<u32, 30>::new(rt.alloc()));
-    wraps_round::<FixedHeapBuf<u32>>(&rt, make(&rt, rt.alloc(), 30));
-    wraps_round::<GrowingHeapBuf<u32>>(&rt, make(&rt, rt.alloc(), 30));
+    let alloc = rt.alloc();
+    let is_kept = wraps_round(&mut ArrayBuf::<u32, 30>::new(alloc))
+        && made_wraps_round::<FixedHeapBuf<u32>>(alloc)
+        && made_wraps_round::<GrowingHeapBuf<u32>>(alloc);
+    assert!(rt; is_kept);
 }
 
 #[test]
 fn capacity_zero(rt: HostRuntime) {
-    holds_nothing(&rt, ArrayBuf::<u32, 0>::new(rt.alloc()));
-    holds_nothing::<ArrayBuf<u32, 0>>(&rt, make(&rt, rt.alloc(), 9));
-    holds_nothing(&rt, FixedHeapBuf::new(rt.alloc()));
-    holds_nothing::<FixedHeapBuf<u32>>(&rt, make(&rt, rt.alloc(), 0));
-    holds_nothing(&rt, GrowingHeapBuf::new(rt.alloc()));
-    holds_nothing::<GrowingHeapBuf<u32>>(&rt, make(&rt, rt.alloc(), 0));
+    let alloc = rt.alloc();
+    let holds_none = made_holds_nothing::<ArrayBuf<u32, 0>>(alloc, 9)
+        && made_holds_nothing::<FixedHeapBuf<u32>>(alloc, 0)
+        && made_holds_nothing::<GrowingHeapBuf<u32>>(alloc, 0);
+    assert!(rt; holds_none);
+}
+
+/// A buffer of three items, which has memory for so many at first, has its oldest exchanged.
+fn is_refilled<B: RingBuf<Item = u32>>(buffer: &mut B, reserved: usize) -> bool {
+    buffer.capacity() == 3
+        && buffer.reserved() == reserved
+        && put(buffer, 1)
+        && buffer.reserved() == 3
+        && buffer.capacity() == 3
+        && refill(buffer, 2).ok() == Some(Some(1))
+}
+
+/// A buffer's last items are taken, and the memory stays.
+fn is_emptied<B: RingBuf<Item = u32>>(buffer: &mut B, last: &[u32], reserved: usize) -> bool {
+    takes(buffer, last) && buffer.reserved() == reserved && buffer.is_empty()
 }
 
 #[test]
 fn array_buf(rt: HostRuntime) {
     let mut buffer = ArrayBuf::<u32, 3>::new(rt.alloc());
-    assert_eq!(rt; (buffer.capacity(), buffer.reserved()), (3, 0));
-    put(&rt, &mut buffer, 1);
-    assert_eq!(rt; buffer.reserved(), 3);
-    assert_eq!(rt; buffer.capacity(), 3);
-    assert_eq!(rt; refill(&mut buffer, 2).ok(), Some(Some(1)));
-    assert_eq!(rt; take(&mut buffer), Some(2));
-    assert_eq!(rt; (buffer.reserved(), buffer.is_empty()), (3, true));
-    assert_eq!(rt;
-        format!(in rt.alloc(); "{buffer:?}")
-            .expect(&rt, "memory")
-            .as_str(),
-        "ArrayBuf { size: 0, cap: 3 }"
-    );
+    let is_used = is_refilled(&mut buffer, 0) && is_emptied(&mut buffer, &[2], 3);
+    assert!(rt; is_used && shows(rt.alloc(), &buffer, "ArrayBuf { size: 0, cap: 3 }"));
 }
 
 #[test]
 fn fixed_heap_buf(rt: HostRuntime) {
     let mut buffer = FixedHeapBuf::with_capacity(rt.alloc(), 3).expect(&rt, "memory");
-    assert_eq!(rt; (buffer.capacity(), buffer.reserved()), (3, 3));
-    put(&rt, &mut buffer, 1);
-    assert_eq!(rt; buffer.capacity(), 3);
-    assert_eq!(rt; refill(&mut buffer, 2).ok(), Some(Some(1)));
-    assert_eq!(rt;
-        format!(in rt.alloc(); "{buffer:?}")
-            .expect(&rt, "memory")
-            .as_str(),
-        "FixedHeapBuf { size: 1, cap: 3 }"
-    );
-    assert_eq!(rt; take(&mut buffer), Some(2));
-    assert_eq!(rt; (buffer.reserved(), buffer.is_empty()), (3, true));
+    let is_used = is_refilled(&mut buffer, 3)
+        && shows(rt.alloc(), &buffer, "FixedHeapBuf { size: 1, cap: 3 }")
+        && is_emptied(&mut buffer, &[2], 3);
+    assert!(rt; is_used);
+}
+
+/// A buffer of ten items grows with them, and then has its oldest exchanged.
+fn grows_to_ten<B: RingBuf<Item = u32>>(buffer: &mut B) -> bool {
+    buffer.capacity() == 10
+        && buffer.reserved() == 0
+        && grows(buffer, &[(1, 4), (2, 4), (3, 4), (4, 4), (5, 8), (6, 8)])
+        && grows(buffer, &[(7, 8), (8, 8), (9, 10)])
+        && buffer.capacity() == 10
+        && refill(buffer, 10).ok() == Some(Some(1))
 }
 
 #[test]
 fn growing_heap_buf(rt: HostRuntime) {
     let mut buffer = GrowingHeapBuf::with_capacity(rt.alloc(), 10).expect(&rt, "memory");
-    assert_eq!(rt; (buffer.capacity(), buffer.reserved()), (10, 0));
-    for (item, reserved) in [
-        (1, 4),
-        (2, 4),
-        (3, 4),
-        (4, 4),
-        (5, 8),
-        (6, 8),
-        (7, 8),
-        (8, 8),
-        (9, 10),
-    ] {
-        put(&rt, &mut buffer, item);
-        assert_eq!(rt; buffer.reserved(), reserved);
-    }
-    assert_eq!(rt; buffer.capacity(), 10);
-    assert_eq!(rt; refill(&mut buffer, 10).ok(), Some(Some(1)));
-    assert_eq!(rt;
-        format!(in rt.alloc(); "{buffer:?}")
-            .expect(&rt, "memory")
-            .as_str(),
-        "GrowingHeapBuf { size: 9, limit: 10 }"
-    );
-    for item in [2, 3, 4, 5, 6, 7, 8, 9, 10] {
-        assert_eq!(rt; take(&mut buffer), Some(item));
-    }
-    assert_eq!(rt; (buffer.reserved(), buffer.is_empty()), (10, true));
+    let is_used = grows_to_ten(&mut buffer)
+        && shows(rt.alloc(), &buffer, "GrowingHeapBuf { size: 9, limit: 10 }")
+        && is_emptied(&mut buffer, &[2, 3, 4, 5, 6, 7, 8, 9, 10], 10);
+    assert!(rt; is_used);
 }
 
 /// More than any address space has room for.
 const TOO_MANY: usize = 1 << 62;
 
+/// Whether a buffer for so many is refused for memory.
+fn is_refused<B: RingBuf>(alloc: Global, capacity: usize) -> bool {
+    match B::with_capacity(alloc, capacity) {
+        Ok(_) => false,
+        Err(fault) => fault == Fault::NoMemory,
+    }
+}
+
+/// Whether the first push is refused for memory, and changes nothing.
+fn refuses_a_push<B: RingBuf<Item = u32>>(buffer: &mut B) -> bool {
+    if !buffer.can_push() {
+        return false;
+    }
+    match buffer.push(7) {
+        Ok(()) => false,
+        Err(NoRoom(back)) => back == 7 && buffer.len() == 0 && buffer.reserved() == 0,
+    }
+}
+
 #[test]
 fn refused_for_memory(rt: HostRuntime) {
-    assert_eq!(rt;
-        ArrayBuf::<u32, TOO_MANY>::with_capacity(rt.alloc(), 1).err(),
-        Some(Fault::NoMemory)
-    );
-    assert_eq!(rt;
-        FixedHeapBuf::<u32>::with_capacity(rt.alloc(), TOO_MANY).err(),
-        Some(Fault::NoMemory)
-    );
     let mut buffer = ArrayBuf::<u32, TOO_MANY>::new(rt.alloc());
-    for _ in 0..2 {
-        assert!(rt; buffer.can_push());
-        let NoRoom(back) = buffer.push(7).err().expect(&rt, "no memory");
-        assert_eq!(rt; (back, buffer.len(), buffer.reserved()), (7, 0, 0));
+    let are_refused = is_refused::<ArrayBuf<u32, TOO_MANY>>(rt.alloc(), 1)
+        && is_refused::<FixedHeapBuf<u32>>(rt.alloc(), TOO_MANY)
+        && refuses_a_push(&mut buffer)
+        && refuses_a_push(&mut buffer);
+    assert!(rt; are_refused);
+}
+
+/// Puts so many owners of the item.
+fn puts_owners<B: RingBuf<Item = Rc<i32>>>(buffer: &mut B, item: &Rc<i32>, count: u64) -> bool {
+    for _ in 0..count {
+        let Ok(owner) = item.clone() else {
+            return false;
+        };
+        if !buffer.can_push() || buffer.push(owner).is_err() {
+            return false;
+        }
     }
+    true
+}
+
+/// A buffer takes three owners of an item that has one, and gives one of them back. The others go with the buffer.
+fn owns_three<B: RingBuf<Item = Rc<i32>>>(alloc: Global, item: &Rc<i32>) -> bool {
+    let Some(mut buffer) = make::<B>(alloc, 3) else {
+        return false;
+    };
+    puts_owners(&mut buffer, item, 3)
+        && Rc::strong_count(item) == 4
+        && take(&mut buffer).is_some()
+        && Rc::strong_count(item) == 3
 }
 
 #[test]
 fn drops_each_item_once(rt: HostRuntime) {
     let item = Rc::new(rt.alloc(), 0).expect(&rt, "memory");
-    let mut array = ArrayBuf::<Rc<i32>, 3>::with_capacity(rt.alloc(), 3).expect(&rt, "memory");
-    let mut heap = GrowingHeapBuf::with_capacity(rt.alloc(), 3).expect(&rt, "memory");
-    for _ in 0..3 {
-        assert!(rt; array.can_push() && heap.can_push());
-        array
-            .push(item.clone().expect(&rt, "memory"))
-            .expect(&rt, "memory");
-        heap.push(item.clone().expect(&rt, "memory"))
-            .expect(&rt, "memory");
-    }
-    assert_eq!(rt; Rc::strong_count(&item), 7);
-    drop(take(&mut array));
-    drop(take(&mut heap));
-    assert_eq!(rt; Rc::strong_count(&item), 5);
-    drop(array);
-    drop(heap);
-    assert_eq!(rt; Rc::strong_count(&item), 1);
+    let are_dropped = owns_three::<ArrayBuf<Rc<i32>, 3>>(rt.alloc(), &item)
+        && Rc::strong_count(&item) == 1
+        && owns_three::<GrowingHeapBuf<Rc<i32>>>(rt.alloc(), &item)
+        && Rc::strong_count(&item) == 1;
+    assert!(rt; are_dropped);
 }
 
 #[test]

@@ -19,44 +19,63 @@ fn take_least(heap: &mut PairingHeap<u64>) -> Option<u64> {
     Some(heap.free(slot))
 }
 
+/// Takes the values, which are these.
+fn takes(heap: &mut PairingHeap<u64>, values: &[u64]) -> bool {
+    for value in values {
+        if take_least(heap) != Some(*value) {
+            return false;
+        }
+    }
+    true
+}
+
+/// Takes a slot out, which stays live.
+fn is_removed(heap: &mut PairingHeap<u64>, slot: Slot, value: u64) -> bool {
+    if heap.contains(slot) {
+        heap.remove(slot);
+    }
+    !heap.contains(slot) && heap.get(slot).copied() == Some(value)
+}
+
 #[test]
 fn heap_order(rt: HostRuntime) {
     let mut heap = PairingHeap::new(rt.alloc());
-    let _three = add(&rt, &mut heap, 3);
-    let _first_one = add(&rt, &mut heap, 1);
+    add(&rt, &mut heap, 3);
+    add(&rt, &mut heap, 1);
     let four = add(&rt, &mut heap, 4);
-    let _second_one = add(&rt, &mut heap, 1);
-    let _five = add(&rt, &mut heap, 5);
-    if heap.contains(four) {
-        heap.remove(four);
+    add(&rt, &mut heap, 1);
+    add(&rt, &mut heap, 5);
+    let is_ordered = is_removed(&mut heap, four, 4)
+        && takes(&mut heap, &[1, 1, 3])
+        && !heap.is_empty()
+        && takes(&mut heap, &[5])
+        && take_least(&mut heap).is_none()
+        && heap.is_empty();
+    assert!(rt; is_ordered);
+}
+
+/// Writes a live slot's value, while the slot is outside.
+fn is_written(heap: &mut PairingHeap<u64>, slot: Slot, written: u64) -> bool {
+    if let Some(value) = heap.get_mut(slot) {
+        *value = written;
     }
-    assert!(rt; !heap.contains(four));
-    assert_eq!(rt; heap.get(four), Some(&4), "a slot stays live");
-    assert_eq!(rt; take_least(&mut heap), Some(1));
-    assert_eq!(rt; take_least(&mut heap), Some(1));
-    assert_eq!(rt; take_least(&mut heap), Some(3));
-    assert!(rt; !heap.is_empty());
-    assert_eq!(rt; take_least(&mut heap), Some(5));
-    assert_eq!(rt; take_least(&mut heap), None);
-    assert!(rt; heap.is_empty());
+    heap.get(slot).copied() == Some(written) && !heap.contains(slot)
+}
+
+/// Whether a slot isn't live.
+fn is_not_live(heap: &mut PairingHeap<u64>, slot: Slot) -> bool {
+    !heap.contains(slot) && heap.get_mut(slot).is_none()
 }
 
 #[test]
 fn values_are_written_outside(rt: HostRuntime) {
     let mut heap = PairingHeap::new(rt.alloc());
-    let other = heap.claim(6).expect(&rt, "no memory");
-    heap.insert(other);
+    add(&rt, &mut heap, 6);
     let slot = heap.claim(7).expect(&rt, "no memory");
-    if let Some(value) = heap.get_mut(slot) {
-        *value = 5;
-    }
-    assert_eq!(rt; heap.get(slot), Some(&5));
-    assert!(rt; heap.get(slot).is_some());
-    assert!(rt; !heap.contains(slot));
+    let was_written = is_written(&mut heap, slot, 5);
+    assert!(rt; was_written && heap.get(slot).is_some());
     heap.insert(slot);
-    assert_eq!(rt; heap.peek_min(), Some(slot));
-    assert!(rt; !heap.contains(Slot(7)));
-    assert_eq!(rt; heap.get_mut(Slot(7)), None, "a slot that isn't live");
+    assert!(rt; heap.peek_min() == Some(slot) && is_not_live(&mut heap, Slot(7)));
 }
 
 /// Draws numbers: the same ones in each run.

@@ -1,8 +1,18 @@
 //! What the primitives share besides lists, heaps and buffers: each public call once, at a concrete type.
 use fi_parts::{
     ChannelSendError, CloseStatus, Deadlines, Fault, LinkedList, NoRoom, Outbox, Slot, StateId,
-    Waits,
+    Ticket, Waits,
 };
+use std::alloc::Global;
+use tests_help::texts::shows;
+
+// Whether a waker that is named is taken out once, and one that isn't never.
+fn is_taken_out(outbox: &mut Outbox<u64>, named: Ticket, other: Ticket) -> bool {
+    outbox.len() == 1
+        && outbox.take_out(other).is_none()
+        && outbox.take_out(named) == Some(11)
+        && outbox.pop().is_none()
+}
 
 #[test]
 fn outbox_names(rt: HostRuntime) {
@@ -10,10 +20,7 @@ fn outbox_names(rt: HostRuntime) {
     let first = outbox.claim().expect(&rt, "room");
     outbox.name(first, 11);
     let second = outbox.claim().expect(&rt, "room");
-    assert_eq!(rt; outbox.len(), 1);
-    assert_eq!(rt; outbox.take_out(second), None);
-    assert_eq!(rt; outbox.take_out(first), Some(11));
-    assert_eq!(rt; outbox.pop(), None);
+    assert!(rt; is_taken_out(&mut outbox, first, second));
 }
 
 #[test]
@@ -22,6 +29,18 @@ fn outbox_frees(rt: HostRuntime) {
     let ticket = outbox.claim().expect(&rt, "room");
     outbox.free(ticket);
     assert_eq!(rt; outbox.len(), 0);
+}
+
+// Whether the codes of these faults are 1, 2, 3 and so on.
+fn are_numbered(faults: &[Fault]) -> bool {
+    let mut next = 1u64;
+    for fault in faults {
+        if fault.code() as u64 != next {
+            return false;
+        }
+        next = next.wrapping_add(1);
+    }
+    true
 }
 
 #[test]
@@ -36,67 +55,70 @@ fn faults_and_closes(rt: HostRuntime) {
         Fault::NotHeld,
         Fault::TooManyEnds,
     ];
-    for (before, fault) in faults.iter().enumerate() {
-        assert_eq!(rt; before as u64 + 1, fault.code() as u64);
-    }
-    assert!(rt; CloseStatus::NewlyClosed.is_newly_closed());
-    assert!(rt; !CloseStatus::NewlyClosed.is_already_closed());
-    assert!(rt; CloseStatus::AlreadyClosed.is_already_closed());
-    assert!(rt; !CloseStatus::AlreadyClosed.is_newly_closed());
-    assert_eq!(rt; ChannelSendError(5), ChannelSendError(5));
+    let are_closes = CloseStatus::NewlyClosed.is_newly_closed()
+        && !CloseStatus::NewlyClosed.is_already_closed()
+        && CloseStatus::AlreadyClosed.is_already_closed()
+        && !CloseStatus::AlreadyClosed.is_newly_closed();
+    let are_equal = ChannelSendError(5) == ChannelSendError(5);
+    assert!(rt; are_numbered(faults.as_slice()) && are_closes && are_equal);
 }
 
 #[test]
 fn state_ids(rt: HostRuntime) {
-    assert_eq!(rt; StateId::new(), StateId::default());
-    assert_eq!(rt; StateId::new().value(), 0);
-    assert_eq!(rt; StateId::from_value(7).value(), 7);
-    assert!(rt; StateId::new() < StateId::from_value(1));
-    assert_eq!(rt;
-        format!(in rt.alloc(); "{:?}", StateId::from_value(7))
-            .expect(&rt, "memory")
-            .as_str(),
-        "StateId(7)"
-    );
-    assert_eq!(rt;
-        format!(in rt.alloc(); "{:?}", Slot(3))
-            .expect(&rt, "memory")
-            .as_str(),
-        "Slot(3)"
-    );
-    assert_eq!(rt;
-        format!(in rt.alloc(); "{:?}", NoRoom(3))
-            .expect(&rt, "memory")
-            .as_str(),
-        "NoRoom(3)"
-    );
-    assert_eq!(rt;
-        format!(in rt.alloc(); "{:?}", Fault::Closed)
-            .expect(&rt, "memory")
-            .as_str(),
-        "Closed"
-    );
+    let are_ids = StateId::new() == StateId::default()
+        && StateId::new().value() == 0
+        && StateId::from_value(7).value() == 7
+        && StateId::new() < StateId::from_value(1);
+    let are_shown = shows(rt.alloc(), &StateId::from_value(7), "StateId(7)")
+        && shows(rt.alloc(), &Slot(3), "Slot(3)")
+        && shows(rt.alloc(), &NoRoom(3), "NoRoom(3)")
+        && shows(rt.alloc(), &Fault::Closed, "Closed");
+    assert!(rt; are_ids && are_shown);
+}
+
+// Tickets are made beside named ones.
+fn finds_tickets(alloc: Global) -> bool {
+    let mut outbox: Outbox<u64> = Outbox::new(alloc);
+    for number in 0..4u64 {
+        let Ok(ticket) = outbox.claim() else {
+            return false;
+        };
+        outbox.name(ticket, number);
+    }
+    outbox.len() == 4
+}
+
+// Futures are made beside queued ones.
+fn finds_waits(alloc: Global) -> bool {
+    let mut waits: Waits<u32, u64> = Waits::new(alloc);
+    let Ok(oldest) = waits.insert(1) else {
+        return false;
+    };
+    if waits.phase(oldest).is_none() {
+        return false;
+    }
+    waits.register(oldest, 7);
+    waits.insert(2).is_ok()
+}
+
+// Futures are made beside those in the heap.
+fn finds_deadlines(alloc: Global) -> bool {
+    let mut deadlines: Deadlines<u64> = Deadlines::new(alloc);
+    let Ok(first) = deadlines.insert(5) else {
+        return false;
+    };
+    if !deadlines.is_fresh(first) {
+        return false;
+    }
+    deadlines.register(first, 7);
+    deadlines.insert(4).is_ok()
 }
 
 // Tickets and futures are made beside named, queued and seated ones.
 #[test]
 fn room_is_found_beside_others(rt: HostRuntime) {
-    let mut outbox: Outbox<u64> = Outbox::new(rt.alloc());
-    for number in 0..4u64 {
-        let ticket = outbox.claim().expect(&rt, "memory");
-        outbox.name(ticket, number);
-    }
-    assert_eq!(rt; outbox.len(), 4);
-    let mut waits: Waits<u32, u64> = Waits::new(rt.alloc());
-    let oldest = waits.insert(1).expect(&rt, "memory");
-    assert!(rt; waits.phase(oldest).is_some());
-    waits.register(oldest, 7);
-    assert!(rt; waits.insert(2).is_ok());
-    let mut deadlines: Deadlines<u64> = Deadlines::new(rt.alloc());
-    let first = deadlines.insert(5).expect(&rt, "memory");
-    assert!(rt; deadlines.is_fresh(first));
-    deadlines.register(first, 7);
-    assert!(rt; deadlines.insert(4).is_ok());
+    let alloc = rt.alloc();
+    assert!(rt; finds_tickets(alloc) && finds_waits(alloc) && finds_deadlines(alloc));
 }
 
 fn is_shared<T: Send + Sync>(_value: &T) {}
