@@ -1,6 +1,6 @@
 //! A plain channel of at most two places, with two sends and two receives, or two sends and two streams.
-use crate::waiters::{PlainWaiters, Stage};
 use crate::cases::{Case, Reference, agree};
+use crate::waiters::{PlainWaiters, Stage};
 use fi_channels::ChannelState;
 use fi_parts::buffer::{ArrayBuf, FixedHeapBuf, GrowingHeapBuf, RingBuf};
 use fi_parts::{Fault, Slot};

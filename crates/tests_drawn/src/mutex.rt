@@ -1,6 +1,6 @@
 //! A plain mutex, fair or unfair.
-use crate::waiters::{ALL, PlainWaiters, Stage};
 use crate::cases::{Case, Reference, agree};
+use crate::waiters::{ALL, PlainWaiters, Stage};
 use fi_locks::MutexState;
 use fi_parts::{Fault, Slot};
 use fi_run::{Answer, MutexCall};

@@ -1,6 +1,6 @@
 //! Plain channels of one value: the oneshot, whose first receive takes the value, and the broadcast, whose receives are all given it.
-use crate::waiters::{ALL, PlainWaiters, Stage};
 use crate::cases::{Case, Reference, agree};
+use crate::waiters::{ALL, PlainWaiters, Stage};
 use fi_channels::{ClonesValue, GivesValue, OneValueState, TakesValue};
 use fi_parts::{Fault, Slot};
 use fi_run::{Answer, OneshotCall};

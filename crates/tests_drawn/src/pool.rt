@@ -1,6 +1,6 @@
 //! A plain worker pool, in which at most two jobs wait.
-use crate::waiters::{ALL, PlainWaiters, Stage};
 use crate::cases::{Case, Reference, agree};
+use crate::waiters::{ALL, PlainWaiters, Stage};
 use fi_parts::{Fault, Slot};
 use fi_run::{Answer, PoolCall, PoolState};
 use std::alloc::Global;

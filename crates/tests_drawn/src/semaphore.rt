@@ -1,6 +1,6 @@
 //! A plain semaphore, fair or unfair.
-use crate::waiters::{ALL, PlainWaiters, Stage};
 use crate::cases::{Case, Reference, agree};
+use crate::waiters::{ALL, PlainWaiters, Stage};
 use fi_locks::SemaphoreState;
 use fi_parts::{Fault, Slot};
 use fi_run::{Answer, SemaphoreCall};

@@ -1,6 +1,6 @@
 //! A plain state broadcast.
-use crate::waiters::{ALL, PlainWaiters, Stage};
 use crate::cases::{Case, Reference, agree};
+use crate::waiters::{ALL, PlainWaiters, Stage};
 use fi_channels::StateBroadcastState;
 use fi_parts::{Fault, Slot, StateId};
 use fi_run::{Answer, StateCall};

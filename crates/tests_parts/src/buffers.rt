@@ -153,7 +153,10 @@ fn keeps_order<B: RingBuf<Item = u32>>(buffer: &mut B) -> bool {
         && buffer.len() == 1
         && takes(buffer, &[3])
         && buffer.is_empty()
-        && fills(buffer, &[(4, true), (5, true), (6, true), (7, true), (8, false)])
+        && fills(
+            buffer,
+            &[(4, true), (5, true), (6, true), (7, true), (8, false)],
+        )
         && empties(buffer, &[(4, 4), (5, 3), (6, 2), (7, 1), (8, 0)])
         && take(buffer).is_none()
 }
