@@ -88,6 +88,7 @@ impl<B: RingBuf> RingBuf for Clearable<B> {
         }
     }
 
+    #[inline(always)]
     fn push(&mut self, item: B::Item) -> Result<(), NoRoom<B::Item>> {
         match &mut self.kept {
             Some(kept) => kept.push(item),
@@ -95,6 +96,7 @@ impl<B: RingBuf> RingBuf for Clearable<B> {
         }
     }
 
+    #[inline(always)]
     fn pop(&mut self) -> B::Item {
         match &mut self.kept {
             Some(kept) => kept.pop(),

@@ -79,6 +79,7 @@ impl<T: Drop> RingBuf for FixedHeapBuf<T> {
         self.block.len() != self.block.capacity()
     }
 
+    #[inline(always)]
     fn push(&mut self, item: T) -> Result<(), NoRoom<T>>
         requires { length self.old.items < self.old.capacity }
         ensures ok { IsOk result }
@@ -89,6 +90,7 @@ impl<T: Drop> RingBuf for FixedHeapBuf<T> {
         Ok(())
     }
 
+    #[inline(always)]
     fn pop(&mut self) -> T {
         self.block.pop()
     }
