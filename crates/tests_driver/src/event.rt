@@ -30,9 +30,7 @@ impl<'a, R: Wait> Opened<R, EventCall<u64>>
     fn apply(&mut self, rt: &R, tasks: &mut Tasks, call: EventCall<u64>) -> Seen {
         match call {
             EventCall::Wait => self.waits.keep(self.event.wait()),
-            EventCall::Poll(Slot(number), waker) => {
-                self.waits.poll(rt, tasks, number, waker)
-            }
+            EventCall::Poll(Slot(number), waker) => { self.waits.poll(rt, tasks, number, waker) }
             EventCall::Cancel(Slot(number)) => self.waits.let_go(number),
             EventCall::Set => {
                 self.event.set();

@@ -147,7 +147,11 @@ pub enum Played {
 impl Played {
     /// The first of both that did not go as listed; the second, if the first did.
     pub fn and(self, other: Self) -> Self {
-        if self == Played::AsListed { other } else { self }
+        if self == Played::AsListed {
+            other
+        } else {
+            self
+        }
     }
 }
 

@@ -2,12 +2,12 @@
 
 use crate::Seen;
 use crate::answers::{IntoAnswer, of_poll};
-use crate::pollable::{Pollable, PollableStream};
+use crate::pollable::Pollable;
 use crate::tasks::{TaskSet, Tasks};
 use fi_parts::{Fault, NoRoom, Slot};
 use fi_run::Answer;
 use futures::task::Poll;
-use futures::StreamExt;
+use futures::{Stream, StreamExt};
 use std::alloc::AllocGlobal;
 use std::sync::Wait;
 
@@ -125,7 +125,7 @@ where
     }
 }
 
-impl<S: PollableStream> Futures<S>
+impl<S: Stream> Futures<S>
 where
     Option<S::Item>: IntoAnswer,
 {
@@ -136,7 +136,9 @@ where
         tasks: &mut Tasks,
         number: usize,
         waker: u64,
-    ) -> Seen {
+    ) -> Seen
+        requires { (any : S) → S.can_poll any }
+    {
         let task = waker as usize;
         let Some(stream) = self.polled_by(number, task) else {
             return Seen::Lost;

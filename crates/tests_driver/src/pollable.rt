@@ -1,13 +1,9 @@
-//! Futures and streams that may be polled at any time.
-ghost use Rattle.std.specs.Prelude.{⊤};
+//! Futures that may be polled at any time.
 
-use fi_channels::ChannelState;
-use fi_parts::buffer::RingBuf;
 use fi_sync::{
-    ChannelStream, CountedSemaphore, HasMonitor, MutexLockFuture, PollSlot, SemaphoreAcquireFutureOf,
-    SlotFuture,
+    CountedSemaphore, HasMonitor, MutexLockFuture, PollSlot, SemaphoreAcquireFutureOf, SlotFuture,
 };
-use futures::{Future, Stream};
+use futures::Future;
 use std::sync::Wait;
 use std::sync::ledger::Ledger;
 
@@ -29,14 +25,5 @@ impl<R: Wait, L: Ledger> Pollable for MutexLockFuture<'_, u64, R, L> {
 
 impl<M: HasMonitor<State = CountedSemaphore<L>>, L: Ledger> Pollable
     for SemaphoreAcquireFutureOf<M, L> {
-    ghost is_pollable = { λ _. tt };
-}
-
-/// A stream that may be polled at any time.
-pub trait PollableStream: Stream {
-    ghost is_pollable: { (any : Self) → Self.can_poll any };
-}
-
-impl<B: RingBuf<Item = u64>, R: Wait> PollableStream for ChannelStream<'_, u64, B, R> {
     ghost is_pollable = { λ _. tt };
 }

@@ -1,5 +1,6 @@
 //! Calls that may be refused memory: they are made with ever more of it left, by taking all that the process can have.
 
+pub mod blocking;
 pub mod cases;
 pub mod hoard;
 pub mod making;

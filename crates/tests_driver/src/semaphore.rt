@@ -51,10 +51,7 @@ impl<'a, R: Wait, L: Ledger> Permits for &'a Semaphore<R, L> {
         semaphore.acquire(permits)
     }
 
-    fn try_acquire(
-        &self,
-        permits: usize,
-    ) -> Result<Option<SemaphoreReleaser<'a, R, L>>, Fault> {
+    fn try_acquire(&self, permits: usize) -> Result<Option<SemaphoreReleaser<'a, R, L>>, Fault> {
         let semaphore = *self;
         Ok(semaphore.try_acquire(permits))
     }
@@ -146,7 +143,12 @@ impl<S, F: Drop, H: Drop> OpenedSemaphore<S, F, H> {
     }
 
     // Keeps a releaser that was granted; then this is what is answered.
-    fn hold(&mut self, releaser: H, permits: usize, answer: Answer<u64, u64>) -> Option<Answer<u64, u64>> {
+    fn hold(
+        &mut self,
+        releaser: H,
+        permits: usize,
+        answer: Answer<u64, u64>,
+    ) -> Option<Answer<u64, u64>> {
         match self.held.push(Held { permits, releaser }) {
             Ok(()) => Some(answer),
             Err(_) => None,
@@ -154,7 +156,11 @@ impl<S, F: Drop, H: Drop> OpenedSemaphore<S, F, H> {
     }
 
     // Keeps what a poll of the future with this number was granted.
-    fn granted(&mut self, number: usize, polled: Poll<Result<H, Fault>>) -> Option<Answer<u64, u64>> {
+    fn granted(
+        &mut self,
+        number: usize,
+        polled: Poll<Result<H, Fault>>,
+    ) -> Option<Answer<u64, u64>> {
         let permits = self.needs.get(number).copied()?;
         match polled {
             Poll::Ready(Ok(releaser)) => self.hold(releaser, permits, Answer::Ready),

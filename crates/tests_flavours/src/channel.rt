@@ -3,7 +3,10 @@
 use crate::plays::assert_plays;
 use fi_parts::buffer::{ArrayBuf, GrowingHeapBuf};
 use tests_driver::channel::ChannelOver;
-use tests_driver::rows::channel::{CANCELLED_SEND, CANCELS_HELD, CANCEL_UNPOLLED, CLOSE, CLOSE_WAKES_ALL, FULL_OR_CLOSED, RENDEZVOUS, TOLD_RECEIVE_PASSED, TWO_PLACES};
+use tests_driver::rows::channel::{
+    CANCEL_UNPOLLED, CANCELLED_SEND, CANCELS_HELD, CLOSE, CLOSE_WAKES_ALL, FULL_OR_CLOSED,
+    RENDEZVOUS, TOLD_RECEIVE_PASSED, TWO_PLACES,
+};
 
 #[test]
 fn channel_two_places(rt: HostRuntime) {

@@ -2,7 +2,10 @@
 
 use crate::plays::assert_plays;
 use tests_driver::event::Event;
-use tests_driver::rows::event::{CANCELS, CANCEL_TOLD, DROPPED_WAITS, ENDED_WAIT, HELD_WAKE, NEWEST_WAKER, SAME_TASK, SET_AND_RESET};
+use tests_driver::rows::event::{
+    CANCEL_TOLD, CANCELS, DROPPED_WAITS, ENDED_WAIT, HELD_WAKE, NEWEST_WAKER, SAME_TASK,
+    SET_AND_RESET,
+};
 
 #[test]
 fn event_set_and_reset(rt: HostRuntime) {

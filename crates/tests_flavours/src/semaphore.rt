@@ -6,7 +6,10 @@ use std::alloc::AllocGlobal;
 use std::process::Abort;
 use std::random::RandomSource;
 use std::sync::Wait;
-use tests_driver::rows::semaphore::{DISARM, FAIR_CANCEL, FAIR_ROUND_AFTER_CANCEL, FAIR_STAYS, LIMITS, TELLS_SEVERAL, TOLD_STAYS_FIRST, UNFAIR_MIXED, UNFAIR_PASSES, ZERO_PERMITS};
+use tests_driver::rows::semaphore::{
+    DISARM, FAIR_CANCEL, FAIR_ROUND_AFTER_CANCEL, FAIR_STAYS, LIMITS, TELLS_SEVERAL,
+    TOLD_STAYS_FIRST, UNFAIR_MIXED, UNFAIR_PASSES, ZERO_PERMITS,
+};
 use tests_driver::semaphore::{ByOwners, ByReference, Opening};
 use tests_driver::worked::Entry;
 

@@ -1,7 +1,10 @@
 //! The rows of the channel of many values.
 
 use super::plays::assert_ends_play;
-use tests_driver::rows::channel::{CANCELLED_SEND, CANCELS_HELD, CANCEL_UNPOLLED, CLOSE, CLOSE_WAKES_ALL, FULL_OR_CLOSED, RENDEZVOUS, TOLD_RECEIVE_PASSED, TWO_PLACES};
+use tests_driver::rows::channel::{
+    CANCEL_UNPOLLED, CANCELLED_SEND, CANCELS_HELD, CLOSE, CLOSE_WAKES_ALL, FULL_OR_CLOSED,
+    RENDEZVOUS, TOLD_RECEIVE_PASSED, TWO_PLACES,
+};
 use tests_ends_driver::channel_ends::Closer;
 
 const CLOSERS: [Closer; 2] = [Closer::Sender, Closer::Receiver];

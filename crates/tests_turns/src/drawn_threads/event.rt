@@ -27,6 +27,13 @@ fn drawn_calls_on_an_event(rt: HostRuntime) {
         makings: &MAKINGS,
         choices: &CHOICES,
     };
-    let tried = play_lists::<_, EventState<u64>, _>(&rt, &Event { is_set: false }, false, calls, 2_000, 3);
+    let tried = play_lists::<_, EventState<u64>, _>(
+        &rt,
+        &Event { is_set: false },
+        false,
+        calls,
+        2_000,
+        3,
+    );
     assert!(rt; tried.are_right(), "{tried:?}");
 }

@@ -7,14 +7,7 @@ use tests_driver::one_value::{BROADCAST, ONESHOT};
 
 #[test]
 fn drawn_calls_on_a_oneshot(rt: HostRuntime) {
-    let tried = play_lists::<_, OneshotState<u64, u64>, _>(
-        &rt,
-        &ONESHOT,
-        (),
-        borrowed(),
-        2_000,
-        3,
-    );
+    let tried = play_lists::<_, OneshotState<u64, u64>, _>(&rt, &ONESHOT, (), borrowed(), 2_000, 3);
     assert!(rt; tried.are_right(), "{tried:?}");
 }
 

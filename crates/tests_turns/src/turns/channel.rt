@@ -1,16 +1,16 @@
 //! The channel of many values, of one place: each thread has a send and a receive.
 
 use super::{Choices, Holds, LISTS, List, Opens, TakesTurns, plays, tried_turns};
-use fi_parts::Slot;
 use fi_channels::ChannelState;
+use fi_parts::Slot;
 use fi_parts::buffer::{ArrayBuf, RingBuf};
-use fi_sync::GenericChannel;
 use fi_run::ChannelCall;
-use tests_driver::channel::OpenedChannel;
+use fi_sync::GenericChannel;
 use std::alloc::AllocGlobal;
 use std::process::Abort;
 use std::random::RandomSource;
 use std::sync::{Barrier, Wait};
+use tests_driver::channel::OpenedChannel;
 
 const CHOICES: Choices<'static, ChannelCall<u64, u64>> = Choices {
     makings: &[
@@ -52,13 +52,7 @@ impl<R: Wait + Abort + RandomSource + AllocGlobal, B: RingBuf<Item = u64>> Takes
         is_first: bool,
         list: List<ChannelCall<u64, u64>>,
     ) -> bool {
-        plays(
-            rt,
-            barrier,
-            OpenedChannel::new(rt, self),
-            is_first,
-            list,
-        )
+        plays(rt, barrier, OpenedChannel::new(rt, self), is_first, list)
     }
 }
 

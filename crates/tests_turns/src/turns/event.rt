@@ -1,15 +1,15 @@
 //! The event.
 
 use super::{Choices, Holds, LISTS, List, Opens, TakesTurns, plays, tried_turns};
+use fi_channels::EventState;
 use fi_parts::Slot;
 use fi_run::EventCall;
-use fi_channels::EventState;
 use fi_sync::ManualResetEvent;
-use tests_driver::event::OpenedEvent;
 use std::alloc::AllocGlobal;
 use std::process::Abort;
 use std::random::RandomSource;
 use std::sync::{Barrier, Wait};
+use tests_driver::event::OpenedEvent;
 
 const FIRST: [EventCall<u64>; 6] = [
     EventCall::Poll(Slot(0), 1),

@@ -2,12 +2,10 @@
 ghost use Rattle.std.specs.Prelude.{◌≡◌};
 
 use super::{Choices, Holds, LISTS, List, TakesTurns, next_turns, play_at, plays};
+use fi_locks::MutexState;
 use fi_parts::Slot;
 use fi_run::{Answer, MutexCall};
-use fi_locks::MutexState;
 use fi_sync::Mutex;
-use tests_driver::drawn::Draws;
-use tests_driver::mutex::OpenedMutex;
 use std::alloc::AllocGlobal;
 use std::marker::Brand;
 use std::process::Abort;
@@ -15,6 +13,8 @@ use std::random::RandomSource;
 use std::sync::ledger::{Blank, Ledger};
 use std::sync::{Barrier, Wait};
 use std::thread::Threads;
+use tests_driver::drawn::Draws;
+use tests_driver::mutex::OpenedMutex;
 
 const FIRST: [MutexCall<u64, u64>; 6] = [
     MutexCall::Poll(Slot(0), 1),
@@ -84,7 +84,8 @@ where
     let mut draws = Draws(1);
     for number in 0..LISTS {
         let opening = (7, is_fair);
-        let Some(turns) = next_turns::<R, MutexState<u64, u64>>(rt, opening, choices, &mut draws) else {
+        let Some(turns) = next_turns::<R, MutexState<u64, u64>>(rt, opening, choices, &mut draws)
+        else {
             return number;
         };
         let list = List {

@@ -1,17 +1,15 @@
 //! The oneshot and the oneshot broadcast.
 
 use super::{Choices, Holds, LISTS, List, Opens, TakesTurns, plays, tried_turns};
+use fi_channels::{ClonesValue, GivesValue, OneshotBroadcastState, OneshotState, TakesValue};
 use fi_parts::Slot;
-use fi_channels::{
-    ClonesValue, GivesValue, OneshotBroadcastState, OneshotState, TakesValue,
-};
-use fi_sync::OneValueChannel;
 use fi_run::OneshotCall;
-use tests_driver::one_value::OpenedOneValue;
+use fi_sync::OneValueChannel;
 use std::alloc::AllocGlobal;
 use std::process::Abort;
 use std::random::RandomSource;
 use std::sync::{Barrier, Wait};
+use tests_driver::one_value::OpenedOneValue;
 
 const CHOICES: Choices<'static, OneshotCall<u64, u64>> = Choices {
     makings: &[OneshotCall::Receive; 4],
@@ -46,13 +44,7 @@ impl<R: Wait + Abort + RandomSource + AllocGlobal, G: GivesValue<u64>> TakesTurn
         is_first: bool,
         list: List<OneshotCall<u64, u64>>,
     ) -> bool {
-        plays(
-            rt,
-            barrier,
-            OpenedOneValue::new(rt, self),
-            is_first,
-            list,
-        )
+        plays(rt, barrier, OpenedOneValue::new(rt, self), is_first, list)
     }
 }
 

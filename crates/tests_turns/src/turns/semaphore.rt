@@ -2,12 +2,10 @@
 ghost use Rattle.std.specs.Prelude.{◌≡◌};
 
 use super::{Choices, Holds, LISTS, List, TakesTurns, next_turns, play_at, plays};
+use fi_locks::SemaphoreState;
 use fi_parts::Slot;
 use fi_run::{Answer, SemaphoreCall};
-use fi_locks::SemaphoreState;
 use fi_sync::Semaphore;
-use tests_driver::drawn::Draws;
-use tests_driver::semaphore::OpenedSemaphore;
 use std::alloc::AllocGlobal;
 use std::marker::Brand;
 use std::process::Abort;
@@ -15,6 +13,8 @@ use std::random::RandomSource;
 use std::sync::ledger::{Blank, Ledger};
 use std::sync::{Barrier, Wait};
 use std::thread::Threads;
+use tests_driver::drawn::Draws;
+use tests_driver::semaphore::OpenedSemaphore;
 
 const FIRST: [SemaphoreCall<u64>; 7] = [
     SemaphoreCall::Poll(Slot(0), 1),
@@ -57,13 +57,7 @@ impl<R: Wait + Abort + RandomSource + AllocGlobal, L: Ledger> TakesTurns<R> for 
         is_first: bool,
         list: List<SemaphoreCall<u64>>,
     ) -> bool {
-        plays(
-            rt,
-            barrier,
-            OpenedSemaphore::new(rt, self),
-            is_first,
-            list,
-        )
+        plays(rt, barrier, OpenedSemaphore::new(rt, self), is_first, list)
     }
 }
 
@@ -93,7 +87,8 @@ where
     let mut draws = Draws(1);
     for number in 0..LISTS {
         let opening = (1, is_fair);
-        let Some(turns) = next_turns::<R, SemaphoreState<u64>>(rt, opening, choices, &mut draws) else {
+        let Some(turns) = next_turns::<R, SemaphoreState<u64>>(rt, opening, choices, &mut draws)
+        else {
             return number;
         };
         let list = List {

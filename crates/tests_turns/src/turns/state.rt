@@ -1,16 +1,16 @@
 //! The state broadcast.
 
 use super::{Choices, Holds, LISTS, List, Opens, TakesTurns, plays, tried_turns};
-use fi_parts::Slot;
 use fi_channels::StateBroadcastState;
-use fi_sync::StateBroadcastChannel;
+use fi_parts::Slot;
 use fi_run::StateCall;
-use tests_driver::drawn::state::makings;
-use tests_driver::state::OpenedState;
+use fi_sync::StateBroadcastChannel;
 use std::alloc::AllocGlobal;
 use std::process::Abort;
 use std::random::RandomSource;
 use std::sync::{Barrier, Wait};
+use tests_driver::drawn::state::makings;
+use tests_driver::state::OpenedState;
 
 const FIRST: [StateCall<u64, u64>; 6] = [
     StateCall::Poll(Slot(0), 1),

@@ -1,14 +1,14 @@
 //! The timer, whose clock the threads share too: it stands at each call's moment.
 
 use super::{Choices, Holds, LISTS, List, Opens, TakesTurns, plays, tried_turns};
+use fi_locks::TimerState;
 use fi_parts::Slot;
 use fi_run::TimerCall;
-use tests_driver::timer::{OpenedTimer, SharedTimer};
-use fi_locks::TimerState;
 use std::alloc::AllocGlobal;
 use std::process::Abort;
 use std::random::RandomSource;
 use std::sync::{Barrier, Wait};
+use tests_driver::timer::{OpenedTimer, SharedTimer};
 
 const CHOICES: Choices<'static, TimerCall<u64>> = Choices {
     makings: &[
