@@ -1,5 +1,5 @@
-//! Threads that wait for each other many times: no value, no permit and no wake is lost. Mutex, semaphore and channel stand in the tests
-//! of `fi_sync`.
+//! Threads that wait for each other many times: no value, no permit and no wake is lost. Mutex, semaphore and channel stand in
+//! `tests_sync`.
 ghost use Rattle.std.specs.Prelude.{◌≡◌};
 
 use futures::StreamExt;
