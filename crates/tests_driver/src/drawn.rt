@@ -134,6 +134,34 @@ impl Lists {
     }
 }
 
+// Plays the list that is drawn next, of so many calls, on a type and on the plain state.
+fn play_list<R, P, F>(
+    rt: &R,
+    tasks: &mut Tasks,
+    flavour: &F,
+    opening: P::Opening,
+    calls: Calls<P::Call>,
+    draws: Draws,
+    count: usize,
+) -> Played
+where
+    R: Wait + AllocGlobal,
+    P: Primitive<Answer = Answer<u64, u64>> + Drop,
+    P::Call: Copy,
+    F: Flavour<R, Call = P::Call>,
+{
+    let Ok(mut state) = P::open(rt.alloc(), opening) else {
+        return Played::NoMemory;
+    };
+    let mut drawn = Drawn {
+        state: &mut state,
+        calls,
+        draws,
+        count,
+    };
+    flavour.play(rt, tasks, &mut drawn)
+}
+
 /// Draws so many lists of so many calls, and plays each on a type and on the plain state.
 pub fn play_lists<R, P, F>(
     rt: &R,
@@ -156,16 +184,7 @@ where
     let mut draws = Draws(1);
     let mut tried = 0u64;
     for number in 0..lists {
-        let Ok(mut state) = P::open(rt.alloc(), opening) else {
-            return Lists::NoMemory;
-        };
-        let mut drawn = Drawn {
-            state: &mut state,
-            calls,
-            draws,
-            count,
-        };
-        match flavour.play(rt, &mut tasks, &mut drawn) {
+        match play_list::<R, P, F>(rt, &mut tasks, flavour, opening, calls, draws, count) {
             Played::AsListed => tried = tried.wrapping_add(1),
             Played::DiffersAt(place) => return Lists::DifferAt(number, place),
             Played::LeftOut => (),

@@ -167,21 +167,14 @@ where
     } else {
         answer
     };
-    if answer != unrefused.apply(wanted)
-        || !agree_on(
-            &mut primitive,
-            &mut unrefused,
-            scene.after(alloc)?,
-            scene.after(alloc)?,
-        )
-        || !agree_on_wakers(&mut primitive, &mut unrefused)
-    {
-        return Some(Try::Differs);
-    }
-    Some(if is_refused {
-        Try::Refused
-    } else {
-        Try::Answered
+    let (after, same) = (scene.after(alloc)?, scene.after(alloc)?);
+    let is_same = answer == unrefused.apply(wanted)
+        && agree_on(&mut primitive, &mut unrefused, after, same)
+        && agree_on_wakers(&mut primitive, &mut unrefused);
+    Some(match (is_same, is_refused) {
+        (false, _) => Try::Differs,
+        (true, true) => Try::Refused,
+        (true, false) => Try::Answered,
     })
 }
 
