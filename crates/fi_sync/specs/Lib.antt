@@ -6,3 +6,4 @@ pub mod Timed
 pub mod Locked
 pub mod Granted
 pub mod Blanks
+pub mod Received

@@ -1,5 +1,5 @@
 -- What a contract sees of a future of a primitive that threads share.
-use Rattle.std.specs.Prelude.{◌≡◌, ◌⊎◌, ℕ, Bool, true, false, Option, Some, None, is_some, MatchOption, Result, Err, ⊤}
+use Rattle.std.specs.Prelude.{◌≡◌, ◌⊎◌, ℕ, Bool, true, false, Option, Some, None, is_some, MatchOption, Result, Ok, Err, IfOk, ⊤}
 use Rattle.futures.specs.Poll.{OnPending}
 use Rattle.futures.specs.declared.task.Poll.{Poll}
 use Rattle.futures.specs.declared.task.Poll.TheVariants.{Ready, Pending}
@@ -108,6 +108,19 @@ abbrev pub IsUntimedAnswer : {S W A : Type 0} → (S → ℕ → Option W → Po
     → Option ℕ → Bool → Bool → Poll A → Type 0
 IsUntimedAnswer polls no_memory own has_ended lacks_waker answer =
     IsAnswer polls (WouldWait polls) no_memory own has_ended lacks_waker answer
+
+-- Some hold of the lock led from one state to another so.
+abbrev pub InSomeHold : {S : Type 0} → (S → S → Type 0) → Type 0
+InSomeHold {S} leads = (old : S) × (new : S) × leads old new
+
+-- What a future may give: the output of a ready poll in some hold of the lock, or that it has no memory for a waker.
+abbrev pub IsGiven : {S W A : Type 0} → (S → ℕ → Option W → Poll A → S → Type 0) → A → A → Type 0
+IsGiven {S} polls no_memory output =
+    (output ≡ no_memory) ⊎ ((old : S) × (name : ℕ) × (new : S) × IsPolled polls name (Ready output) old new)
+
+-- What a call that blocks answers, if it is not refused: what some hold of the lock showed, or what a poll gave.
+abbrev pub WaitedFor : {S W A : Type 0} → (A → Type 0) → (S → ℕ → Option W → Poll (Result A Fault) → S → Type 0) → Result A Fault → Type 0
+WaitedFor at_once polls answer = IfOk answer (λ given. at_once given ⊎ IsGiven polls (Err Fault.NoMemory) (Ok given))
 
 -- whether a poll under a slot was answered, and the answer ends its future
 abbrev pub is_over : {A B : Type 0} → (A → Bool) → Option (Poll A × B) → Bool

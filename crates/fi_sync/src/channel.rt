@@ -1,9 +1,12 @@
 //! The channel of many values that threads share.
-ghost use Rattle.std.specs.Prelude.{◌≡◌, IfOk, IfErr, false};
+ghost use Rattle.std.specs.Prelude.{◌≡◌, Option, IfOk, IfErr, false};
+ghost use Rattle.futures.specs.declared.task.waker.Waker.{Waker};
 ghost use Rattle.fi_parts.specs.declared.errors.Fault.{Fault};
+ghost use Rattle.fi_channels.specs.Channel.{Closes, TriesReceive, TriesSend};
 ghost use Rattle.fi_channels.specs.ChannelErrors.{value_in, is_full};
 ghost use Rattle.fi_channels.specs.declared.channel_errors.TrySendError.{TrySendError};
-ghost use Rattle.fi_sync.specs.Waiting.{IsNew};
+ghost use Rattle.fi_sync.specs.Received.{PollsReceive, ReceivesAtOnce};
+ghost use Rattle.fi_sync.specs.Waiting.{InSomeHold, IsNew, WaitedFor};
 
 use crate::blocking::{Blocking, wait_for};
 use crate::channel_stream::ChannelStream;
@@ -98,6 +101,7 @@ impl<T: Drop, B: RingBuf<Item = T>, R: Wait> GenericChannel<T, B, R> {
     /// Sends a value at once, if the channel is open and its buffer has room, and wakes the oldest receive that waits. Else the
     /// value comes back: with `Closed`, with `Full`, or with `NoMemory` where the buffer could not grow. Keeps `GenericChannel::try_send`.
     pub fn try_send(&self, value: T) -> Result<(), TrySendError<T>>
+        ensures tried { InSomeHold (λ old. TriesSend {W = Option Waker} old value result) }
         ensures handed_back { IfErr result (λ refused. value_in refused ≡ value) }
     {
         self.monitor.call(value, ChannelState::try_send)
@@ -105,13 +109,17 @@ impl<T: Drop, B: RingBuf<Item = T>, R: Wait> GenericChannel<T, B, R> {
 
     /// Receives the oldest value at once, if there is one. Else `Closed` where the channel is closed, or `Empty`. Keeps
     /// `GenericChannel::try_receive`.
-    pub fn try_receive(&self) -> Result<T, TryReceiveError> {
+    pub fn try_receive(&self) -> Result<T, TryReceiveError>
+        ensures tried { InSomeHold (λ old. TriesReceive {W = Option Waker} old result) }
+    {
         self.monitor.call((), |channel, ()| channel.try_receive())
     }
 
     /// Closes the channel and wakes all receives and then all sends that wait. `AlreadyClosed` where it was closed; then nothing
     /// has changed. Keeps `GenericChannel::close`.
-    pub fn close(&self) -> CloseStatus {
+    pub fn close(&self) -> CloseStatus
+        ensures closed { InSomeHold (λ old. Closes {T = T} {W = Option Waker} old result) }
+    {
         self.monitor.call((), |channel, ()| channel.close())
     }
 
@@ -186,6 +194,11 @@ impl<T: Drop, B: RingBuf<Item = T>, R: Blocking> GenericChannel<T, B, R> {
     pub fn send_blocking(&self, value: T) -> Result<(), TrySendError<T>>
         ensures never_full { IfErr result (λ refused. is_full refused ≡ false) }
     {
+        let value = match self.try_send(value) {
+            Ok(()) => return Ok(()),
+            Err(TrySendError::Full(value)) => value,
+            Err(refused) => return Err(refused),
+        };
         match self.send_or_hand_back(value) {
             Ok(mut send) => send.wait_blocking(self.monitor.runtime()),
             Err(refused) => Err(refused),
@@ -207,7 +220,14 @@ impl<T: Drop, B: RingBuf<Item = T>, R: Blocking> GenericChannel<T, B, R> {
 
     /// Blocks this thread until a value comes, and receives it; None once the channel is closed and empty. Refused with
     /// `NoMemory` where no future or no executor can be made; then it took nothing.
-    pub fn receive_blocking(&self) -> Result<Option<T>, Fault> {
+    pub fn receive_blocking(&self) -> Result<Option<T>, Fault>
+        ensures waited { WaitedFor ReceivesAtOnce PollsReceive result }
+    {
+        match self.try_receive() {
+            Ok(value) => return Ok(Some(value)),
+            Err(TryReceiveError::Closed) => return Ok(None),
+            Err(TryReceiveError::Empty) => {}
+        }
         let receive = self.receive()?;
         wait_for(self.monitor.runtime(), receive)?
     }

@@ -1,7 +1,9 @@
 //! A manual reset event that threads share.
-ghost use Rattle.std.specs.Prelude.{◌≡◌, IfOk, IfErr};
+ghost use Rattle.std.specs.Prelude.{◌≡◌, true, Option, IfOk, IfErr};
+ghost use Rattle.futures.specs.declared.task.waker.Waker.{Waker};
+ghost use Rattle.fi_channels.specs.Event.{EventMachine, can_be_polled, is_set, Polls, Sets, Resets};
 ghost use Rattle.fi_parts.specs.declared.errors.Fault.{Fault};
-ghost use Rattle.fi_sync.specs.Waiting.{IsNew};
+ghost use Rattle.fi_sync.specs.Waiting.{InSomeHold, IsNew, PollsAt, WaitedFor};
 
 use crate::blocking::{Blocking, wait_for};
 use crate::event_future::WaitForEventFuture;
@@ -57,17 +59,23 @@ impl<R: Wait> ManualResetEvent<R> {
     /// Sets the event and wakes each wait that was registered, the oldest first. A set event stays as it is.
     ///
     /// Keeps `ManualResetEvent::set`.
-    pub fn set(&self) {
+    pub fn set(&self)
+        ensures set { InSomeHold (Sets {W = Option Waker}) }
+    {
         self.monitor.call((), |event, ()| event.set());
     }
 
     /// Clears the flag; waits that were told stay told. Keeps `ManualResetEvent::reset`.
-    pub fn reset(&self) {
+    pub fn reset(&self)
+        ensures reset { InSomeHold (Resets {W = Option Waker}) }
+    {
         self.monitor.call((), |event, ()| event.reset());
     }
 
     /// Returns `true` if the event was set when it was looked at. Keeps `ManualResetEvent::is_set`.
-    pub fn is_set(&self) -> bool {
+    pub fn is_set(&self) -> bool
+        ensures shown { (held : EventMachine (Option Waker)) × (result ≡ is_set held) }
+    {
         self.monitor.call((), |event, ()| event.is_set())
     }
 
@@ -85,7 +93,14 @@ impl<R: Wait> ManualResetEvent<R> {
 
 impl<R: Blocking> ManualResetEvent<R> {
     /// Blocks this thread until the event is set. Refused with `NoMemory` where no future or no executor can be made.
-    pub fn wait_blocking(&self) -> Result<(), Fault> {
+    pub fn wait_blocking(&self) -> Result<(), Fault>
+        // Some hold of the lock showed the event set, or had a poll of a wait that was ready.
+        ensures waited { WaitedFor (λ _. (held : EventMachine (Option Waker)) × (is_set held ≡ true))
+            (PollsAt can_be_polled (Polls {W = Option Waker})) result }
+    {
+        if self.is_set() {
+            return Ok(());
+        }
         let wait = self.wait()?;
         wait_for(self.monitor.runtime(), wait)?
     }

@@ -120,6 +120,9 @@ impl<T: Drop, R: Blocking, L: Ledger> Mutex<T, R, L> {
     /// Blocks this thread until the mutex is free for it, and locks it: its guard. Refused with `NoMemory` where no future or no
     /// executor can be made.
     pub fn lock_blocking(&self) -> Result<MutexGuard<'_, T, R, L>, Fault> {
+        if let Some(guard) = self.try_lock() {
+            return Ok(guard);
+        }
         let lock = self.lock()?;
         wait_for(self.monitor.runtime(), lock)?
     }

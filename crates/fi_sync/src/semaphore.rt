@@ -118,6 +118,9 @@ impl<R: Blocking, L: Ledger> Semaphore<R, L> {
     /// Blocks this thread until this many permits are granted: their releaser. Refused with `NoMemory` where no future or no
     /// executor can be made.
     pub fn acquire_blocking(&self, permits: usize) -> Result<SemaphoreReleaser<'_, R, L>, Fault> {
+        if let Some(releaser) = self.try_acquire(permits) {
+            return Ok(releaser);
+        }
         let acquire = self.acquire(permits)?;
         wait_for(self.monitor.runtime(), acquire)?
     }

@@ -146,6 +146,9 @@ impl<R: Wait + Drop, L: Ledger> SharedSemaphore<R, L> {
     where
         R: Blocking,
     {
+        if let Some(releaser) = self.try_acquire(permits)? {
+            return Ok(releaser);
+        }
         let acquire = self.acquire(permits)?;
         wait_for(self.monitor.runtime(), acquire)?
     }

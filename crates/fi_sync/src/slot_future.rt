@@ -2,11 +2,11 @@
 ghost use Rattle.std.specs.Prelude.{◌≡◌, ℕ, Bool, Option, Err, Some, None, true, false, IfSome, IfNone, is_ok, is_some, is_none};
 ghost use Rattle.futures.specs.declared.task.Poll.{Poll};
 ghost use Rattle.futures.specs.declared.task.waker.Waker.{Waker};
-ghost use Rattle.futures.specs.Poll.{OnPending};
+ghost use Rattle.futures.specs.Poll.{IfReady, OnPending};
 ghost use Rattle.futures.specs.Task.{Covers, Keeps};
 ghost use Rattle.fi_parts.specs.declared.errors.Fault.{Fault};
 ghost use Rattle.fi_parts.specs.declared.phase.Leftover.{Leftover};
-ghost use Rattle.fi_sync.specs.Waiting.{ends, polled, IsAnswer, IsLeftBy, IsEndedBy};
+ghost use Rattle.fi_sync.specs.Waiting.{ends, polled, IsAnswer, IsGiven, IsLeftBy, IsEndedBy};
 
 use crate::claim::{Cancel, Claim};
 use crate::monitor::HasMonitor;
@@ -165,7 +165,10 @@ where
 
     ghost needs = { λ future source. source ≡ future.source };
 
+    ghost gives = { λ future. IsGiven M.State.polls (M.State.Output.refusal Fault.NoMemory) };
+
     fn poll(&mut self, cx: &mut Context<'_>) -> Poll<<M::State as PollSlot<K>>::Output>
+        ensures value { IfReady result (IsGiven M.State.polls (M.State.Output.refusal Fault.NoMemory)) }
         ensures registered { OnPending result (Covers cx.new (λ source. source ≡ self.new.source)) }
         ensures kept { Keeps cx.old cx.new }
         ensures stands { self.new ≡ polled M.State.Output.is_last self.old result }

@@ -117,6 +117,9 @@ impl<T: Clone, R: Blocking> StateBroadcastChannel<T, R> {
     /// channel is closed and has no such state. Refused with `NoMemory` where no future or no executor can be made, or there is
     /// no memory to clone the state into.
     pub fn receive_blocking(&self, seen: StateId) -> Result<Option<(StateId, T)>, Fault> {
+        if let Some(state) = self.try_receive(seen)? {
+            return Ok(Some(state));
+        }
         let receive = self.receive(seen)?;
         wait_for(self.monitor.runtime(), receive)?
     }

@@ -7,7 +7,10 @@ ghost use Rattle.futures.specs.declared.task.waker.Waker.{Waker};
 ghost use Rattle.fi_sync.specs.Waiting.{is_over, HadToWait, IsPolled, IsSettled};
 ghost use Rattle.fi_sync.specs.Wakes.{TakesFirst};
 
+mod owed;
 mod taken_apart;
+
+pub use owed::Owed;
 
 use crate::claim::{Claim, Fate};
 use crate::slot_future::{PollOutput, PollSlot, SlotPolled};
@@ -68,9 +71,7 @@ impl<S: HasOutbox> Guarded<S> {
         ensures { (shown : MutBor S) × (left : MutBor S) × F.post call shown input result.0 left
             × (result.1 ≡ length (S.wakers left.now)) }
     {
-        let (answer, count) = counted(&mut *self.state.lock(rt), input, call);
-        let owed = Owed { state: self, count };
-        (answer, owed)
+        counted(self, &mut *self.state.lock(rt), input, call)
     }
 
     /// Polls the future that has this claim, as `lend` makes a call. (The borrow checker doesn't cover a closure that does it.)
@@ -101,33 +102,16 @@ impl<S: HasOutbox> Guarded<S> {
         }
         let state = &mut *self.state.lock(rt);
         let (polled, fate) = poll_or_end(state, claim, cx, source, spare);
-        let owed = Owed {
-            state: self,
-            count: state.wake_count(),
-        };
-        (polled, fate, owed)
+        (polled, fate, Owed::of(self, state))
     }
 
     // Takes out the oldest waker, in a hold of the lock that is over when it comes back: a waker's wake and its drop could run its
     // owner's code (the kit's do not), which may take the same lock.
-    fn take_oldest<R: Wait>(&self, rt: &R) -> Option<PollWaker> {
+    fn take_oldest<R: Wait>(&self, rt: &R) -> Option<PollWaker>
+        ensures { (old : S) × (new : S) × TakesFirst (S.wakers old) result (S.wakers new) }
+    {
         self.state.lock(rt).next_wake()
     }
-}
-
-/// The duty to wake the wakers that a call left named. It has no `Drop`: only `pay` takes it, so a call that forgets to wake does
-/// not compile.
-pub struct Owed<'a, S: HasOutbox> {
-    state: &'a Guarded<S>,
-    count: usize,
-}
-
-impl<'a, S: HasOutbox> Model for Owed<'a, S> {
-    ghost use Rattle.std.specs.Prelude.{ℕ};
-
-    ghost Value = { ℕ };
-
-    ghost view = { λ owed. owed.count };
 }
 
 impl<S: HasOutbox> Owed<'_, S> {
@@ -136,15 +120,14 @@ impl<S: HasOutbox> Owed<'_, S> {
     ///
     /// Another thread may have taken some of them out; then it wakes them.
     pub fn pay<R: Wait>(self, rt: &R) {
-        let Owed { state, count } = self;
-        for _ in 0..count {
-            match state.take_oldest(rt) {
-                Some(Some(waker)) => waker.wake(),
-                // No future is registered without a waker, so this doesn't come.
-                Some(None) => {}
+        let mut owed = self;
+        while !owed.is_paid() {
+            match owed.pay_one(rt) {
+                Some(rest) => owed = rest,
                 None => return,
             }
         }
+        owed.end();
     }
 }
 
@@ -205,7 +188,12 @@ fn poll_or_register<K, S: PollSlot<K>>(
 }
 
 // Makes a call on a state, and counts the wakers that are named after it.
-fn counted<S: HasOutbox, I, A, F>(state: &mut S, input: I, call: F) -> (A, usize)
+fn counted<'a, S: HasOutbox, I, A, F>(
+    guarded: &'a Guarded<S>,
+    state: &mut S,
+    input: I,
+    call: F,
+) -> (A, Owed<'a, S>)
 where
     F: FnOnce(&mut S, I) -> A,
     requires { F.IsAlwaysCallable call }
@@ -213,6 +201,5 @@ where
         × F.post call shown input result.0 left × (result.1 ≡ length (S.wakers left.now)) }
 {
     let answer = call(state, input);
-    let count = state.wake_count();
-    (answer, count)
+    (answer, Owed::of(guarded, state))
 }

@@ -1,41 +1,8 @@
-//! Answers a script of calls on one primitive, line by line.
-//!
-//! - `program` is a whole run: arguments, input, output and status (`run_program`). `engine` answers a script (`run_script`) and each
-//!   of its lines, and `fault` says how that can fail.
-//! - `words`, `verb`, `label`, `numbers` and `row` read a line. `scripted` is what a primitive adds, a table from rows to calls; each
-//!   primitive has a module with its own (`event`, `channel`, ..), and `named` and `buffer` read what the first line opens.
-//! - `labelled` keeps futures by their labels; `texts` and `output` write the answers.
+//! Answers the script of calls on its standard input, line by line. `run_program` of `fi_scripts` is the whole run: arguments, input,
+//! output and status.
 #![tactic(auto)]
 
-mod buffer;
-mod channel;
-mod engine;
-mod event;
-mod fairness;
-mod fault;
-mod input;
-mod label;
-mod labelled;
-mod mutex;
-mod named;
-mod number;
-mod numbers;
-mod oneshot;
-mod output;
-mod pool;
-mod program;
-mod row;
-mod scripted;
-mod semaphore;
-mod state;
-#[cfg(test)]
-mod tests;
-mod texts;
-mod timer;
-mod verb;
-mod words;
-
-use program::run_program;
+use fi_scripts::run_program;
 use std::env;
 use std::process::ExitCode;
 

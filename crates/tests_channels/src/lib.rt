@@ -2,4 +2,20 @@
 #![tactic(auto)]
 
 #[cfg(test)]
-mod channels;
+mod beside;
+#[cfg(test)]
+mod by_slot;
+#[cfg(test)]
+mod channel;
+#[cfg(test)]
+mod clones;
+#[cfg(test)]
+mod debug;
+#[cfg(test)]
+mod drops;
+#[cfg(test)]
+mod kept;
+#[cfg(test)]
+mod local;
+#[cfg(test)]
+mod makings;

@@ -1,5 +1,5 @@
 //! Drawn lists of calls on what threads share: each call is answered as the plain state of the primitive answers it, and wakes those
-//! whose wakers the plain state hands out, in the same order. (The plain states are held against references of their own in `tests_run`.)
+//! whose wakers the plain state hands out, in the same order. (The plain states are held against references of their own in `tests_drawn`.)
 //!
 //! Left out are lists with a call on a future that was dropped, with a poll of one that has ended, and with an unlock or a give-back
 //! where nothing is held.

@@ -2,4 +2,16 @@
 #![tactic(auto)]
 
 #[cfg(test)]
-mod locks;
+mod debug;
+#[cfg(test)]
+mod drops;
+#[cfg(test)]
+mod kept;
+#[cfg(test)]
+mod makings;
+#[cfg(test)]
+mod mutex;
+#[cfg(test)]
+mod semaphore;
+#[cfg(test)]
+mod timer;

@@ -1,155 +1,17 @@
-//! The parts that the primitives stand on: each public call once, at a concrete type, and the worked cases of lists.
-ghost use Rattle.std.specs.Prelude.{◌≡◌, ◌∷◌, IfOk};
-
-mod buffers;
-mod clocks;
-mod debug;
-mod heap;
-mod memory;
-
+//! What the primitives share besides lists, heaps and buffers: each public call once, at a concrete type.
 use fi_parts::{
     ChannelSendError, CloseStatus, Deadlines, Fault, LinkedList, NoRoom, Outbox, Slot, StateId,
-    Waits,
+    Ticket, Waits,
 };
-use std::alloc::{AllocError, Global};
-use std::process::Abort;
-use std::rc::Rc;
+use std::alloc::Global;
+use tests_help::texts::shows;
 
-// Claims a slot for the value, and puts it in front.
-fn put<T: Drop>(list: &mut LinkedList<T>, value: T) -> Result<Slot, NoRoom<T>>
-    ensures { IfOk result (λ slot. list.new.order ≡ slot.0 ∷ list.old.order) }
-{
-    let slot = list.claim(value)?;
-    list.add_front(slot);
-    Ok(slot)
-}
-
-// The list of 31, 7, 5, which were put in front in this order; and the slots of 31 and 7.
-fn three(alloc: Global) -> Result<(LinkedList<u32>, Slot, Slot), NoRoom<u32>> {
-    let mut list = LinkedList::new(alloc);
-    let oldest = put(&mut list, 31)?;
-    let middle = put(&mut list, 7)?;
-    put(&mut list, 5)?;
-    Ok((list, oldest, middle))
-}
-
-fn value(list: &LinkedList<u32>, slot: Slot) -> u32 {
-    list.get(slot).copied().unwrap_or(0)
-}
-
-// The values under these slots.
-fn values(alloc: Global, list: &LinkedList<u32>, slots: &[Slot]) -> Result<Vec<u32>, AllocError> {
-    let mut values = Vec::new(alloc);
-    for slot in slots {
-        values.push(value(list, *slot))?;
-    }
-    Ok(values)
-}
-
-#[test]
-fn list_order(rt: HostRuntime) {
-    let (mut list, _, _) = three(rt.alloc()).expect(&rt, "room");
-    let slots: Vec<Slot> = list.drain().collect(rt.alloc()).expect(&rt, "memory");
-    let youngest_first = values(rt.alloc(), &list, &slots).expect(&rt, "memory");
-    assert_eq!(rt; youngest_first.as_slice(), [5, 7, 31].as_slice());
-}
-
-#[test]
-fn list_order_reversed(rt: HostRuntime) {
-    let (mut list, _, _) = three(rt.alloc()).expect(&rt, "room");
-    let slots: Vec<Slot> = list
-        .reverse_drain()
-        .collect(rt.alloc())
-        .expect(&rt, "memory");
-    let oldest_first = values(rt.alloc(), &list, &slots).expect(&rt, "memory");
-    assert_eq!(rt; oldest_first.as_slice(), [31, 7, 5].as_slice());
-    assert!(rt; list.is_empty());
-}
-
-#[test]
-fn list_remove(rt: HostRuntime) {
-    let (mut list, oldest, middle) = three(rt.alloc()).expect(&rt, "room");
-    assert!(rt; list.remove(middle));
-    assert!(rt; !list.remove(middle));
-    let slots: Vec<Slot> = list.drain().collect(rt.alloc()).expect(&rt, "memory");
-    assert_eq!(rt; slots.len(), 2);
-    assert_eq!(rt; value(&list, slots[0]), 5);
-    assert_eq!(rt; slots[1], oldest);
-    assert_eq!(rt; value(&list, middle), 7, "what was taken out stays live");
-}
-
-#[test]
-fn list_ends(rt: HostRuntime) {
-    let (mut list, oldest, _) = three(rt.alloc()).expect(&rt, "room");
-    assert!(rt; !list.is_empty());
-    assert_eq!(rt; list.last_slot(), Some(oldest));
-    assert_eq!(rt; list.peek_first().copied(), Some(5));
-    assert_eq!(rt; list.peek_last().copied(), Some(31));
-    assert!(rt; list.remove_first() != Some(oldest));
-    assert_eq!(rt; list.remove_last(), Some(oldest));
-    assert_eq!(rt; list.peek_first().copied(), Some(7));
-    assert!(rt; list.first_slot() == list.last_slot());
-}
-
-#[test]
-fn list_writes(rt: HostRuntime) {
-    let (mut list, _, _) = three(rt.alloc()).expect(&rt, "room");
-    if let Some(first) = list.peek_first_mut() {
-        *first = 6;
-    }
-    if let Some(last) = list.peek_last_mut() {
-        *last = 32;
-    }
-    assert_eq!(rt; list.peek_first().copied(), Some(6));
-    assert_eq!(rt; list.peek_last().copied(), Some(32));
-}
-
-#[test]
-fn a_drain_dropped_early_leaves_the_rest(rt: HostRuntime) {
-    let (mut list, _, middle) = three(rt.alloc()).expect(&rt, "room");
-    {
-        let mut youngest_first = list.drain();
-        assert!(rt; youngest_first.next().is_some());
-    }
-    assert_eq!(rt; list.first_slot(), Some(middle));
-    {
-        let mut oldest_first = list.reverse_drain();
-        assert!(rt; oldest_first.next().is_some());
-    }
-    assert_eq!(rt; list.last_slot(), Some(middle));
-}
-
-#[test]
-fn list_values(rt: HostRuntime) {
-    let mut list = LinkedList::new(rt.alloc());
-    let slot = list.claim(3).expect(&rt, "room");
-    assert_eq!(rt; list.free(slot), 3);
-    assert_eq!(rt; list.get(slot).copied(), None);
-    assert!(rt; list.get_mut(slot).is_none());
-    assert!(rt; !list.remove(slot));
-}
-
-// Five live slots under one count of owners; the second and the fourth are linked.
-fn five(rt: &impl Abort, counted: &Rc<u64>, alloc: Global) -> LinkedList<Rc<u64>> {
-    let mut list = LinkedList::new(alloc);
-    for place in 0..5u64 {
-        let owner = counted.clone().expect(rt, "memory");
-        let slot = list.claim(owner).expect(rt, "room");
-        if place % 2 == 1 {
-            list.add_front(slot);
-        }
-    }
-    list
-}
-
-#[test]
-fn the_end_of_a_list_drops_each_value_once(rt: HostRuntime) {
-    let counted = Rc::new(rt.alloc(), 7u64).expect(&rt, "memory");
-    let list = five(&rt, &counted, rt.alloc());
-    assert!(rt; !list.is_empty());
-    assert_eq!(rt; Rc::strong_count(&counted), 6);
-    drop(list);
-    assert_eq!(rt; Rc::strong_count(&counted), 1);
+// Whether a waker that is named is taken out once, and one that isn't never.
+fn is_taken_out(outbox: &mut Outbox<u64>, named: Ticket, other: Ticket) -> bool {
+    outbox.len() == 1
+        && outbox.take_out(other).is_none()
+        && outbox.take_out(named) == Some(11)
+        && outbox.pop().is_none()
 }
 
 #[test]
@@ -158,10 +20,7 @@ fn outbox_names(rt: HostRuntime) {
     let first = outbox.claim().expect(&rt, "room");
     outbox.name(first, 11);
     let second = outbox.claim().expect(&rt, "room");
-    assert_eq!(rt; outbox.len(), 1);
-    assert_eq!(rt; outbox.take_out(second), None);
-    assert_eq!(rt; outbox.take_out(first), Some(11));
-    assert_eq!(rt; outbox.pop(), None);
+    assert!(rt; is_taken_out(&mut outbox, first, second));
 }
 
 #[test]
@@ -170,6 +29,18 @@ fn outbox_frees(rt: HostRuntime) {
     let ticket = outbox.claim().expect(&rt, "room");
     outbox.free(ticket);
     assert_eq!(rt; outbox.len(), 0);
+}
+
+// Whether the codes of these faults are 1, 2, 3 and so on.
+fn are_numbered(faults: &[Fault]) -> bool {
+    let mut next = 1u64;
+    for fault in faults {
+        if fault.code() as u64 != next {
+            return false;
+        }
+        next = next.wrapping_add(1);
+    }
+    true
 }
 
 #[test]
@@ -184,67 +55,70 @@ fn faults_and_closes(rt: HostRuntime) {
         Fault::NotHeld,
         Fault::TooManyEnds,
     ];
-    for (before, fault) in faults.iter().enumerate() {
-        assert_eq!(rt; before as u64 + 1, fault.code() as u64);
-    }
-    assert!(rt; CloseStatus::NewlyClosed.is_newly_closed());
-    assert!(rt; !CloseStatus::NewlyClosed.is_already_closed());
-    assert!(rt; CloseStatus::AlreadyClosed.is_already_closed());
-    assert!(rt; !CloseStatus::AlreadyClosed.is_newly_closed());
-    assert_eq!(rt; ChannelSendError(5), ChannelSendError(5));
+    let are_closes = CloseStatus::NewlyClosed.is_newly_closed()
+        && !CloseStatus::NewlyClosed.is_already_closed()
+        && CloseStatus::AlreadyClosed.is_already_closed()
+        && !CloseStatus::AlreadyClosed.is_newly_closed();
+    let are_equal = ChannelSendError(5) == ChannelSendError(5);
+    assert!(rt; are_numbered(faults.as_slice()) && are_closes && are_equal);
 }
 
 #[test]
 fn state_ids(rt: HostRuntime) {
-    assert_eq!(rt; StateId::new(), StateId::default());
-    assert_eq!(rt; StateId::new().value(), 0);
-    assert_eq!(rt; StateId::from_value(7).value(), 7);
-    assert!(rt; StateId::new() < StateId::from_value(1));
-    assert_eq!(rt;
-        format!(in rt.alloc(); "{:?}", StateId::from_value(7))
-            .expect(&rt, "memory")
-            .as_str(),
-        "StateId(7)"
-    );
-    assert_eq!(rt;
-        format!(in rt.alloc(); "{:?}", Slot(3))
-            .expect(&rt, "memory")
-            .as_str(),
-        "Slot(3)"
-    );
-    assert_eq!(rt;
-        format!(in rt.alloc(); "{:?}", NoRoom(3))
-            .expect(&rt, "memory")
-            .as_str(),
-        "NoRoom(3)"
-    );
-    assert_eq!(rt;
-        format!(in rt.alloc(); "{:?}", Fault::Closed)
-            .expect(&rt, "memory")
-            .as_str(),
-        "Closed"
-    );
+    let are_ids = StateId::new() == StateId::default()
+        && StateId::new().value() == 0
+        && StateId::from_value(7).value() == 7
+        && StateId::new() < StateId::from_value(1);
+    let are_shown = shows(rt.alloc(), &StateId::from_value(7), "StateId(7)")
+        && shows(rt.alloc(), &Slot(3), "Slot(3)")
+        && shows(rt.alloc(), &NoRoom(3), "NoRoom(3)")
+        && shows(rt.alloc(), &Fault::Closed, "Closed");
+    assert!(rt; are_ids && are_shown);
+}
+
+// Tickets are made beside named ones.
+fn finds_tickets(alloc: Global) -> bool {
+    let mut outbox: Outbox<u64> = Outbox::new(alloc);
+    for number in 0..4u64 {
+        let Ok(ticket) = outbox.claim() else {
+            return false;
+        };
+        outbox.name(ticket, number);
+    }
+    outbox.len() == 4
+}
+
+// Futures are made beside queued ones.
+fn finds_waits(alloc: Global) -> bool {
+    let mut waits: Waits<u32, u64> = Waits::new(alloc);
+    let Ok(oldest) = waits.insert(1) else {
+        return false;
+    };
+    if waits.phase(oldest).is_none() {
+        return false;
+    }
+    waits.register(oldest, 7);
+    waits.insert(2).is_ok()
+}
+
+// Futures are made beside those in the heap.
+fn finds_deadlines(alloc: Global) -> bool {
+    let mut deadlines: Deadlines<u64> = Deadlines::new(alloc);
+    let Ok(first) = deadlines.insert(5) else {
+        return false;
+    };
+    if !deadlines.is_fresh(first) {
+        return false;
+    }
+    deadlines.register(first, 7);
+    deadlines.insert(4).is_ok()
 }
 
 // Tickets and futures are made beside named, queued and seated ones.
 #[test]
 fn room_is_found_beside_others(rt: HostRuntime) {
-    let mut outbox: Outbox<u64> = Outbox::new(rt.alloc());
-    for number in 0..4u64 {
-        let ticket = outbox.claim().expect(&rt, "memory");
-        outbox.name(ticket, number);
-    }
-    assert_eq!(rt; outbox.len(), 4);
-    let mut waits: Waits<u32, u64> = Waits::new(rt.alloc());
-    let oldest = waits.insert(1).expect(&rt, "memory");
-    assert!(rt; waits.phase(oldest).is_some());
-    waits.register(oldest, 7);
-    assert!(rt; waits.insert(2).is_ok());
-    let mut deadlines: Deadlines<u64> = Deadlines::new(rt.alloc());
-    let first = deadlines.insert(5).expect(&rt, "memory");
-    assert!(rt; deadlines.is_fresh(first));
-    deadlines.register(first, 7);
-    assert!(rt; deadlines.insert(4).is_ok());
+    let alloc = rt.alloc();
+    assert!(rt; finds_tickets(alloc) && finds_waits(alloc) && finds_deadlines(alloc));
 }
 
 fn is_shared<T: Send + Sync>(_value: &T) {}

@@ -1,7 +1,19 @@
-//! Tests of the runs, journals and desks.
+//! Tests of the runs, journals and desks, and programs of one thread as their users would write them.
 #![tactic(auto)]
 
 #[cfg(test)]
-mod tests;
+mod channel;
 #[cfg(test)]
-mod uses;
+mod desks;
+#[cfg(test)]
+mod journals;
+#[cfg(test)]
+mod one_thread;
+#[cfg(test)]
+mod pools;
+#[cfg(test)]
+mod runs;
+#[cfg(test)]
+mod scripts;
+#[cfg(test)]
+mod workers;

@@ -2,4 +2,34 @@
 #![tactic(auto)]
 
 #[cfg(test)]
-mod tests;
+mod blocking;
+#[cfg(test)]
+mod channel;
+#[cfg(test)]
+mod contention;
+#[cfg(test)]
+mod debug;
+#[cfg(test)]
+mod drops;
+#[cfg(test)]
+mod event;
+#[cfg(test)]
+mod mutex;
+#[cfg(test)]
+mod one_value;
+#[cfg(test)]
+mod polls;
+#[cfg(test)]
+mod semaphore;
+#[cfg(test)]
+mod shared_semaphore;
+#[cfg(test)]
+mod state_broadcast;
+#[cfg(test)]
+mod threads;
+#[cfg(test)]
+mod timer;
+#[cfg(test)]
+mod timer_runs;
+#[cfg(test)]
+mod wakes;

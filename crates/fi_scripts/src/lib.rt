@@ -1,0 +1,39 @@
+//! Scripts of calls on one primitive, answered line by line: the language of the program `schedule`.
+//!
+//! - `run_script` reads a script and writes its answers; `ScriptFault` says how that can fail. `run_program` is a program's whole run:
+//!   arguments, input, output and status.
+//! - `words`, `verb`, `label`, `numbers` and `row` read a line. `scripted` is what a primitive adds, a table from rows to calls; each
+//!   primitive has a module with its own (`event`, `channel`, ..), and `named` and `buffer` read what the first line opens.
+//! - `engine` answers a script and each of its lines; `labelled` keeps futures by their labels; `texts` and `output` write the answers.
+#![tactic(auto)]
+
+mod buffer;
+mod channel;
+mod engine;
+mod event;
+mod fairness;
+mod fault;
+mod input;
+mod label;
+mod labelled;
+mod mutex;
+mod named;
+mod number;
+mod numbers;
+mod oneshot;
+mod output;
+mod pool;
+mod program;
+mod row;
+mod scripted;
+mod semaphore;
+mod state;
+mod texts;
+mod timer;
+mod verb;
+mod words;
+
+pub use engine::run_script;
+pub use fault::{ScriptFault, report};
+pub use output::{COLLECTED, LINE};
+pub use program::run_program;

@@ -1,0 +1,9 @@
+use Rattle.std.proofs.Common.{rules, inl}
+use Rattle.fi_sync.proofs.Answered.{waited_for}
+use Rattle.fi_sync.proofs.event.ManualResetEvent.wait_blocking.Goals as goal
+
+pub returns-then-is_set : goal.returns-then-is_set
+returns-then-is_set g c = record { waited = inl (c.is_set.ensures.shown.0, search rules) }
+
+pub returns : goal.returns
+returns g c = record { waited = waited_for _ _ _ c.in_ok-wait_for.ensures.given }

@@ -1,0 +1,27 @@
+-- What a receive from a channel of many values answers, among threads.
+use Rattle.std.specs.Prelude.{ℕ, Option, Some, None, Result, Ok, Err}
+use Rattle.futures.specs.declared.task.Poll.{Poll}
+use Rattle.futures.specs.declared.task.waker.Waker.{Waker}
+use Rattle.fi_channels.specs.Channel as channel
+use Rattle.fi_channels.specs.Channel.{ChannelMachine, TriesReceive}
+use Rattle.fi_channels.specs.Polled.{Answered}
+use Rattle.fi_channels.specs.declared.channel_errors.TryReceiveError.TheVariants as not_received
+use Rattle.fi_channels.specs.declared.channel_errors.TryReceiveError.{TryReceiveError}
+use Rattle.fi_parts.specs.declared.errors.Fault.{Fault}
+use Rattle.fi_sync.specs.Waiting.{InSomeHold, PollsOrRefuses}
+
+module _ {T : Type 0} where
+  -- a receive at once that got a value, or found the channel closed and empty
+  abbrev pub at_once : Option T → Result T TryReceiveError
+  at_once (Some value) = Ok value
+  at_once None = Err not_received.Closed
+
+  -- Some hold of the lock answered a receive at once so: a value, or that the channel is closed and empty.
+  abbrev pub ReceivesAtOnce : Option T → Type 0
+  ReceivesAtOnce received = InSomeHold (λ old. TriesReceive {W = Option Waker} old (at_once received))
+
+  -- A poll of a receive under this name may answer this and go on from old to new.
+  abbrev pub PollsReceive : ChannelMachine T (Option Waker) → ℕ → Option Waker → Poll (Result (Option T) Fault)
+      → ChannelMachine T (Option Waker) → Type 0
+  PollsReceive = PollsOrRefuses (λ state name. channel.can_receive (channel.kind_of state name) (channel.receive_phase state name))
+      (λ old name waker answer new. Answered (channel.PollsReceive old name waker) (λ fault state. ⊥) answer new) (Err Fault.NoSlot)

@@ -1,5 +1,0 @@
-use Rattle.std.proofs.Common.{rules}
-use Rattle.schedule.proofs.buffer.Buffer.capacity.Goals as goal
-
-pub returns-in-Array5 : goal.returns-in-Array5
-returns-in-Array5 c = search rules

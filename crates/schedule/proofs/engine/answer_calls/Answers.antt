@@ -1,5 +1,0 @@
-use Rattle.schedule.proofs.Script.{answers_as_asked}
-use Rattle.schedule.proofs.engine.answer_calls.Goals as goal
-
-pub returns-in-Some : goal.returns-in-Some
-returns-in-Some g c = answers_as_asked _ c.in-Some.ensures c.answer_lines.ensures

@@ -1,7 +1,0 @@
-use Rattle.schedule.proofs.Shelves.{empty_shelves}
-use Rattle.schedule.proofs.labelled.Labelled.new.Goals as goal
-
-pub returns : goal.returns
-returns g c = record {
-  empty = empty_shelves c.loop.short.items c.loop.long.items c.loop.invariant.1 c.loop.invariant.3;
-}

@@ -1,8 +1,0 @@
--- What stands under labels.
-use Rattle.std.specs.Prelude.{ℕ, Option}
-use Rattle.schedule.specs.Stored.{stored}
-use Rattle.schedule.specs.declared.labelled.Labelled.{Labelled}
-
--- under a label of this code
-abbrev pub standing : {V : Type 0} → Labelled V → ℕ → Option V
-standing labelled = stored labelled.short.items labelled.long.items

@@ -1,0 +1,121 @@
+//! Plain channels of one value: the oneshot, whose first receive takes the value, and the broadcast, whose receives are all given it.
+use crate::cases::{Case, Reference, agree};
+use crate::waiters::{ALL, PlainWaiters, Stage};
+use fi_channels::{ClonesValue, GivesValue, OneValueState, TakesValue};
+use fi_parts::{Fault, Slot};
+use fi_run::{Answer, OneshotCall};
+use std::alloc::Global;
+use std::test::Fail;
+
+#[derive(Clone, Copy, PartialEq, Eq)]
+enum Content {
+    Empty,
+    Full(u64),
+    Spent,
+}
+
+#[derive(Clone, Copy, Drop)]
+struct PlainOneValue {
+    content: Content,
+    keeps_value: bool,
+    receives: PlainWaiters,
+}
+
+impl PlainOneValue {
+    fn new(keeps_value: bool) -> Self {
+        PlainOneValue {
+            content: Content::Empty,
+            keeps_value,
+            receives: PlainWaiters::new(),
+        }
+    }
+
+    fn give(&mut self) -> Answer<u64, u64> {
+        match self.content {
+            Content::Full(value) => {
+                if !self.keeps_value {
+                    self.content = Content::Spent;
+                }
+                Answer::Item(value)
+            }
+            Content::Empty | Content::Spent => Answer::Nothing,
+        }
+    }
+
+    fn poll(&mut self, name: usize) -> Answer<u64, u64> {
+        match self.receives.stage(name) {
+            Stage::Waiting => Answer::Pending,
+            Stage::Unpolled if self.content == Content::Empty => {
+                self.receives.wait(name);
+                Answer::Pending
+            }
+            Stage::Unpolled => {
+                self.receives.leave(name, Stage::Over);
+                self.give()
+            }
+            _ => Answer::Refused(Fault::NoSlot),
+        }
+    }
+
+    // Leaves it with this content, where it was empty: whether it was.
+    fn settle(&mut self, content: Content) -> bool {
+        if self.content != Content::Empty {
+            return false;
+        }
+        self.content = content;
+        self.receives.name_all(&ALL, Stage::Unpolled);
+        true
+    }
+}
+
+impl<G: GivesValue<u64>> Reference<OneValueState<u64, u64, G>> for PlainOneValue {
+    fn answer(&mut self, call: OneshotCall<u64, u64>) -> Answer<u64, u64> {
+        match call {
+            OneshotCall::Receive => self.receives.make(&ALL),
+            OneshotCall::Poll(slot, _) => self.poll(slot.0),
+            OneshotCall::Cancel(slot) => self.receives.cancel(slot.0),
+            OneshotCall::Send(value) if self.settle(Content::Full(value)) => Answer::Done,
+            OneshotCall::Send(value) => Answer::Back(value, Fault::Closed),
+            OneshotCall::Close if self.settle(Content::Spent) => Answer::Newly,
+            OneshotCall::Close => Answer::Already,
+            OneshotCall::NextWake => self.receives.next_wake(),
+        }
+    }
+
+    fn owes_no_wake(&self) -> bool {
+        self.content == Content::Empty || self.receives.count(&ALL, Stage::Waiting) == 0
+    }
+}
+
+fn agrees<G: GivesValue<u64>>(alloc: Global, keeps_value: bool) -> Result<bool, Fail> {
+    let case = Case {
+        makings: &[OneshotCall::Receive; 4],
+        polls: &[
+            OneshotCall::Poll(Slot(0), 1),
+            OneshotCall::Poll(Slot(1), 2),
+            OneshotCall::Poll(Slot(2), 3),
+            OneshotCall::Poll(Slot(3), 4),
+        ],
+        cancels: &[
+            OneshotCall::Cancel(Slot(0)),
+            OneshotCall::Cancel(Slot(1)),
+            OneshotCall::Cancel(Slot(2)),
+            OneshotCall::Cancel(Slot(3)),
+        ],
+        others: &[OneshotCall::Send(5), OneshotCall::Close],
+    };
+    let reference = PlainOneValue::new(keeps_value);
+    agree::<OneValueState<u64, u64, G>, PlainOneValue>(alloc, (), reference, &case)
+}
+
+#[test]
+fn drawn_schedules_of_a_oneshot(rt: HostRuntime) -> Result<(), Fail> {
+    assert!(rt; agrees::<TakesValue>(rt.alloc(), false)?);
+    Ok(())
+}
+
+#[test]
+fn drawn_schedules_of_a_oneshot_broadcast(rt: HostRuntime) -> Result<(), Fail> {
+    assert!(rt; agrees::<ClonesValue>(rt.alloc(), true)?);
+    Ok(())
+}

@@ -1,0 +1,367 @@
+//! The buffers: order, capacities, what is reserved, and drops.
+ghost use Rattle.std.specs.Prelude.{◌≡◌, ◌<◌, ◌≤◌, ◌∷◌, ◌++◌, [], ℕ, length, IfErr, IfOk, OnOk, OnErr, IfNone, IfSome};
+ghost use Rattle.fi_parts.specs.Buffer.{Fits, Bounded, pushed};
+
+use fi_parts::buffer::{ArrayBuf, FixedHeapBuf, GrowingHeapBuf, RingBuf};
+use fi_parts::{Fault, NoRoom};
+use std::alloc::Global;
+use std::marker::Model;
+use std::rc::Rc;
+use tests_help::texts::shows;
+
+/// Takes the oldest item, if there is one, and then puts the item behind the others: what a full channel does where a send waits.
+fn refill<B: RingBuf>(buffer: &mut B, item: B::Item) -> Result<Option<B::Item>, NoRoom<B::Item>>
+    requires { 0 < (B.bounded buffer.old).capacity }
+    ensures some { IfOk result (λ oldest. IfSome oldest (λ first. first ∷ (B.bounded buffer.new).items
+        ≡ (B.bounded buffer.old).items ++ item ∷ [])) }
+    ensures none { IfOk result (λ oldest. IfNone oldest (((B.bounded buffer.old).items ≡ [])
+        × ((B.bounded buffer.new).items ≡ item ∷ []))) }
+    ensures err { IfErr result (λ back. (back.0 ≡ item) × (B.bounded buffer.new ≡ B.bounded buffer.old)
+        × ((B.bounded buffer.old).items ≡ []) × ((B.bounded buffer.old).reserved ≡ 0)) }
+    ensures capacity { (B.bounded buffer.new).capacity ≡ (B.bounded buffer.old).capacity }
+    ensures grows { (B.bounded buffer.old).reserved ≤ (B.bounded buffer.new).reserved }
+    ensures fits { Fits (B.bounded buffer.new) }
+{
+    if buffer.is_empty() {
+        buffer.push(item)?;
+        return Ok(None);
+    }
+    let oldest = buffer.pop();
+    match buffer.push(item) {
+        Ok(()) => Ok(Some(oldest)),
+        Err(_back) => unreachable!(),
+    }
+}
+
+/// A buffer, and how many items it has taken.
+#[derive(Drop)]
+struct Desk<T, B: RingBuf<Item = T>> {
+    buffer: B,
+    taken: u64,
+}
+
+impl<T, B: RingBuf<Item = T>> Model for Desk<T, B> {
+    ghost use Rattle.std.specs.Prelude.{ℕ};
+    ghost use Rattle.fi_parts.specs.Buffer.{Bounded};
+
+    ghost Value = { Bounded T × ℕ };
+
+    ghost view = { λ d. (B.bounded d.buffer, d.taken) };
+}
+
+impl<T: Drop, B: RingBuf<Item = T>> Desk<T, B> {
+    /// Takes the item, if there is room for it.
+    fn offer(&mut self, item: T) -> Result<(), NoRoom<T>>
+        ensures full { (self.old.0).capacity ≤ length (self.old.0).items → OnOk result ⊥ }
+        ensures ok { OnOk result (self.new.0 ≡ pushed self.old.0 item (self.new.0).reserved) }
+        ensures err { OnErr result (self.new ≡ self.old) }
+    {
+        if self.taken == u64::MAX || !self.buffer.can_push() {
+            return Err(NoRoom(item));
+        }
+        self.buffer.push(item)?;
+        self.taken += 1;
+        Ok(())
+    }
+}
+
+/// Makes a buffer, at the second try if the first is refused.
+fn make<B: RingBuf>(alloc: Global, capacity: usize) -> Option<B> {
+    match B::with_capacity(alloc, capacity) {
+        Ok(buffer) => Some(buffer),
+        Err(Fault::NoMemory) => B::with_capacity(alloc, capacity).ok(),
+        Err(_) => None,
+    }
+}
+
+/// Puts the item behind the others, at the second try if the first is refused. A refused push changes nothing.
+fn put<B: RingBuf<Item = u32>>(buffer: &mut B, item: u32) -> bool {
+    if !buffer.can_push() {
+        return false;
+    }
+    let (len, reserved) = (buffer.len(), buffer.reserved());
+    let Err(NoRoom(back)) = buffer.push(item) else {
+        return true;
+    };
+    let is_unchanged = back == item && buffer.len() == len && buffer.reserved() == reserved;
+    is_unchanged && reserved == len && buffer.push(back).is_ok()
+}
+
+/// Takes the oldest item, if there is one.
+fn take<B: RingBuf>(buffer: &mut B) -> Option<B::Item> {
+    if buffer.is_empty() {
+        return None;
+    }
+    Some(buffer.pop())
+}
+
+/// Puts these items, one after another.
+fn puts<B: RingBuf<Item = u32>>(buffer: &mut B, items: &[u32]) -> bool {
+    for item in items {
+        if !put(buffer, *item) {
+            return false;
+        }
+    }
+    true
+}
+
+/// Takes the items, which are these.
+fn takes<B: RingBuf<Item = u32>>(buffer: &mut B, items: &[u32]) -> bool {
+    for item in items {
+        if take(buffer) != Some(*item) {
+            return false;
+        }
+    }
+    true
+}
+
+/// Puts these items, and after each one more can be pushed or can't.
+fn fills<B: RingBuf<Item = u32>>(buffer: &mut B, rows: &[(u32, bool)]) -> bool {
+    for (item, can_push) in rows {
+        if !put(buffer, *item) || buffer.can_push() != *can_push {
+            return false;
+        }
+    }
+    true
+}
+
+/// Takes the items, which are these, and leaves so many each time.
+fn empties<B: RingBuf<Item = u32>>(buffer: &mut B, rows: &[(u32, usize)]) -> bool {
+    for (item, len) in rows {
+        if take(buffer) != Some(*item) || buffer.len() != *len {
+            return false;
+        }
+    }
+    true
+}
+
+/// Puts these items, and has memory for so many after each.
+fn grows<B: RingBuf<Item = u32>>(buffer: &mut B, rows: &[(u32, usize)]) -> bool {
+    for (item, reserved) in rows {
+        if !put(buffer, *item) || buffer.reserved() != *reserved {
+            return false;
+        }
+    }
+    true
+}
+
+/// Runs a buffer of 5 items through more pushes than it has room for.
+fn keeps_order<B: RingBuf<Item = u32>>(buffer: &mut B) -> bool {
+    buffer.capacity() == 5
+        && puts(buffer, &[1, 2, 3])
+        && takes(buffer, &[1, 2])
+        && buffer.len() == 1
+        && takes(buffer, &[3])
+        && buffer.is_empty()
+        && fills(
+            buffer,
+            &[(4, true), (5, true), (6, true), (7, true), (8, false)],
+        )
+        && empties(buffer, &[(4, 4), (5, 3), (6, 2), (7, 1), (8, 0)])
+        && take(buffer).is_none()
+}
+
+/// A buffer that is made for so many keeps the order.
+fn made_keeps_order<B: RingBuf<Item = u32>>(alloc: Global, capacity: usize) -> bool {
+    match make::<B>(alloc, capacity) {
+        Some(mut buffer) => keeps_order(&mut buffer),
+        None => false,
+    }
+}
+
+/// Pushes two items for each one that it pops, until 30 are held, so that a buffer wraps round while it grows, and then pops all.
+fn wraps_round<B: RingBuf<Item = u32>>(buffer: &mut B) -> bool {
+    for turn in 0..29 {
+        if !puts(buffer, &[2 * turn, 2 * turn + 1]) || take(buffer) != Some(turn) {
+            return false;
+        }
+    }
+    for item in 29..58 {
+        if take(buffer) != Some(item) {
+            return false;
+        }
+    }
+    buffer.is_empty()
+}
+
+/// A buffer that is made for 30 wraps round.
+fn made_wraps_round<B: RingBuf<Item = u32>>(alloc: Global) -> bool {
+    match make::<B>(alloc, 30) {
+        Some(mut buffer) => wraps_round(&mut buffer),
+        None => false,
+    }
+}
+
+/// A buffer of no items is empty and full.
+fn holds_nothing<B: RingBuf<Item = u32>>(buffer: &mut B) -> bool {
+    buffer.capacity() == 0
+        && buffer.reserved() == 0
+        && buffer.len() == 0
+        && buffer.is_empty()
+        && !buffer.can_push()
+        && take(buffer).is_none()
+}
+
+/// A new buffer holds nothing, and neither does one that is made for so many.
+fn made_holds_nothing<B: RingBuf<Item = u32>>(alloc: Global, capacity: usize) -> bool {
+    match make::<B>(alloc, capacity) {
+        Some(mut buffer) => holds_nothing(&mut buffer) && holds_nothing(&mut B::new(alloc)),
+        None => false,
+    }
+}
+
+// The next three tests give the same answers where one allocation fails, whichever it is: see `rt try --test --fail-alloc N`.
+
+#[test]
+fn buffer_order_of_each(rt: HostRuntime) {
+    let alloc = rt.alloc();
+    let is_kept = keeps_order(&mut ArrayBuf::<u32, 5>::new(alloc))
+        && made_keeps_order::<ArrayBuf<u32, 5>>(alloc, 9)
+        && made_keeps_order::<FixedHeapBuf<u32>>(alloc, 5)
+        && made_keeps_order::<GrowingHeapBuf<u32>>(alloc, 5);
+    assert!(rt; is_kept);
+}
+
+#[test]
+fn wraps_round_as_it_grows(rt: HostRuntime) {
+    let alloc = rt.alloc();
+    let is_kept = wraps_round(&mut ArrayBuf::<u32, 30>::new(alloc))
+        && made_wraps_round::<FixedHeapBuf<u32>>(alloc)
+        && made_wraps_round::<GrowingHeapBuf<u32>>(alloc);
+    assert!(rt; is_kept);
+}
+
+#[test]
+fn capacity_zero(rt: HostRuntime) {
+    let alloc = rt.alloc();
+    let holds_none = made_holds_nothing::<ArrayBuf<u32, 0>>(alloc, 9)
+        && made_holds_nothing::<FixedHeapBuf<u32>>(alloc, 0)
+        && made_holds_nothing::<GrowingHeapBuf<u32>>(alloc, 0);
+    assert!(rt; holds_none);
+}
+
+/// A buffer of three items, which has memory for so many at first, has its oldest exchanged.
+fn is_refilled<B: RingBuf<Item = u32>>(buffer: &mut B, reserved: usize) -> bool {
+    buffer.capacity() == 3
+        && buffer.reserved() == reserved
+        && put(buffer, 1)
+        && buffer.reserved() == 3
+        && buffer.capacity() == 3
+        && refill(buffer, 2).ok() == Some(Some(1))
+}
+
+/// A buffer's last items are taken, and the memory stays.
+fn is_emptied<B: RingBuf<Item = u32>>(buffer: &mut B, last: &[u32], reserved: usize) -> bool {
+    takes(buffer, last) && buffer.reserved() == reserved && buffer.is_empty()
+}
+
+#[test]
+fn array_buf(rt: HostRuntime) {
+    let mut buffer = ArrayBuf::<u32, 3>::new(rt.alloc());
+    let is_used = is_refilled(&mut buffer, 0) && is_emptied(&mut buffer, &[2], 3);
+    assert!(rt; is_used && shows(rt.alloc(), &buffer, "ArrayBuf { size: 0, cap: 3 }"));
+}
+
+#[test]
+fn fixed_heap_buf(rt: HostRuntime) {
+    let mut buffer = FixedHeapBuf::with_capacity(rt.alloc(), 3).expect(&rt, "memory");
+    let is_used = is_refilled(&mut buffer, 3)
+        && shows(rt.alloc(), &buffer, "FixedHeapBuf { size: 1, cap: 3 }")
+        && is_emptied(&mut buffer, &[2], 3);
+    assert!(rt; is_used);
+}
+
+/// A buffer of ten items grows with them, and then has its oldest exchanged.
+fn grows_to_ten<B: RingBuf<Item = u32>>(buffer: &mut B) -> bool {
+    buffer.capacity() == 10
+        && buffer.reserved() == 0
+        && grows(buffer, &[(1, 4), (2, 4), (3, 4), (4, 4), (5, 8), (6, 8)])
+        && grows(buffer, &[(7, 8), (8, 8), (9, 10)])
+        && buffer.capacity() == 10
+        && refill(buffer, 10).ok() == Some(Some(1))
+}
+
+#[test]
+fn growing_heap_buf(rt: HostRuntime) {
+    let mut buffer = GrowingHeapBuf::with_capacity(rt.alloc(), 10).expect(&rt, "memory");
+    let is_used = grows_to_ten(&mut buffer)
+        && shows(rt.alloc(), &buffer, "GrowingHeapBuf { size: 9, limit: 10 }")
+        && is_emptied(&mut buffer, &[2, 3, 4, 5, 6, 7, 8, 9, 10], 10);
+    assert!(rt; is_used);
+}
+
+/// More than any address space has room for.
+const TOO_MANY: usize = 1 << 62;
+
+/// Whether a buffer for so many is refused for memory.
+fn is_refused<B: RingBuf>(alloc: Global, capacity: usize) -> bool {
+    match B::with_capacity(alloc, capacity) {
+        Ok(_) => false,
+        Err(fault) => fault == Fault::NoMemory,
+    }
+}
+
+/// Whether the first push is refused for memory, and changes nothing.
+fn refuses_a_push<B: RingBuf<Item = u32>>(buffer: &mut B) -> bool {
+    if !buffer.can_push() {
+        return false;
+    }
+    match buffer.push(7) {
+        Ok(()) => false,
+        Err(NoRoom(back)) => back == 7 && buffer.len() == 0 && buffer.reserved() == 0,
+    }
+}
+
+#[test]
+fn refused_for_memory(rt: HostRuntime) {
+    let mut buffer = ArrayBuf::<u32, TOO_MANY>::new(rt.alloc());
+    let are_refused = is_refused::<ArrayBuf<u32, TOO_MANY>>(rt.alloc(), 1)
+        && is_refused::<FixedHeapBuf<u32>>(rt.alloc(), TOO_MANY)
+        && refuses_a_push(&mut buffer)
+        && refuses_a_push(&mut buffer);
+    assert!(rt; are_refused);
+}
+
+/// Puts so many owners of the item.
+fn puts_owners<B: RingBuf<Item = Rc<i32>>>(buffer: &mut B, item: &Rc<i32>, count: u64) -> bool {
+    for _ in 0..count {
+        let Ok(owner) = item.clone() else {
+            return false;
+        };
+        if !buffer.can_push() || buffer.push(owner).is_err() {
+            return false;
+        }
+    }
+    true
+}
+
+/// A buffer takes three owners of an item that has one, and gives one of them back. The others go with the buffer.
+fn owns_three<B: RingBuf<Item = Rc<i32>>>(alloc: Global, item: &Rc<i32>) -> bool {
+    let Some(mut buffer) = make::<B>(alloc, 3) else {
+        return false;
+    };
+    puts_owners(&mut buffer, item, 3)
+        && Rc::strong_count(item) == 4
+        && take(&mut buffer).is_some()
+        && Rc::strong_count(item) == 3
+}
+
+#[test]
+fn drops_each_item_once(rt: HostRuntime) {
+    let item = Rc::new(rt.alloc(), 0).expect(&rt, "memory");
+    let are_dropped = owns_three::<ArrayBuf<Rc<i32>, 3>>(rt.alloc(), &item)
+        && Rc::strong_count(&item) == 1
+        && owns_three::<GrowingHeapBuf<Rc<i32>>>(rt.alloc(), &item)
+        && Rc::strong_count(&item) == 1;
+    assert!(rt; are_dropped);
+}
+
+#[test]
+fn desk_takes_what_fits(rt: HostRuntime) {
+    let mut desk = Desk {
+        buffer: FixedHeapBuf::with_capacity(rt.alloc(), 1).expect(&rt, "memory"),
+        taken: 0,
+    };
+    assert!(rt; desk.offer(1).is_ok() && desk.offer(2).is_err());
+    assert_eq!(rt; desk.taken, 1);
+}

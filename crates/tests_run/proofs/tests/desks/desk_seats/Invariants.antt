@@ -1,7 +1,0 @@
-use Rattle.tests_run.proofs.tests.desks.desk_seats.Given as goal
-
-abbrev pub ghosts-settles_with : goal.ghosts-settles_with
-ghosts-settles_with g a = record { name = a.blank.name; parts = a.blank.parts }
-
-abbrev pub ghosts-refuses_a_third : goal.ghosts-refuses_a_third
-ghosts-refuses_a_third g a = record { name = a.blank.name; parts = a.blank.parts }

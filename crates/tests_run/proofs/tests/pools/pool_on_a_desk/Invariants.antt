@@ -1,4 +1,0 @@
-use Rattle.tests_run.proofs.tests.pools.pool_on_a_desk.Given as goal
-
-abbrev pub ghosts-workers : goal.ghosts-workers
-ghosts-workers g a = record { name = a.blank.name; parts = a.blank.parts }

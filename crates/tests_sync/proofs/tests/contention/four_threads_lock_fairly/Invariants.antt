@@ -1,4 +1,0 @@
-use Rattle.tests_sync.proofs.tests.contention.four_threads_lock_fairly.Given as goal
-
-abbrev pub ghosts-locks : goal.ghosts-locks
-ghosts-locks g a = record { name = a.blank.name; parts = a.blank.parts }

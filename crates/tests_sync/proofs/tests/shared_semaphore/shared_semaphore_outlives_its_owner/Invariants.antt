@@ -1,4 +1,0 @@
-use Rattle.tests_sync.proofs.tests.shared_semaphore.shared_semaphore_outlives_its_owner.Given as goal
-
-abbrev pub ghosts-shared : goal.ghosts-shared
-ghosts-shared g a = record { name = a.blank.name; parts = a.blank.parts }

@@ -1,0 +1,109 @@
+//! The thread-safe channel of many values.
+
+use crate::threads::{sends, shares};
+use fi_channels::TrySendError;
+use fi_parts::buffer::{FixedHeapBuf, GrowingHeapBuf, RingBuf};
+use fi_sync::{Channel, GenericChannel};
+use futures::executor::block_on;
+use futures::test::MockTask;
+use std::alloc::AllocGlobal;
+use std::process::Abort;
+use std::random::RandomSource;
+use std::sync::Wait;
+use std::thread;
+use std::thread::Threads;
+
+// Whether a channel counts so many values, and says that it is full.
+fn is_filled<R: Wait, B: RingBuf<Item = u64>>(
+    channel: &GenericChannel<u64, B, R>,
+    capacity: u64,
+) -> bool {
+    channel.len() as u64 == capacity && channel.capacity() as u64 == capacity && channel.is_full()
+}
+
+// Whether a channel has room for so many values, and no more. Once it is closed it says so.
+fn holds<R: Wait, B: RingBuf<Item = u64>>(
+    channel: &GenericChannel<u64, B, R>,
+    capacity: u64,
+) -> bool {
+    if channel.is_closed() || !channel.is_empty() || channel.is_full() {
+        return false;
+    }
+    for value in 0..capacity {
+        if channel.try_send(value).is_err() {
+            return false;
+        }
+    }
+    if !is_filled(channel, capacity) || channel.is_empty() {
+        return false;
+    }
+    if !matches!(channel.try_send(9), Err(TrySendError::Full(9))) {
+        return false;
+    }
+    let is_closed = channel.close().is_newly_closed() && !channel.close().is_newly_closed();
+    is_closed && channel.is_closed() && matches!(channel.try_send(8), Err(TrySendError::Closed(8)))
+}
+
+#[test]
+fn a_channel_has_the_capacity_asked_for(rt: HostRuntime) {
+    let fixed: GenericChannel<u64, FixedHeapBuf<u64>, HostRuntime> = GenericChannel::with_capacity(
+        rt.alloc(),
+        rt,
+        700,
+    ).expect(&rt, "memory");
+    assert!(rt; holds(&fixed, 700));
+    let growing: GenericChannel<u64, GrowingHeapBuf<u64>, HostRuntime> =
+        GenericChannel::with_capacity(rt.alloc(), rt, 300).expect(&rt, "memory");
+    assert!(rt; holds(&growing, 300));
+    let array = Channel::<u64, 1000, HostRuntime>::new(rt.alloc(), rt);
+    assert!(rt; holds(&array, 1000));
+}
+
+// A send that is cancelled gives its value back, unless the channel has taken it.
+#[test]
+fn a_cancelled_send_gives_its_value_back(rt: HostRuntime) {
+    let task = MockTask::new(&rt).expect(&rt, "memory");
+    let channel = Channel::<u64, 1, HostRuntime>::new(rt.alloc(), rt);
+    assert!(rt; channel.try_send(1).is_ok());
+    let mut first = channel.send(2).ok().expect(&rt, "memory");
+    let mut second = channel.send(3).ok().expect(&rt, "memory");
+    assert!(rt; task.poll(&mut first).is_pending() && task.poll(&mut second).is_pending());
+    assert!(rt; first.cancel() == Some(2) && first.is_terminated());
+    assert!(rt; channel.try_receive() == Ok(1));
+    assert!(rt; second.cancel().is_none() && channel.try_receive() == Ok(3));
+}
+
+// The channel is moved, shared by reference, and its futures are moved to other threads.
+fn crosses<R>(rt: R)
+where
+    R: Wait + Threads + Abort + Copy + RandomSource + AllocGlobal + Send + Sync,
+{
+    let channel = sends(Channel::<u64, 1, R>::new(rt.alloc(), rt));
+    let channel = shares(&channel);
+    let receive = sends(channel.receive().expect(&rt, "memory"));
+    let send = sends(channel.send(7).ok().expect(&rt, "memory"));
+    let rt = &rt;
+    let (received, is_sent) = thread::join(
+        rt,
+        move || block_on(rt, receive).ok(),
+        move || matches!(block_on(rt, send), Ok(Ok(()))),
+    );
+    assert!(*rt; is_sent && received == Some(Ok(Some(7))));
+}
+
+// A stream is moved to another thread.
+fn stream_crosses<R>(rt: R)
+where
+    R: Wait + Threads + Abort + Copy + RandomSource + AllocGlobal + Send + Sync,
+{
+    let channel = Channel::<u64, 1, R>::new(rt.alloc(), rt);
+    let stream = sends(channel.stream().expect(&rt, "memory"));
+    let (is_open, ()) = thread::join(&rt, move || !stream.is_terminated(), || ());
+    assert!(rt; is_open);
+}
+
+#[test]
+fn channel_crosses_threads(rt: HostRuntime) {
+    crosses(rt);
+    stream_crosses(rt)
+}

@@ -1,0 +1,189 @@
+//! A thread that runs a timer.
+
+use fi_parts::{Clock, StdClock};
+use fi_sync::{Blocking, ManualResetEvent, TimerFuture, TimerService, wait_for};
+use futures::test::MockTask;
+use std::process::Abort;
+use std::sync::atomic::{AtomicU64, Ordering};
+use std::thread::Threads;
+use std::time::Duration;
+use std::{thread, time};
+
+// The system's clock, which counts its readings: one for each poll of a future, two for one that has to wait and has no waker, and one for
+// each check.
+#[derive(Drop)]
+struct Counted<'a, R> {
+    clock: &'a StdClock<R>,
+    readings: &'a AtomicU64,
+}
+
+impl<R: time::Clock> Clock for Counted<'_, R> {
+    fn now(&self) -> u64 {
+        self.readings.fetch_add(1, Ordering::SeqCst);
+        self.clock.now()
+    }
+}
+
+// Waits for so many moments, each so many milliseconds after the one before: how many of them had come when it was woken.
+fn wait_often<R: Blocking + time::Clock>(
+    rt: &R,
+    timer: &TimerService<Counted<'_, R>, R>,
+    clock: &StdClock<R>,
+    times: u64,
+    millis: u64,
+) -> u64 {
+    let mut reached = 0u64;
+    for _ in 0..times {
+        let expiry = clock.now().saturating_add(millis);
+        let Ok(wait) = timer.deadline(expiry) else {
+            return reached;
+        };
+        if matches!(wait_for(rt, wait), Ok(Ok(()))) && clock.now() >= expiry {
+            reached = reached.wrapping_add(1);
+        }
+    }
+    reached
+}
+
+// Three threads wait for a thousand moments together, while this one runs the timer.
+fn wait_by_three<'a, 'b, R>(
+    rt: &'a R,
+    timer: &'a TimerService<Counted<'b, R>, R>,
+    clock: &'a StdClock<R>,
+    is_over: &'a ManualResetEvent<R>,
+    reached: &'a AtomicU64,
+)
+where
+    R: Blocking + Threads + time::Clock + Send + Sync,
+{
+    let left = &AtomicU64::new(3);
+    thread::scope(thread::scope_env(), rt, |scope| {
+        for (times, millis) in [(400u64, 1u64), (350, 2), (250, 3)] {
+            let _ = scope.spawn(move || {
+                let in_time = wait_often(rt, timer, clock, times, millis);
+                reached.fetch_add(in_time, Ordering::SeqCst);
+                if left.fetch_sub(1, Ordering::SeqCst) == 1 {
+                    is_over.set();
+                }
+            });
+        }
+        let _ = timer.run(is_over);
+    });
+}
+
+// Each of a thousand is woken at its moment or later, none is lost, and the timer's thread sleeps in between.
+fn runs<R>(rt: R)
+where
+    R: Blocking + Threads + Abort + time::Clock + Drop + Copy + Send + Sync,
+{
+    let clock = StdClock::new(rt).ok().expect(&rt, "a clock");
+    let (readings, reached) = (AtomicU64::new(0), AtomicU64::new(0));
+    let counted = Counted {
+        clock: &clock,
+        readings: &readings,
+    };
+    let timer = TimerService::new(rt.alloc(), rt, counted);
+    let is_over = ManualResetEvent::new(rt.alloc(), rt, false);
+    wait_by_three(&rt, &timer, &clock, &is_over, &reached);
+    assert_eq!(rt; reached.load(Ordering::SeqCst), 1000);
+    assert!(rt; readings.load(Ordering::SeqCst) < 10_000 && timer.next_expiration().is_none());
+}
+
+#[test]
+fn timer_runs(rt: HostRuntime) {
+    runs(rt);
+}
+
+// Polls a wait for this moment once. None if it is ready, or can't be made.
+fn begins<'a, 'b, R: Blocking + time::Clock>(
+    timer: &'a TimerService<Counted<'b, R>, R>,
+    task: &MockTask,
+    moment: u64,
+) -> Option<TimerFuture<'a, Counted<'b, R>, R>> {
+    let mut wait = timer.deadline(moment).ok()?;
+    if task.poll(&mut wait).is_ready() {
+        return None;
+    }
+    Some(wait)
+}
+
+// Whether the task is woken in the end. It looks a bounded number of times.
+fn is_woken_soon(task: &MockTask) -> bool {
+    for _ in 0..10_000_000u32 {
+        if task.is_woken() {
+            return true;
+        }
+        thread::yield_now();
+    }
+    false
+}
+
+// What may be called before a wait begins, and changes nothing of when the runner is roused.
+fn calls_before<R: Blocking + time::Clock>(timer: &TimerService<Counted<'_, R>, R>) -> bool {
+    timer.check_expirations();
+    let delay = timer.delay(Duration::from_millis(8_000));
+    timer.next_expiration().is_none() && delay.is_ok()
+}
+
+// The readings of the clock from the beginning of a wait of eight milliseconds until it is woken.
+fn readings_of_a_wait<R: Blocking + time::Clock>(
+    timer: &TimerService<Counted<'_, R>, R>,
+    clock: &StdClock<R>,
+    readings: &AtomicU64,
+    task: &MockTask,
+) -> Option<u64> {
+    if !calls_before(timer) {
+        return None;
+    }
+    let before = readings.load(Ordering::SeqCst);
+    let _wait = begins(timer, task, clock.now().saturating_add(8))?;
+    if !is_woken_soon(task) {
+        return None;
+    }
+    Some(readings.load(Ordering::SeqCst).wrapping_sub(before))
+}
+
+// The checks that a runner makes for forty waits, where a poll that waits reads the clock so often.
+fn checks_of_forty<R: Blocking + time::Clock>(
+    timer: &TimerService<Counted<'_, R>, R>,
+    clock: &StdClock<R>,
+    readings: &AtomicU64,
+    task: &MockTask,
+    of_a_poll: u64,
+) -> Option<u64> {
+    let mut checks = 0u64;
+    for _ in 0..40u64 {
+        let all = readings_of_a_wait(timer, clock, readings, task)?;
+        checks = checks.wrapping_add(all.saturating_sub(of_a_poll));
+    }
+    Some(checks)
+}
+
+// A runner that nobody waits for sleeps for ten milliseconds. A future that comes to wait for a moment in eight rouses it, and it
+// checks twice: then, and at that moment. If nobody roused it, it would check once, after the moment.
+fn rouses<R>(rt: R)
+where
+    R: Blocking + Threads + Abort + time::Clock + Drop + Copy + Send + Sync,
+{
+    let clock = &StdClock::new(rt).ok().expect(&rt, "a clock");
+    let readings = &AtomicU64::new(0);
+    let timer = &TimerService::new(rt.alloc(), rt, Counted { clock, readings });
+    let is_over = &ManualResetEvent::new(rt.alloc(), rt, false);
+    let task = &MockTask::new(&rt).expect(&rt, "memory");
+    drop(begins(timer, task, u64::MAX).expect(&rt, "memory"));
+    let of_a_poll = readings.load(Ordering::SeqCst);
+    let waits = move || {
+        let checks = checks_of_forty(timer, clock, readings, task, of_a_poll);
+        is_over.set();
+        checks
+    };
+    let (checks, ran) = thread::join(&rt, waits, move || timer.run(is_over).is_ok());
+    let checks = checks.expect(&rt, "each wait begins and is woken");
+    assert!(rt; ran && checks >= 60, "{checks} checks");
+}
+
+// A future that comes to wait for a moment before the runner's next check rouses the runner, whatever was called before.
+#[test]
+fn an_earlier_moment_rouses_the_runner(rt: HostRuntime) {
+    rouses(rt);
+}
