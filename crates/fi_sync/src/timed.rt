@@ -100,11 +100,13 @@ impl<C: Clock> Timed<C> {
         });
     }
 
-    /// Rouses nobody any more.
-    pub(crate) fn end_running(&mut self)
-        ensures { self.new ≡ record self.old { runner = None } }
+    /// Rouses nobody any more. Answers the least expiry of those that still wait; None where none does.
+    pub(crate) fn end_running(&mut self) -> Option<u64>
+        ensures ended { self.new ≡ record self.old { runner = None } }
+        ensures left { IsNextExpiry self.old.timer.waiting.side result }
     {
         self.runner = None;
+        self.timer.next_expiration()
     }
 
     /// Tells those whose expiry is not after the clock's time now, and plans the runner's next check for the next expiry, or for this

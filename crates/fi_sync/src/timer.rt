@@ -13,8 +13,10 @@ use futures::Future;
 use futures::future::{Either, select};
 use std::alloc::Global;
 use std::marker::Model;
+use std::sync::atomic::{AtomicBool, Ordering};
 use std::sync::{Arc, Wait};
-use std::thread::Parker;
+use std::thread;
+use std::thread::{Parker, Threads};
 use std::time::Duration;
 
 /// How long `TimerService::run` sleeps at most before it looks at its event again, in milliseconds.
@@ -100,7 +102,8 @@ impl<C: Clock + Drop, R: Wait> TimerService<C, R> {
 }
 
 impl<C: Clock + Drop, R: Blocking> TimerService<C, R> {
-    /// Runs the timer on this thread until the event is set: wakes each future once its time has come.
+    /// Runs the timer on this thread until the event is set: wakes each future once its time has come. Answers the least expiry of those
+    /// that wait then, whom this thread tells no more; None where none does.
     ///
     /// The thread sleeps until the next expiry, and is roused if a future comes to wait for an earlier one.
     /// An event wakes tasks, and no thread that sleeps with a time limit: so this one looks at the event every
@@ -108,17 +111,13 @@ impl<C: Clock + Drop, R: Blocking> TimerService<C, R> {
     /// began last is roused, and none any more once one of them has ended: then an earlier expiry is seen up to 10 milliseconds late.
     ///
     /// Refused with `NoMemory` if there is none for what the thread is roused by; then it did nothing.
-    pub fn run(&self, until: &ManualResetEvent<R>) -> Result<(), Fault>
+    pub fn run(&self, until: &ManualResetEvent<R>) -> Result<Option<u64>, Fault>
         ensures fault { IfErr result (λ fault. fault ≡ Fault.NoMemory) }
     {
-        let rt = self.monitor.runtime();
-        let Ok(parker) = Arc::new(rt.alloc(), Parker::new()) else {
-            return Err(Fault::NoMemory);
-        };
-        let Ok(shared) = Arc::try_clone(&parker) else {
-            return Err(Fault::NoMemory);
-        };
+        let parker = self.parker()?;
+        let shared = share(&parker)?;
         self.monitor.call(shared, Timed::run_by);
+        let rt = self.monitor.runtime();
         for _ in rt.forever() {
             let left = self.monitor.call(LONGEST_SLEEP, Timed::check_and_plan);
             if until.is_set() {
@@ -126,8 +125,52 @@ impl<C: Clock + Drop, R: Blocking> TimerService<C, R> {
             }
             parker.park_timeout(rt, Duration::from_millis(left));
         }
+        Ok(self.monitor.call((), |timed, ()| timed.end_running()))
+    }
+
+    /// Makes the call while a thread of its own runs the timer. That thread ends once the call has returned, whatever it answers; who
+    /// waits then is told by a later check alone.
+    ///
+    /// Refused with `NoMemory` where there is none for that thread, or it can't be started; then the call was not made.
+    pub fn while_running<A, F>(&self, rt: &R, call: F) -> Result<A, Fault>
+    where
+        C: Send,
+        R: Threads + Send + Sync,
+        F: FnOnce(&Self) -> A,
+        requires { F.IsAlwaysCallable call }
+        ensures fault { IfErr result (λ fault. fault ≡ Fault.NoMemory) }
+    {
+        let parker = self.parker()?;
+        let is_over = AtomicBool::new(false);
+        let shared = share(&parker)?;
+        self.monitor.call(shared, Timed::run_by);
+        match beside(rt, self, &parker, &is_over, call) {
+            Some(answer) => Ok(answer),
+            None => Err(Fault::NoMemory),
+        }
+    }
+
+    // Runs the timer until the flag is set; whoever sets it unparks this thread.
+    fn run_while(&self, parker: &Arc<Parker, Global>, is_over: &AtomicBool) {
+        let rt = self.monitor.runtime();
+        for _ in rt.forever() {
+            let left = self.monitor.call(LONGEST_SLEEP, Timed::check_and_plan);
+            if is_over.load(Ordering::SeqCst) {
+                break;
+            }
+            parker.park_timeout(rt, Duration::from_millis(left));
+        }
         self.monitor.call((), |timed, ()| timed.end_running());
-        Ok(())
+    }
+
+    // What the thread that runs the timer sleeps at.
+    fn parker(&self) -> Result<Arc<Parker, Global>, Fault>
+        ensures fault { IfErr result (λ fault. fault ≡ Fault.NoMemory) }
+    {
+        match Arc::new(self.monitor.runtime().alloc(), Parker::new()) {
+            Ok(parker) => Ok(parker),
+            Err(_) => Err(Fault::NoMemory),
+        }
     }
 
     /// Blocks this thread until the future is ready, but at most so long: its output, or None once the time is over. Then the future
@@ -151,4 +194,42 @@ impl<C: Clock + Drop, R: Blocking> TimerService<C, R> {
             }
         }
     }
+}
+
+fn share(parker: &Arc<Parker, Global>) -> Result<Arc<Parker, Global>, Fault>
+    ensures fault { IfErr result (λ fault. fault ≡ Fault.NoMemory) }
+{
+    match Arc::try_clone(parker) {
+        Ok(shared) => Ok(shared),
+        Err(_) => Err(Fault::NoMemory),
+    }
+}
+
+// Makes the call beside a thread that runs the timer; None where that can't be started, and then the call was not made.
+fn beside<'a, C, R, A, F>(
+    rt: &'a R,
+    timer: &'a TimerService<C, R>,
+    parker: &'a Arc<Parker, Global>,
+    is_over: &'a AtomicBool,
+    call: F,
+) -> Option<A>
+where
+    C: Clock + Drop + Send,
+    R: Blocking + Threads + Send + Sync,
+    F: FnOnce(&TimerService<C, R>) -> A,
+    requires { F.IsAlwaysCallable call }
+{
+    thread::scope(thread::scope_env(), rt, |scope| {
+        if scope
+            .spawn(move || timer.run_while(parker, is_over))
+            .is_err()
+        {
+            timer.monitor.call((), |timed, ()| timed.end_running());
+            return None;
+        }
+        let answer = call(timer);
+        is_over.store(true, Ordering::SeqCst);
+        parker.unpark();
+        Some(answer)
+    })
 }

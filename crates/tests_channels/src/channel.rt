@@ -1,4 +1,4 @@
-//! The channel's refusals, and its local futures. The worked cases are lists of calls in `fi_run`, over each buffer.
+//! The channel's refusals, and its local futures. The worked cases are scripts in `tests_scripts`, over each buffer.
 use fi_channels::{LocalChannel, LocalUnbufferedChannel, TryReceiveError, TrySendError};
 use fi_parts::CloseStatus;
 use futures::task::Poll;
@@ -8,14 +8,23 @@ fn channel_refusals(rt: HostRuntime) {
     let full: TrySendError<u64> = TrySendError::Full(1);
     let closed: TrySendError<u64> = TrySendError::Closed(2);
     let memory: TrySendError<u64> = TrySendError::NoMemory(3);
-    assert!(rt; full.is_full() && !full.is_closed() && !full.is_memory());
-    assert!(rt; !closed.is_full() && closed.is_closed() && !closed.is_memory());
+    assert!(rt;
+        full.is_full()
+            && !full.is_closed()
+            && !full.is_memory()
+            && !closed.is_full()
+            && closed.is_closed()
+            && !closed.is_memory()
+    );
     assert!(rt; !memory.is_full() && !memory.is_closed() && memory.is_memory());
-    assert_eq!(rt; full.into_inner(), 1);
-    assert_eq!(rt; closed.into_inner(), 2);
-    assert_eq!(rt; memory.into_inner(), 3);
-    assert!(rt; TryReceiveError::Empty.is_empty() && !TryReceiveError::Empty.is_closed());
-    assert!(rt; !TryReceiveError::Closed.is_empty() && TryReceiveError::Closed.is_closed());
+    let values = (full.into_inner(), closed.into_inner(), memory.into_inner());
+    assert_eq!(rt; values, (1, 2, 3));
+    assert!(rt;
+        TryReceiveError::Empty.is_empty()
+            && !TryReceiveError::Empty.is_closed()
+            && !TryReceiveError::Closed.is_empty()
+            && TryReceiveError::Closed.is_closed()
+    );
 }
 
 #[test]
@@ -28,10 +37,12 @@ fn a_local_channel(rt: HostRuntime) {
     let mut receive = channel.receive().expect(&rt, "room");
     let received = receive.poll(&mut channel, 2);
     receive.cancel(&mut channel);
-    assert_eq!(rt; sent, Poll::Ready(Ok(())));
-    assert!(rt; is_ended);
-    assert_eq!(rt; left, None);
-    assert_eq!(rt; received, Poll::Ready(Ok(Some(5))));
+    assert!(rt;
+        sent == Poll::Ready(Ok(()))
+            && is_ended
+            && left == None
+            && received == Poll::Ready(Ok(Some(5)))
+    );
 }
 
 #[test]
@@ -54,7 +65,5 @@ fn a_stream_of_a_closed_channel(rt: HostRuntime) {
     let again = stream.poll(&mut channel, 2);
     let is_ended = stream.is_terminated();
     stream.cancel(&mut channel);
-    assert_eq!(rt; last, Poll::Ready(None));
-    assert_eq!(rt; again, Poll::Ready(None));
-    assert!(rt; is_ended);
+    assert!(rt; last == Poll::Ready(None) && again == Poll::Ready(None) && is_ended);
 }

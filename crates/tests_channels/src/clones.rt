@@ -71,13 +71,15 @@ fn a_refused_clone_leaves_the_pair(rt: HostRuntime) {
     let refused = polled(&mut channel, slot, 8).expect(&rt, "second");
     let count = channel.wake_count();
     let value = item_in(polled(&mut channel, slot, 9).expect(&rt, "third")).expect(&rt, "value");
-    assert!(rt; is_pending);
-    assert!(rt; is_sent);
-    assert!(rt; is_refused(&refused));
-    assert_eq!(rt; count, 1);
-    assert_eq!(rt; value.number, 5);
-    assert_eq!(rt; channel.wake_count(), 0);
-    assert!(rt; !channel.can_receive(slot));
+    assert!(rt;
+        is_pending
+            && is_sent
+            && is_refused(&refused)
+            && count == 1
+            && value.number == 5
+            && channel.wake_count() == 0
+            && !channel.can_receive(slot)
+    );
 }
 
 #[test]
@@ -95,13 +97,15 @@ fn a_refused_clone_leaves_the_waker(rt: HostRuntime) {
     let (number, value) = item_in(polled(&mut channel, slot, 9).expect(&rt, "third")).expect(
         &rt, "state",
     );
-    assert!(rt; is_pending);
-    assert!(rt; is_sent);
-    assert!(rt; is_refused(&refused));
-    assert_eq!(rt; waker, Some(7));
-    assert_eq!(rt; number.value(), 1);
-    assert_eq!(rt; value.number, 5);
-    assert!(rt; !channel.can_receive(slot));
+    assert!(rt;
+        is_pending
+            && is_sent
+            && is_refused(&refused)
+            && waker == Some(7)
+            && number.value() == 1
+            && value.number == 5
+            && !channel.can_receive(slot)
+    );
 }
 
 #[test]
@@ -115,10 +119,9 @@ fn a_refused_clone_is_asked_again(rt: HostRuntime) {
         .try_receive(StateId::new())
         .expect(&rt, "room")
         .expect(&rt, "state");
-    assert!(rt; is_sent);
-    assert_eq!(rt; fault, Some(Fault::NoMemory));
-    assert_eq!(rt; number.value(), 1);
-    assert_eq!(rt; value.number, 5);
+    assert!(rt;
+        is_sent && fault == Some(Fault::NoMemory) && number.value() == 1 && value.number == 5
+    );
 }
 
 // The Nth allocation may be refused in the tests below.
@@ -158,9 +161,7 @@ fn broadcast_bytes_survive_a_refused_clone(rt: HostRuntime) {
     };
     let is_sent = channel.send(bytes).is_ok();
     let copy = polled_bytes(&mut channel, slot).expect(&rt, "bytes");
-    assert!(rt; is_sent);
-    assert_eq!(rt; copy.as_slice(), [1u8, 2, 3].as_slice());
-    assert!(rt; !channel.can_receive(slot));
+    assert!(rt; is_sent && copy.as_slice() == [1u8, 2, 3].as_slice() && !channel.can_receive(slot));
 }
 
 #[test]
@@ -175,9 +176,7 @@ fn state_bytes_survive_a_refused_clone(rt: HostRuntime) {
         Err(_) => channel.claim_receive(StateId::new()).expect(&rt, "room"),
     };
     let (number, copy) = polled_state_bytes(&mut channel, slot).expect(&rt, "bytes");
-    assert!(rt; is_sent);
-    assert_eq!(rt; number.value(), 1);
-    assert_eq!(rt; copy.as_slice(), [4u8, 5].as_slice());
+    assert!(rt; is_sent && number.value() == 1 && copy.as_slice() == [4u8, 5].as_slice());
 }
 
 // The call that does not wait.
@@ -193,7 +192,5 @@ fn newest_bytes_survive_a_refused_clone(rt: HostRuntime) {
         Err(_) => channel.try_receive(StateId::new()).expect(&rt, "room"),
     };
     let (number, copy) = state.expect(&rt, "state");
-    assert!(rt; is_sent);
-    assert_eq!(rt; number.value(), 1);
-    assert_eq!(rt; copy.as_slice(), [4u8, 5].as_slice());
+    assert!(rt; is_sent && number.value() == 1 && copy.as_slice() == [4u8, 5].as_slice());
 }

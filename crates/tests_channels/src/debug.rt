@@ -42,8 +42,10 @@ fn a_channel_shows_its_name(rt: HostRuntime) {
 
 #[test]
 fn ways_of_giving_show_their_names(rt: HostRuntime) {
-    assert!(rt; shows(rt.alloc(), &TakesValue, "TakesValue"));
-    assert!(rt; shows(rt.alloc(), &ClonesValue, "ClonesValue"));
+    assert!(rt;
+        shows(rt.alloc(), &TakesValue, "TakesValue")
+            && shows(rt.alloc(), &ClonesValue, "ClonesValue")
+    );
 }
 
 #[test]
@@ -70,8 +72,7 @@ fn a_send_shows_its_name(rt: HostRuntime) {
     let send = channel.send(5).expect(&rt, "room");
     let shown = shows(rt.alloc(), &send, "ChannelSendFuture");
     let unsent = send.cancel(&mut channel);
-    assert!(rt; shown);
-    assert_eq!(rt; unsent, Some(5));
+    assert!(rt; shown && unsent == Some(5));
 }
 
 #[test]
@@ -85,30 +86,26 @@ fn a_stream_shows_its_name(rt: HostRuntime) {
 
 #[test]
 fn refusals_say_what_is_wrong(rt: HostRuntime) {
-    assert!(rt; reads(rt.alloc(), &SendFault::Closed(3), "the channel is closed"));
     assert!(rt;
-        reads(
-            rt.alloc(),
-            &SendFault::<u8>::Fault(Fault::NoMemory),
-            "out of memory"
-        )
-    );
-    assert!(rt; reads(rt.alloc(), &TrySendError::Full(3), "the channel is full"));
-    assert!(rt; reads(rt.alloc(), &TrySendError::NoMemory(3), "out of memory"));
-    assert!(rt;
-        reads(
-            rt.alloc(),
-            &TrySendError::Closed(3),
-            "the channel is closed"
-        )
-    );
-    assert!(rt; reads(rt.alloc(), &TryReceiveError::Empty, "the channel is empty"));
-    assert!(rt;
-        reads(
-            rt.alloc(),
-            &TryReceiveError::Closed,
-            "the channel is closed and empty"
-        )
+        reads(rt.alloc(), &SendFault::Closed(3), "the channel is closed")
+            && reads(
+                rt.alloc(),
+                &SendFault::<u8>::Fault(Fault::NoMemory),
+                "out of memory"
+            )
+            && reads(rt.alloc(), &TrySendError::Full(3), "the channel is full")
+            && reads(rt.alloc(), &TrySendError::NoMemory(3), "out of memory")
+            && reads(
+                rt.alloc(),
+                &TrySendError::Closed(3),
+                "the channel is closed"
+            )
+            && reads(rt.alloc(), &TryReceiveError::Empty, "the channel is empty")
+            && reads(
+                rt.alloc(),
+                &TryReceiveError::Closed,
+                "the channel is closed and empty"
+            )
     );
 }
 
@@ -121,28 +118,20 @@ fn sends(refused: TrySendError<u8>) -> io::Result<()> {
 #[test]
 fn refusals_become_io_errors(rt: HostRuntime) {
     let kind = |refused| sends(refused).err().map(|error| error.kind());
-    assert_eq!(rt; kind(TrySendError::Full(3)), Some(ErrorKind::WouldBlock));
-    assert_eq!(rt; kind(TrySendError::Closed(3)), Some(ErrorKind::BrokenPipe));
-    assert_eq!(rt;
-        kind(TrySendError::NoMemory(3)),
-        Some(ErrorKind::OutOfMemory)
+    assert!(rt;
+        kind(TrySendError::Full(3)) == Some(ErrorKind::WouldBlock)
+            && kind(TrySendError::Closed(3)) == Some(ErrorKind::BrokenPipe)
+            && kind(TrySendError::NoMemory(3)) == Some(ErrorKind::OutOfMemory)
     );
     let closed = io::Error::from(SendFault::Closed(3));
     let no_memory = io::Error::from(SendFault::<u8>::Fault(Fault::NoMemory));
-    assert_eq!(rt; closed.kind(), ErrorKind::BrokenPipe);
-    assert_eq!(rt; no_memory.kind(), ErrorKind::OutOfMemory);
-    assert_eq!(rt; io::Error::from(NoRoom(3)).kind(), ErrorKind::OutOfMemory);
-    assert_eq!(rt;
-        io::Error::from(ChannelSendError(3)).kind(),
-        ErrorKind::BrokenPipe
-    );
-    assert_eq!(rt;
-        io::Error::from(TryReceiveError::Empty).kind(),
-        ErrorKind::WouldBlock
-    );
-    assert_eq!(rt;
-        io::Error::from(TryReceiveError::Closed).kind(),
-        ErrorKind::BrokenPipe
+    assert!(rt;
+        closed.kind() == ErrorKind::BrokenPipe
+            && no_memory.kind() == ErrorKind::OutOfMemory
+            && io::Error::from(NoRoom(3)).kind() == ErrorKind::OutOfMemory
+            && io::Error::from(ChannelSendError(3)).kind() == ErrorKind::BrokenPipe
+            && io::Error::from(TryReceiveError::Empty).kind() == ErrorKind::WouldBlock
+            && io::Error::from(TryReceiveError::Closed).kind() == ErrorKind::BrokenPipe
     );
 }
 
@@ -154,10 +143,12 @@ fn fault_of(refused: TrySendError<u8>) -> Result<(), Fault> {
 
 #[test]
 fn refusals_become_faults(rt: HostRuntime) {
-    assert_eq!(rt; fault_of(TrySendError::Full(3)), Err(Fault::Full));
-    assert_eq!(rt; Fault::from(NoRoom(3)), Fault::NoMemory);
-    assert_eq!(rt; Fault::from(AllocError), Fault::NoMemory);
-    assert_eq!(rt; Fault::from(SendFault::Closed(3)), Fault::Closed);
-    assert_eq!(rt; Fault::from(ChannelSendError(3)), Fault::Closed);
-    assert_eq!(rt; Fault::from(TryReceiveError::Empty), Fault::Empty);
+    assert!(rt;
+        fault_of(TrySendError::Full(3)) == Err(Fault::Full)
+            && Fault::from(NoRoom(3)) == Fault::NoMemory
+            && Fault::from(AllocError) == Fault::NoMemory
+            && Fault::from(SendFault::Closed(3)) == Fault::Closed
+            && Fault::from(ChannelSendError(3)) == Fault::Closed
+            && Fault::from(TryReceiveError::Empty) == Fault::Empty
+    );
 }

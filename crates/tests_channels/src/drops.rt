@@ -17,11 +17,9 @@ fn a_replaced_state_is_dropped(rt: HostRuntime) {
         counted.clone().expect(&rt, "room"),
     );
     let is_sent = channel.send(first).is_ok();
-    assert!(rt; is_sent);
-    assert_eq!(rt; Rc::strong_count(&counted), 3);
+    assert!(rt; is_sent && Rc::strong_count(&counted) == 3);
     let is_replaced = channel.send(second).is_ok();
-    assert!(rt; is_replaced);
-    assert_eq!(rt; Rc::strong_count(&counted), 2);
+    assert!(rt; is_replaced && Rc::strong_count(&counted) == 2);
 }
 
 // The waker's owners while a wait pends that was polled twice, and once it is cancelled.

@@ -56,8 +56,10 @@ fn a_state_receive_is_kept(rt: HostRuntime) {
     let ends = receive.poll_if_live(&mut channel, 2);
     receive.leave(&mut channel);
     let state = (StateId::from_value(1), 5);
-    assert_eq!(rt; (waits, woken), (Some(Poll::Pending), Some(1)));
-    assert_eq!(rt; (sent, ends), (Ok(()), Some(Poll::Ready(Ok(Some(state))))));
+    assert!(rt;
+        (waits, woken) == (Some(Poll::Pending), Some(1))
+            && (sent, ends) == (Ok(()), Some(Poll::Ready(Ok(Some(state)))))
+    );
 }
 
 #[test]
@@ -98,13 +100,9 @@ fn a_stream_is_kept(rt: HostRuntime) {
     let closed = channel.close().is_newly_closed();
     let end = stream.poll_if_live(&mut channel, 3);
     stream.leave(&mut channel);
-    assert_eq!(rt;
-        (waits, sent, woken),
-        (Some(Poll::Pending), Ok(()), Some(1))
-    );
-    assert_eq!(rt;
-        (item, closed, end),
-        (Some(Poll::Ready(Some(5))), true, Some(Poll::Ready(None)))
+    assert!(rt;
+        (waits, sent, woken) == (Some(Poll::Pending), Ok(()), Some(1))
+            && (item, closed, end) == (Some(Poll::Ready(Some(5))), true, Some(Poll::Ready(None)))
     );
 }
 
@@ -116,9 +114,8 @@ fn a_send_is_cancelled(rt: HostRuntime) {
     let waits = send.poll_if_live(&mut channel, 1);
     let refused = channel.try_send(7);
     let left = send.cancel(&mut channel);
-    assert_eq!(rt;
-        (stored, waits, left),
-        (Ok(()), Some(Poll::Pending), Some(6))
+    assert!(rt;
+        (stored, waits, left) == (Ok(()), Some(Poll::Pending), Some(6))
+            && refused == Err(TrySendError::Full(7))
     );
-    assert!(rt; refused == Err(TrySendError::Full(7)));
 }

@@ -14,9 +14,7 @@ fn a_local_wait(rt: HostRuntime) {
     let answer = wait.poll(&mut event, 1);
     let is_ended = wait.is_terminated();
     wait.cancel(&mut event);
-    assert!(rt; !was_ended);
-    assert_eq!(rt; answer, Poll::Ready(()));
-    assert!(rt; is_ended);
+    assert!(rt; !was_ended && answer == Poll::Ready(()) && is_ended);
 }
 
 #[test]
@@ -26,11 +24,13 @@ fn an_event_flag(rt: HostRuntime) {
     event.set();
     assert!(rt; event.is_set());
     event.reset();
-    assert!(rt; !event.is_set());
-    assert_eq!(rt; event.wake_count(), 0);
-    assert_eq!(rt; event.next_wake(), None);
-    assert!(rt; !event.is_live(Slot(0)));
-    assert!(rt; !event.can_poll(Slot(0)));
+    assert!(rt;
+        !event.is_set()
+            && event.wake_count() == 0
+            && event.next_wake() == None
+            && !event.is_live(Slot(0))
+            && !event.can_poll(Slot(0))
+    );
 }
 
 #[test]
@@ -75,16 +75,17 @@ fn a_local_state(rt: HostRuntime) {
     let answer = receive.poll(&mut channel, 1);
     let is_ended = receive.is_terminated();
     receive.cancel(&mut channel);
-    assert_eq!(rt; answer, Poll::Ready(Ok(Some((first, 9)))));
-    assert!(rt; is_ended);
+    assert!(rt; answer == Poll::Ready(Ok(Some((first, 9)))) && is_ended);
 }
 
 #[test]
 fn local_channels_answer_by_slot(rt: HostRuntime) {
     let mut channel: LocalOneshotChannel<u32, u64> = LocalOneshotChannel::new(rt.alloc());
-    assert!(rt; !channel.has_receive(Slot(0)));
-    assert!(rt; !channel.can_receive(Slot(0)));
-    assert_eq!(rt; channel.next_wake(), None);
+    assert!(rt;
+        !channel.has_receive(Slot(0))
+            && !channel.can_receive(Slot(0))
+            && channel.next_wake() == None
+    );
     if channel.has_receive(Slot(0)) {
         let _ = channel.remove_receive_waiter(Slot(0));
     }

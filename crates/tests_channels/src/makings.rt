@@ -117,9 +117,7 @@ fn receives_of_a_oneshot(rt: HostRuntime) {
     let mut channel: OneshotState<u32, u64> = OneshotState::new(rt.alloc());
     assert!(rt; are_made(&mut channel));
     channel.fill();
-    assert_eq!(rt; channel.wake_count(), 3);
-    assert!(rt; are_made(&mut channel));
-    assert!(rt; are_made(&mut channel));
+    assert!(rt; channel.wake_count() == 3 && are_made(&mut channel) && are_made(&mut channel));
     channel.shut();
     assert!(rt; are_made(&mut channel));
 }
@@ -129,8 +127,7 @@ fn receives_of_a_oneshot_broadcast(rt: HostRuntime) {
     let mut channel: OneshotBroadcastState<u32, u64> = OneshotBroadcastState::new(rt.alloc());
     assert!(rt; are_made(&mut channel));
     channel.fill();
-    assert_eq!(rt; channel.wake_count(), 3);
-    assert!(rt; are_made(&mut channel));
+    assert!(rt; channel.wake_count() == 3 && are_made(&mut channel));
     channel.shut();
     assert!(rt; are_made(&mut channel));
 }
@@ -140,8 +137,7 @@ fn receives_of_a_state_broadcast(rt: HostRuntime) {
     let mut channel: StateBroadcastState<u32, u64> = StateBroadcastState::new(rt.alloc());
     assert!(rt; are_made(&mut channel));
     channel.fill();
-    assert_eq!(rt; channel.wake_count(), 3);
-    assert!(rt; are_made(&mut channel));
+    assert!(rt; channel.wake_count() == 3 && are_made(&mut channel));
     channel.shut();
     assert!(rt; are_made(&mut channel));
 }

@@ -6,7 +6,9 @@ use fi_parts::buffer::{ArrayBuf, FixedHeapBuf, GrowingHeapBuf, RingBuf};
 use fi_parts::{Fault, NoRoom};
 use std::alloc::Global;
 use std::marker::Model;
+use std::process::Abort;
 use std::rc::Rc;
+use std::test::*;
 use tests_help::texts::shows;
 
 /// Takes the oldest item, if there is one, and then puts the item behind the others: what a full channel does where a send waits.
@@ -75,7 +77,7 @@ fn make<B: RingBuf>(alloc: Global, capacity: usize) -> Option<B> {
 }
 
 /// Puts the item behind the others, at the second try if the first is refused. A refused push changes nothing.
-fn put<B: RingBuf<Item = u32>>(buffer: &mut B, item: u32) -> bool {
+fn is_put<B: RingBuf<Item = u32>>(buffer: &mut B, item: u32) -> bool {
     if !buffer.can_push() {
         return false;
     }
@@ -98,7 +100,7 @@ fn take<B: RingBuf>(buffer: &mut B) -> Option<B::Item> {
 /// Puts these items, one after another.
 fn puts<B: RingBuf<Item = u32>>(buffer: &mut B, items: &[u32]) -> bool {
     for item in items {
-        if !put(buffer, *item) {
+        if !is_put(buffer, *item) {
             return false;
         }
     }
@@ -118,7 +120,7 @@ fn takes<B: RingBuf<Item = u32>>(buffer: &mut B, items: &[u32]) -> bool {
 /// Puts these items, and after each one more can be pushed or can't.
 fn fills<B: RingBuf<Item = u32>>(buffer: &mut B, rows: &[(u32, bool)]) -> bool {
     for (item, can_push) in rows {
-        if !put(buffer, *item) || buffer.can_push() != *can_push {
+        if !is_put(buffer, *item) || buffer.can_push() != *can_push {
             return false;
         }
     }
@@ -138,7 +140,7 @@ fn empties<B: RingBuf<Item = u32>>(buffer: &mut B, rows: &[(u32, usize)]) -> boo
 /// Puts these items, and has memory for so many after each.
 fn grows<B: RingBuf<Item = u32>>(buffer: &mut B, rows: &[(u32, usize)]) -> bool {
     for (item, reserved) in rows {
-        if !put(buffer, *item) || buffer.reserved() != *reserved {
+        if !is_put(buffer, *item) || buffer.reserved() != *reserved {
             return false;
         }
     }
@@ -240,14 +242,14 @@ fn capacity_zero(rt: HostRuntime) {
     assert!(rt; holds_none);
 }
 
-/// A buffer of three items, which has memory for so many at first, has its oldest exchanged.
-fn is_refilled<B: RingBuf<Item = u32>>(buffer: &mut B, reserved: usize) -> bool {
-    buffer.capacity() == 3
-        && buffer.reserved() == reserved
-        && put(buffer, 1)
-        && buffer.reserved() == 3
-        && buffer.capacity() == 3
-        && refill(buffer, 2).ok() == Some(Some(1))
+/// Puts the item behind the others.
+fn put<B: RingBuf<Item = u32>>(rt: &impl Abort, buffer: &mut B, item: u32) {
+    assert!(rt; is_put(buffer, item));
+}
+
+/// A buffer of three items, with memory for three, whose one item is exchanged.
+fn is_refilled<B: RingBuf<Item = u32>>(buffer: &mut B) -> bool {
+    buffer.capacity() == 3 && buffer.reserved() == 3 && refill(buffer, 2).ok() == Some(Some(1))
 }
 
 /// A buffer's last items are taken, and the memory stays.
@@ -258,24 +260,28 @@ fn is_emptied<B: RingBuf<Item = u32>>(buffer: &mut B, last: &[u32], reserved: us
 #[test]
 fn array_buf(rt: HostRuntime) {
     let mut buffer = ArrayBuf::<u32, 3>::new(rt.alloc());
-    let is_used = is_refilled(&mut buffer, 0) && is_emptied(&mut buffer, &[2], 3);
+    assert_eq!(rt; (buffer.capacity(), buffer.reserved()), (3, 0));
+    put(&rt, &mut buffer, 1);
+    assert_eq!(rt; buffer.reserved(), 3);
+    let is_used = is_refilled(&mut buffer) && is_emptied(&mut buffer, &[2], 3);
     assert!(rt; is_used && shows(rt.alloc(), &buffer, "ArrayBuf { size: 0, cap: 3 }"));
 }
 
 #[test]
 fn fixed_heap_buf(rt: HostRuntime) {
     let mut buffer = FixedHeapBuf::with_capacity(rt.alloc(), 3).expect(&rt, "memory");
-    let is_used = is_refilled(&mut buffer, 3)
+    let is_used = buffer.capacity() == 3
+        && buffer.reserved() == 3
+        && is_put(&mut buffer, 1)
+        && is_refilled(&mut buffer)
         && shows(rt.alloc(), &buffer, "FixedHeapBuf { size: 1, cap: 3 }")
         && is_emptied(&mut buffer, &[2], 3);
     assert!(rt; is_used);
 }
 
-/// A buffer of ten items grows with them, and then has its oldest exchanged.
+/// A buffer of ten items grows with nine, and then has its oldest exchanged.
 fn grows_to_ten<B: RingBuf<Item = u32>>(buffer: &mut B) -> bool {
-    buffer.capacity() == 10
-        && buffer.reserved() == 0
-        && grows(buffer, &[(1, 4), (2, 4), (3, 4), (4, 4), (5, 8), (6, 8)])
+    grows(buffer, &[(1, 4), (2, 4), (3, 4), (4, 4), (5, 8), (6, 8)])
         && grows(buffer, &[(7, 8), (8, 8), (9, 10)])
         && buffer.capacity() == 10
         && refill(buffer, 10).ok() == Some(Some(1))
@@ -284,10 +290,14 @@ fn grows_to_ten<B: RingBuf<Item = u32>>(buffer: &mut B) -> bool {
 #[test]
 fn growing_heap_buf(rt: HostRuntime) {
     let mut buffer = GrowingHeapBuf::with_capacity(rt.alloc(), 10).expect(&rt, "memory");
-    let is_used = grows_to_ten(&mut buffer)
-        && shows(rt.alloc(), &buffer, "GrowingHeapBuf { size: 9, limit: 10 }")
-        && is_emptied(&mut buffer, &[2, 3, 4, 5, 6, 7, 8, 9, 10], 10);
-    assert!(rt; is_used);
+    assert_eq!(rt; (buffer.capacity(), buffer.reserved()), (10, 0));
+    let is_shown = grows_to_ten(&mut buffer)
+        && shows(rt.alloc(), &buffer, "GrowingHeapBuf { size: 9, limit: 10 }");
+    assert!(rt; is_shown);
+    for item in [2, 3, 4, 5, 6, 7, 8, 9, 10] {
+        assert_eq!(rt; take(&mut buffer), Some(item));
+    }
+    assert_eq!(rt; (buffer.reserved(), buffer.is_empty()), (10, true));
 }
 
 /// More than any address space has room for.
@@ -301,25 +311,17 @@ fn is_refused<B: RingBuf>(alloc: Global, capacity: usize) -> bool {
     }
 }
 
-/// Whether the first push is refused for memory, and changes nothing.
-fn refuses_a_push<B: RingBuf<Item = u32>>(buffer: &mut B) -> bool {
-    if !buffer.can_push() {
-        return false;
-    }
-    match buffer.push(7) {
-        Ok(()) => false,
-        Err(NoRoom(back)) => back == 7 && buffer.len() == 0 && buffer.reserved() == 0,
-    }
-}
-
 #[test]
 fn refused_for_memory(rt: HostRuntime) {
-    let mut buffer = ArrayBuf::<u32, TOO_MANY>::new(rt.alloc());
     let are_refused = is_refused::<ArrayBuf<u32, TOO_MANY>>(rt.alloc(), 1)
-        && is_refused::<FixedHeapBuf<u32>>(rt.alloc(), TOO_MANY)
-        && refuses_a_push(&mut buffer)
-        && refuses_a_push(&mut buffer);
+        && is_refused::<FixedHeapBuf<u32>>(rt.alloc(), TOO_MANY);
     assert!(rt; are_refused);
+    let mut buffer = ArrayBuf::<u32, TOO_MANY>::new(rt.alloc());
+    for _ in 0..2 {
+        assert!(rt; buffer.can_push());
+        let NoRoom(back) = buffer.push(7).err().expect(&rt, "no memory");
+        assert_eq!(rt; (back, buffer.len(), buffer.reserved()), (7, 0, 0));
+    }
 }
 
 /// Puts so many owners of the item.

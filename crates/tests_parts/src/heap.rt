@@ -54,14 +54,6 @@ fn heap_order(rt: HostRuntime) {
     assert!(rt; is_ordered);
 }
 
-/// Writes a live slot's value, while the slot is outside.
-fn is_written(heap: &mut PairingHeap<u64>, slot: Slot, written: u64) -> bool {
-    if let Some(value) = heap.get_mut(slot) {
-        *value = written;
-    }
-    heap.get(slot).copied() == Some(written) && !heap.contains(slot)
-}
-
 /// Whether a slot isn't live.
 fn is_not_live(heap: &mut PairingHeap<u64>, slot: Slot) -> bool {
     !heap.contains(slot) && heap.get_mut(slot).is_none()
@@ -70,12 +62,16 @@ fn is_not_live(heap: &mut PairingHeap<u64>, slot: Slot) -> bool {
 #[test]
 fn values_are_written_outside(rt: HostRuntime) {
     let mut heap = PairingHeap::new(rt.alloc());
-    add(&rt, &mut heap, 6);
+    let other = heap.claim(6).expect(&rt, "no memory");
+    heap.insert(other);
     let slot = heap.claim(7).expect(&rt, "no memory");
-    let was_written = is_written(&mut heap, slot, 5);
-    assert!(rt; was_written && heap.get(slot).is_some());
+    if let Some(value) = heap.get_mut(slot) {
+        *value = 5;
+    }
+    assert!(rt; heap.get(slot).copied() == Some(5) && !heap.contains(slot));
     heap.insert(slot);
-    assert!(rt; heap.peek_min() == Some(slot) && is_not_live(&mut heap, Slot(7)));
+    assert_eq!(rt; heap.peek_min(), Some(slot));
+    assert!(rt; is_not_live(&mut heap, Slot(7)));
 }
 
 /// Draws numbers: the same ones in each run.

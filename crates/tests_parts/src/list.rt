@@ -2,7 +2,7 @@
 ghost use Rattle.std.specs.Prelude.{◌≡◌, ◌∷◌, IfOk};
 
 use fi_parts::{LinkedList, NoRoom, Slot};
-use std::alloc::Global;
+use std::alloc::{AllocError, Global};
 use std::rc::Rc;
 
 // Claims a slot for the value, and puts it in front.
@@ -27,45 +27,44 @@ fn value(list: &LinkedList<u32>, slot: Slot) -> u32 {
     list.get(slot).copied().unwrap_or(0)
 }
 
-// Whether these slots have the values, in this order.
-fn have_values(list: &LinkedList<u32>, slots: &[Slot], wanted: &[u32]) -> bool {
-    let mut left = wanted.iter();
+// The values under these slots.
+fn values(alloc: Global, list: &LinkedList<u32>, slots: &[Slot]) -> Result<Vec<u32>, AllocError> {
+    let mut values = Vec::new(alloc);
     for slot in slots {
-        if left.next().copied() != Some(value(list, *slot)) {
-            return false;
-        }
+        values.push(value(list, *slot))?;
     }
-    left.next().is_none()
-}
-
-// Whether a drain gives slots with these values, the youngest first.
-fn drains(alloc: Global, list: &mut LinkedList<u32>, wanted: &[u32]) -> bool {
-    let slots: Result<Vec<Slot>, _> = list.drain().collect(alloc);
-    match slots {
-        Ok(slots) => have_values(list, slots.as_slice(), wanted),
-        Err(_) => false,
-    }
+    Ok(values)
 }
 
 #[test]
 fn list_order(rt: HostRuntime) {
     let (mut list, _, _) = three(rt.alloc()).expect(&rt, "room");
-    assert!(rt; drains(rt.alloc(), &mut list, &[5, 7, 31]));
-}
-
-// Whether a drain gives slots with these values, the oldest first.
-fn drains_in_reverse(alloc: Global, list: &mut LinkedList<u32>, wanted: &[u32]) -> bool {
-    let slots: Result<Vec<Slot>, _> = list.reverse_drain().collect(alloc);
-    match slots {
-        Ok(slots) => have_values(list, slots.as_slice(), wanted),
-        Err(_) => false,
-    }
+    let slots: Vec<Slot> = list.drain().collect(rt.alloc()).expect(&rt, "memory");
+    let youngest_first = values(rt.alloc(), &list, &slots).expect(&rt, "memory");
+    assert_eq!(rt; youngest_first.as_slice(), [5, 7, 31].as_slice());
 }
 
 #[test]
 fn list_order_reversed(rt: HostRuntime) {
     let (mut list, _, _) = three(rt.alloc()).expect(&rt, "room");
-    assert!(rt; drains_in_reverse(rt.alloc(), &mut list, &[31, 7, 5]) && list.is_empty());
+    let slots: Vec<Slot> = list
+        .reverse_drain()
+        .collect(rt.alloc())
+        .expect(&rt, "memory");
+    let oldest_first = values(rt.alloc(), &list, &slots).expect(&rt, "memory");
+    assert_eq!(rt; oldest_first.as_slice(), [31, 7, 5].as_slice());
+    assert!(rt; list.is_empty());
+}
+
+// Whether the values of two, the youngest first, are those that the list gives until it is empty.
+fn has_two(list: &mut LinkedList<u32>, youngest: u32, oldest: u32) -> bool {
+    let mut left = list.drain();
+    let (Some(first), Some(last)) = (left.next(), left.next()) else {
+        return false;
+    };
+    let is_empty = left.next().is_none();
+    drop(left);
+    is_empty && value(list, first) == youngest && value(list, last) == oldest
 }
 
 // Whether the slot can be taken out once, and stays live.
@@ -79,17 +78,9 @@ fn list_remove(rt: HostRuntime) {
     let (mut list, oldest, middle) = three(rt.alloc()).expect(&rt, "room");
     let is_removed = is_removed_once(&mut list, middle)
         && list.last_slot() == Some(oldest)
-        && drains(rt.alloc(), &mut list, &[5, 31])
+        && has_two(&mut list, 5, 31)
         && value(&list, middle) == 7;
     assert!(rt; is_removed);
-}
-
-// Whether the list's ends are those of three values.
-fn has_ends(list: &LinkedList<u32>, oldest: Slot) -> bool {
-    !list.is_empty()
-        && list.last_slot() == Some(oldest)
-        && list.peek_first().copied() == Some(5)
-        && list.peek_last().copied() == Some(31)
 }
 
 // Whether both ends are taken out, and the middle is left.
@@ -103,7 +94,11 @@ fn loses_its_ends(list: &mut LinkedList<u32>, oldest: Slot) -> bool {
 #[test]
 fn list_ends(rt: HostRuntime) {
     let (mut list, oldest, _) = three(rt.alloc()).expect(&rt, "room");
-    assert!(rt; has_ends(&list, oldest) && loses_its_ends(&mut list, oldest));
+    assert!(rt; !list.is_empty());
+    assert_eq!(rt; list.last_slot(), Some(oldest));
+    assert_eq!(rt; list.peek_first().copied(), Some(5));
+    assert_eq!(rt; list.peek_last().copied(), Some(31));
+    assert!(rt; loses_its_ends(&mut list, oldest));
 }
 
 #[test]
@@ -140,11 +135,9 @@ fn a_drain_dropped_early_leaves_the_rest(rt: HostRuntime) {
 fn list_values(rt: HostRuntime) {
     let mut list = LinkedList::new(rt.alloc());
     let slot = list.claim(3).expect(&rt, "room");
-    let is_freed = list.free(slot) == 3
-        && list.get(slot).copied() == None
-        && list.get_mut(slot).is_none()
-        && !list.remove(slot);
-    assert!(rt; is_freed);
+    assert_eq!(rt; list.free(slot), 3);
+    assert_eq!(rt; list.get(slot).copied(), None);
+    assert!(rt; list.get_mut(slot).is_none() && !list.remove(slot));
 }
 
 // A list of five live slots under one count of owners; the second and the fourth are linked.

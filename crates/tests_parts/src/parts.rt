@@ -1,18 +1,10 @@
 //! What the primitives share besides lists, heaps and buffers: each public call once, at a concrete type.
 use fi_parts::{
     ChannelSendError, CloseStatus, Deadlines, Fault, LinkedList, NoRoom, Outbox, Slot, StateId,
-    Ticket, Waits,
+    Waits,
 };
 use std::alloc::Global;
 use tests_help::texts::shows;
-
-// Whether a waker that is named is taken out once, and one that isn't never.
-fn is_taken_out(outbox: &mut Outbox<u64>, named: Ticket, other: Ticket) -> bool {
-    outbox.len() == 1
-        && outbox.take_out(other).is_none()
-        && outbox.take_out(named) == Some(11)
-        && outbox.pop().is_none()
-}
 
 #[test]
 fn outbox_names(rt: HostRuntime) {
@@ -20,7 +12,10 @@ fn outbox_names(rt: HostRuntime) {
     let first = outbox.claim().expect(&rt, "room");
     outbox.name(first, 11);
     let second = outbox.claim().expect(&rt, "room");
-    assert!(rt; is_taken_out(&mut outbox, first, second));
+    assert_eq!(rt; outbox.len(), 1);
+    assert_eq!(rt; outbox.take_out(second), None);
+    assert_eq!(rt; outbox.take_out(first), Some(11));
+    assert_eq!(rt; outbox.pop(), None);
 }
 
 #[test]
@@ -65,15 +60,15 @@ fn faults_and_closes(rt: HostRuntime) {
 
 #[test]
 fn state_ids(rt: HostRuntime) {
-    let are_ids = StateId::new() == StateId::default()
-        && StateId::new().value() == 0
-        && StateId::from_value(7).value() == 7
-        && StateId::new() < StateId::from_value(1);
+    assert_eq!(rt; StateId::new(), StateId::default());
+    assert_eq!(rt; StateId::new().value(), 0);
+    assert_eq!(rt; StateId::from_value(7).value(), 7);
+    assert!(rt; StateId::new() < StateId::from_value(1));
     let are_shown = shows(rt.alloc(), &StateId::from_value(7), "StateId(7)")
         && shows(rt.alloc(), &Slot(3), "Slot(3)")
         && shows(rt.alloc(), &NoRoom(3), "NoRoom(3)")
         && shows(rt.alloc(), &Fault::Closed, "Closed");
-    assert!(rt; are_ids && are_shown);
+    assert!(rt; are_shown);
 }
 
 // Tickets are made beside named ones.

@@ -91,10 +91,10 @@ fn refuses_a_third<R: Wait + Copy + AllocGlobal, L: Ledger>(
 fn desk_seats(rt: HostRuntime) -> Result<(), Fail> {
     assert!(rt;
         settles_with::<HostRuntime, Brand>(rt, Blank::new(2), 2, 1)? == Err(Mismatch::Seats)
+            && settles_with::<HostRuntime, Brand>(rt, Blank::new(2), 2, 2)? == Ok(0)
+            && refuses_a_third::<HostRuntime, Brand>(rt, Blank::new(2))?
+            && settles_with::<HostRuntime, Brand>(rt, Blank::new(2), 0, 0)? == Ok(0)
     );
-    assert!(rt; settles_with::<HostRuntime, Brand>(rt, Blank::new(2), 2, 2)? == Ok(0));
-    assert!(rt; refuses_a_third::<HostRuntime, Brand>(rt, Blank::new(2))?);
-    assert!(rt; settles_with::<HostRuntime, Brand>(rt, Blank::new(2), 0, 0)? == Ok(0));
     Ok(())
 }
 
@@ -141,8 +141,10 @@ fn lacks_a_caller<R: Wait + Copy + AllocGlobal, L: Ledger>(
 
 #[test]
 fn each_seat_has_its_entries(rt: HostRuntime) -> Result<(), Fail> {
-    assert!(rt; seats_forty::<HostRuntime, Brand>(rt, Blank::new(40))?);
-    assert!(rt; lacks_a_caller::<HostRuntime, Brand>(rt, Blank::new(2))? == Some(Mismatch::Seats));
+    assert!(rt;
+        seats_forty::<HostRuntime, Brand>(rt, Blank::new(40))?
+            && lacks_a_caller::<HostRuntime, Brand>(rt, Blank::new(2))? == Some(Mismatch::Seats)
+    );
     Ok(())
 }
 
@@ -201,9 +203,9 @@ fn three_threads<
     seats.push(c)?;
     let settled = desk.settle(seats)?;
     assert!(rt; settled.history.len() == calls);
-    assert!(rt; has_its_answers(&rt, &settled)?);
-    assert!(rt; settled.state.permits() == 2);
-    assert!(rt; settled.state.held() == 0);
+    assert!(rt;
+        has_its_answers(&rt, &settled)? && settled.state.permits() == 2 && settled.state.held() == 0
+    );
     Ok(())
 }
 

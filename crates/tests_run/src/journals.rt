@@ -39,16 +39,22 @@ where
 #[test]
 fn a_journal_of_each_channel(rt: HostRuntime) -> Result<(), Fail> {
     let alloc = rt.alloc();
-    assert!(rt; records::<EventState<u64>>(alloc, true, EventCall::IsSet, Answer::Flag(true))?);
-    assert!(rt; records::<OneshotState<u64, u64>>(alloc, (), OneshotCall::Close, Answer::Newly)?);
     assert!(rt;
-        records::<OneshotBroadcastState<u64, u64>>(alloc, (), OneshotCall::Close, Answer::Newly)?
-    );
-    assert!(rt;
-        records::<StateBroadcastState<u64, u64>>(alloc, (), StateCall::Close, Answer::Newly)?
-    );
-    assert!(rt;
-        records::<LocalChannel<u64, 2, u64>>(alloc, 2, ChannelCall::TrySend(5), Answer::Done)?
+        records::<EventState<u64>>(alloc, true, EventCall::IsSet, Answer::Flag(true))?
+            && records::<OneshotState<u64, u64>>(alloc, (), OneshotCall::Close, Answer::Newly)?
+            && records::<OneshotBroadcastState<u64, u64>>(
+                alloc,
+                (),
+                OneshotCall::Close,
+                Answer::Newly
+            )?
+            && records::<StateBroadcastState<u64, u64>>(alloc, (), StateCall::Close, Answer::Newly)?
+            && records::<LocalChannel<u64, 2, u64>>(
+                alloc,
+                2,
+                ChannelCall::TrySend(5),
+                Answer::Done
+            )?
     );
     Ok(())
 }
@@ -58,15 +64,13 @@ fn a_journal_of_each_lock(rt: HostRuntime) -> Result<(), Fail> {
     let alloc = rt.alloc();
     assert!(rt;
         records::<MutexState<u64, u64>>(alloc, (7, true), MutexCall::TryLock, Answer::Item(7))?
+            && records::<SemaphoreState<u64>>(
+                alloc,
+                (2, false),
+                SemaphoreCall::Permits,
+                Answer::Number(2)
+            )?
+            && records::<TimerState<u64>>(alloc, (), TimerCall::Next, Answer::Moment(None))?
     );
-    assert!(rt;
-        records::<SemaphoreState<u64>>(
-            alloc,
-            (2, false),
-            SemaphoreCall::Permits,
-            Answer::Number(2)
-        )?
-    );
-    assert!(rt; records::<TimerState<u64>>(alloc, (), TimerCall::Next, Answer::Moment(None))?);
     Ok(())
 }

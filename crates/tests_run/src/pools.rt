@@ -84,15 +84,13 @@ fn workers<R: Wait + Threads + Abort + Copy + AllocGlobal + Send + Sync, L: Ledg
     assert!(rt; submits(&desk, &mut a)?);
     let shared = &desk;
     let (first, second) = thread::join(&rt, || works(shared, &mut b), || works(shared, &mut c));
-    assert!(rt; first && second);
-    assert!(rt; is_drained(&desk, &mut a)?);
+    assert!(rt; first && second && is_drained(&desk, &mut a)?);
     let mut seats = Vec::new(rt.alloc());
     seats.push(a)?;
     seats.push(b)?;
     seats.push(c)?;
     let settled = desk.settle(seats)?;
-    assert!(rt; settled.history.len() == 305);
-    assert!(rt; started_in_order(&settled));
+    assert!(rt; settled.history.len() == 305 && started_in_order(&settled));
     Ok(())
 }
 

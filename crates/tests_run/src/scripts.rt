@@ -1,4 +1,4 @@
-//! Histories that have no script, and what their errors become. Those that have one are run in `schedule`, in its tests of histories.
+//! Histories that have no script, and what their errors become. Those that have one are run in `tests_scripts` (`histories`).
 use fi_channels::{ChannelState, EventState};
 use fi_parts::Slot;
 use fi_parts::buffer::{ArrayBuf, FixedHeapBuf, GrowingHeapBuf};
@@ -83,18 +83,18 @@ where
 fn openings_without_a_line(rt: HostRuntime) -> Result<(), Fail> {
     let alloc = rt.alloc();
     let wanted = Some(ScriptError::Opening);
-    assert!(rt; refusal::<ChannelState<u64, ArrayBuf<u64, 3>, u64>>(alloc, 3)? == wanted);
-    assert!(rt; refusal::<ChannelState<u64, FixedHeapBuf<u64>, u64>>(alloc, 65537)? == wanted);
-    assert!(rt; refusal::<ChannelState<u64, GrowingHeapBuf<u64>, u64>>(alloc, 65537)? == wanted);
-    assert!(rt; refusal::<PoolState<u64>>(alloc, (1, 65537))? == wanted);
     assert!(rt;
-        reads(
-            alloc,
-            &ScriptError::Opening,
-            "no script opens the primitive so"
-        )
+        refusal::<ChannelState<u64, ArrayBuf<u64, 3>, u64>>(alloc, 3)? == wanted
+            && refusal::<ChannelState<u64, FixedHeapBuf<u64>, u64>>(alloc, 65537)? == wanted
+            && refusal::<ChannelState<u64, GrowingHeapBuf<u64>, u64>>(alloc, 65537)? == wanted
+            && refusal::<PoolState<u64>>(alloc, (1, 65537))? == wanted
+            && reads(
+                alloc,
+                &ScriptError::Opening,
+                "no script opens the primitive so"
+            )
+            && reads(alloc, &ScriptError::NoMemory, "out of memory")
     );
-    assert!(rt; reads(alloc, &ScriptError::NoMemory, "out of memory"));
     Ok(())
 }
 
@@ -105,10 +105,7 @@ fn a_mismatch_says_what_is_missing(rt: HostRuntime) {
             rt.alloc(),
             &Mismatch::Seats,
             "seats of the desk are missing"
-        )
-    );
-    assert!(rt;
-        reads(
+        ) && reads(
             rt.alloc(),
             &Mismatch::Entry(3),
             "entry 3 has no receipt at its seat"
@@ -118,24 +115,11 @@ fn a_mismatch_says_what_is_missing(rt: HostRuntime) {
 
 #[test]
 fn errors_become_io_errors(rt: HostRuntime) {
-    assert_eq!(rt;
-        io::Error::from(ScriptError::NoMemory).kind(),
-        ErrorKind::OutOfMemory
-    );
-    assert_eq!(rt;
-        io::Error::from(ScriptError::Opening).kind(),
-        ErrorKind::InvalidData
-    );
-    assert_eq!(rt;
-        io::Error::from(ScriptError::Wakers(3)).kind(),
-        ErrorKind::InvalidData
-    );
-    assert_eq!(rt;
-        io::Error::from(Mismatch::Seats).kind(),
-        ErrorKind::InvalidData
-    );
-    assert_eq!(rt;
-        io::Error::from(Mismatch::Entry(3)).kind(),
-        ErrorKind::InvalidData
+    assert!(rt;
+        io::Error::from(ScriptError::NoMemory).kind() == ErrorKind::OutOfMemory
+            && io::Error::from(ScriptError::Opening).kind() == ErrorKind::InvalidData
+            && io::Error::from(ScriptError::Wakers(3)).kind() == ErrorKind::InvalidData
+            && io::Error::from(Mismatch::Seats).kind() == ErrorKind::InvalidData
+            && io::Error::from(Mismatch::Entry(3)).kind() == ErrorKind::InvalidData
     );
 }

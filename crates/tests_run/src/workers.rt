@@ -88,7 +88,7 @@ fn is_answered(history: &[EventEntry], answers: &[Answer<u64, u64>]) -> bool {
     true
 }
 
-/// `schedule` gives the lines the same answers: its tests have this script as a row.
+/// `schedule` gives the lines the same answers: `tests_scripts` has this script as a row.
 #[test]
 fn a_history_is_a_script(rt: HostRuntime) -> Result<(), Fail> {
     let settled = work::<HostRuntime, Brand>(rt, Blank::new(3))?;

@@ -80,7 +80,7 @@ cancel a -> ok wakes 2";
     check_row(&rt, rt.alloc(), row)
 }
 
-/// The history of workers over a desk, as the use `workers` of `fi_run` writes it: what each call was answered there it is here.
+/// The history of workers over a desk, as `workers` of `tests_run` writes it: what each call was answered there it is here.
 #[test]
 fn event_history_of_a_desk(rt: HostRuntime) -> Result<(), Fail> {
     let row = "event reset

@@ -113,14 +113,14 @@ impl<R: Alloc> Alloc for NoExecutor<R> {
     }
 }
 
-// A call that can't block is refused: a value to be sent comes back, and one that could be received stays.
+// A call that has to block and can't is refused, and a value to be sent comes back; one that need not block needs no executor.
 #[test]
 fn calls_without_an_executor_lose_nothing(rt: HostRuntime) {
     let channel = Channel::<u64, 2, NoExecutor<HostRuntime>>::new(rt.alloc(), NoExecutor { rt });
-    assert!(rt; channel.send_blocking(5) == Err(TrySendError::NoMemory(5)));
-    assert!(rt; channel.len() == 0 && channel.try_send(6).is_ok());
     assert!(rt; channel.receive_blocking() == Err(Fault::NoMemory));
-    assert!(rt; channel.try_receive() == Ok(6));
+    assert!(rt; channel.send_blocking(5).is_ok() && channel.send_blocking(6).is_ok());
+    assert!(rt; channel.send_blocking(7) == Err(TrySendError::NoMemory(7)));
+    assert!(rt; channel.receive_blocking() == Ok(Some(5)) && channel.len() == 1);
 }
 
 // Lets time pass until it is over.

@@ -14,6 +14,8 @@ mod drops;
 #[cfg(test)]
 mod event;
 #[cfg(test)]
+mod many;
+#[cfg(test)]
 mod mutex;
 #[cfg(test)]
 mod one_value;

@@ -1,6 +1,6 @@
 //! A thread that runs a timer.
 
-use fi_parts::{Clock, StdClock};
+use fi_parts::{Clock, Fault, StdClock};
 use fi_sync::{Blocking, ManualResetEvent, TimerFuture, TimerService, wait_for};
 use futures::test::MockTask;
 use std::process::Abort;
@@ -186,4 +186,57 @@ where
 #[test]
 fn an_earlier_moment_rouses_the_runner(rt: HostRuntime) {
     rouses(rt);
+}
+
+// A call that waits three times is made beside a thread that runs the timer, and one that gives up ends that thread too.
+fn runs_beside_calls<R>(rt: R)
+where
+    R: Blocking + Threads + Abort + time::Clock + Drop + Copy + Send + Sync,
+{
+    let clock = StdClock::new(rt).ok().expect(&rt, "a clock");
+    let readings = AtomicU64::new(0);
+    let counted = Counted {
+        clock: &clock,
+        readings: &readings,
+    };
+    let timer = TimerService::new(rt.alloc(), rt, counted);
+    let reached = timer.while_running(&rt, |timer| wait_often(&rt, timer, &clock, 3, 5));
+    assert!(rt; reached == Ok(3));
+    let gave_up = timer.while_running(&rt, |_timer| -> Result<u64, Fault> { Err(Fault::NotHeld) });
+    assert!(rt; gave_up == Ok(Err(Fault::NotHeld)));
+}
+
+#[test]
+fn timer_runs_while_a_call_is_made(rt: HostRuntime) {
+    runs_beside_calls(rt);
+}
+
+// A thread that stops running the timer answers the least expiry that it leaves behind.
+fn leaves_behind<R>(rt: R) -> bool
+where
+    R: Blocking + time::Clock + Drop + Copy,
+{
+    let (Ok(clock), Ok(task)) = (StdClock::new(rt), MockTask::new(&rt)) else {
+        return false;
+    };
+    let readings = AtomicU64::new(0);
+    let counted = Counted {
+        clock: &clock,
+        readings: &readings,
+    };
+    let timer = TimerService::new(rt.alloc(), rt, counted);
+    let is_over = ManualResetEvent::new(rt.alloc(), rt, true);
+    if timer.run(&is_over) != Ok(None) {
+        return false;
+    }
+    let moment = 1 << 40;
+    match begins(&timer, &task, moment) {
+        Some(_wait) => timer.run(&is_over) == Ok(Some(moment)),
+        None => false,
+    }
+}
+
+#[test]
+fn run_answers_who_still_waits(rt: HostRuntime) {
+    assert!(rt; leaves_behind(rt));
 }

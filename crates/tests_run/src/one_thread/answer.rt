@@ -36,11 +36,13 @@ fn leave(asked: Slot, answer: &mut LocalOneshotChannel<u32, u64>) {
 fn an_answer_comes_once(rt: HostRuntime) {
     let mut answer = LocalOneshotChannel::new(rt.alloc());
     let asked = answer.claim_receive().expect(&rt, "room");
-    assert_eq!(rt; learn(asked, &mut answer), Some(Poll::Pending));
-    assert!(rt; work(12, &mut answer));
-    assert_eq!(rt; answer.next_wake(), Some(ASKER));
-    assert_eq!(rt; learn(asked, &mut answer), Some(Poll::Ready(Ok(Some(144)))));
-    assert_eq!(rt; learn(asked, &mut answer), None);
+    assert!(rt;
+        learn(asked, &mut answer) == Some(Poll::Pending)
+            && work(12, &mut answer)
+            && answer.next_wake() == Some(ASKER)
+            && learn(asked, &mut answer) == Some(Poll::Ready(Ok(Some(144))))
+            && learn(asked, &mut answer) == None
+    );
     leave(asked, &mut answer);
     assert!(rt;
         !work(13, &mut answer),
@@ -52,7 +54,8 @@ fn an_answer_comes_once(rt: HostRuntime) {
 fn a_worker_that_gives_up_is_noticed(rt: HostRuntime) {
     let mut answer = LocalOneshotChannel::new(rt.alloc());
     let asked = answer.claim_receive().expect(&rt, "room");
-    assert!(rt; work(70_000, &mut answer));
-    assert_eq!(rt; learn(asked, &mut answer), Some(Poll::Ready(Ok(None))));
+    assert!(rt;
+        work(70_000, &mut answer) && learn(asked, &mut answer) == Some(Poll::Ready(Ok(None)))
+    );
     leave(asked, &mut answer);
 }

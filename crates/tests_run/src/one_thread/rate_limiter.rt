@@ -86,11 +86,13 @@ fn two_requests_in_each_period(rt: HostRuntime) {
     assert!(rt; limiter.may_pass(second, 2));
     let third = limiter.request().expect(&rt, "room");
     assert!(rt; !limiter.may_pass(third, 3), "the third of this period");
-    assert_eq!(rt; limiter.tick(999), Ok(()));
-    assert_eq!(rt; limiter.permits.next_wake(), None);
-    assert_eq!(rt; limiter.tick(1_000), Ok(()));
-    assert_eq!(rt; limiter.permits.next_wake(), Some(3));
-    assert!(rt; limiter.may_pass(third, 3));
-    assert_eq!(rt; limiter.permits.permits(), 1);
-    assert_eq!(rt; limiter.timer.next_expiration(), Some(2_000));
+    assert!(rt;
+        limiter.tick(999) == Ok(())
+            && limiter.permits.next_wake() == None
+            && limiter.tick(1_000) == Ok(())
+            && limiter.permits.next_wake() == Some(3)
+            && limiter.may_pass(third, 3)
+            && limiter.permits.permits() == 1
+            && limiter.timer.next_expiration() == Some(2_000)
+    );
 }

@@ -49,19 +49,20 @@ fn jobs_run_at_their_moments(rt: HostRuntime) {
         assert!(rt; !job.is_due(0, &mut timer));
     }
     dropped.leave(&mut timer);
-    assert_eq!(rt; sleep(&mut timer), Some(20));
-    assert_eq!(rt; timer.next_wake(), Some(2));
-    assert_eq!(rt; timer.next_wake(), None);
-    assert!(rt; early.is_due(20, &mut timer));
-    assert!(rt; !late.is_due(20, &mut timer));
+    assert!(rt;
+        sleep(&mut timer) == Some(20)
+            && timer.next_wake() == Some(2)
+            && timer.next_wake() == None
+            && early.is_due(20, &mut timer)
+            && !late.is_due(20, &mut timer)
+    );
     early.leave(&mut timer);
     assert_eq!(rt;
         sleep(&mut timer),
         Some(50),
         "a job that left is not waited for"
     );
-    assert_eq!(rt; timer.next_wake(), Some(1));
-    assert!(rt; late.is_due(50, &mut timer));
+    assert!(rt; timer.next_wake() == Some(1) && late.is_due(50, &mut timer));
     late.leave(&mut timer);
     assert_eq!(rt; sleep(&mut timer), None);
 }

@@ -59,25 +59,28 @@ fn watchers_see_the_newest_setting(rt: HostRuntime) {
     let mut settings = LocalStateBroadcastChannel::new(rt.alloc());
     let mut server = Watcher::new(1);
     let mut log = Watcher::new(2);
-    assert_eq!(rt; server.follow(&mut settings), Ok(true));
-    assert_eq!(rt; log.follow(&mut settings), Ok(true));
-    assert_eq!(rt; server.limit, None);
-    assert_eq!(rt; settings.send(100), Ok(()));
-    assert_eq!(rt; settings.next_wake(), Some(1));
-    assert_eq!(rt; server.follow(&mut settings), Ok(true));
-    assert_eq!(rt; server.limit, Some(100));
-    assert_eq!(rt; settings.send(200), Ok(()));
-    assert_eq!(rt; settings.next_wake(), Some(2));
-    assert_eq!(rt; log.follow(&mut settings), Ok(true));
+    assert!(rt;
+        server.follow(&mut settings) == Ok(true)
+            && log.follow(&mut settings) == Ok(true)
+            && server.limit == None
+            && settings.send(100) == Ok(())
+            && settings.next_wake() == Some(1)
+            && server.follow(&mut settings) == Ok(true)
+            && server.limit == Some(100)
+            && settings.send(200) == Ok(())
+    );
+    assert!(rt; settings.next_wake() == Some(2) && log.follow(&mut settings) == Ok(true));
     assert_eq!(rt;
         log.limit,
         Some(200),
         "the setting that was overtaken is not seen"
     );
-    assert_eq!(rt; server.follow(&mut settings), Ok(true));
-    assert_eq!(rt; server.limit, Some(200));
-    assert_eq!(rt; server.follow(&mut settings), Ok(true));
-    assert_eq!(rt; settings.close(), CloseStatus::NewlyClosed);
-    assert_eq!(rt; settings.next_wake(), Some(1));
-    assert_eq!(rt; server.follow(&mut settings), Ok(false));
+    assert!(rt;
+        server.follow(&mut settings) == Ok(true)
+            && server.limit == Some(200)
+            && server.follow(&mut settings) == Ok(true)
+            && settings.close() == CloseStatus::NewlyClosed
+            && settings.next_wake() == Some(1)
+            && server.follow(&mut settings) == Ok(false)
+    );
 }

@@ -82,8 +82,7 @@ fn workers_stop_in_the_order_in_which_they_began(rt: HostRuntime) {
     let order = run_woken(&mut workers, &mut shutdown, rt.alloc()).expect(&rt, "room");
     assert_eq!(rt; order.as_slice(), [1, 2, 3].as_slice());
     let [first, second, third] = workers;
-    assert!(rt; first.has_stopped && second.has_stopped && third.has_stopped);
-    assert_eq!(rt; first.rounds, 2);
+    assert!(rt; first.has_stopped && second.has_stopped && third.has_stopped && first.rounds == 2);
     first.leave(&mut shutdown);
     second.leave(&mut shutdown);
     third.leave(&mut shutdown);
