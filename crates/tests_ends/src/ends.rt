@@ -3,20 +3,18 @@
 mod blocking;
 mod debug;
 mod drops;
+mod says;
 mod threads;
 
 use fi_channels::{SendFault, TryReceiveError, TrySendError};
-use fi_parts::buffer::GrowingHeapBuf;
 use fi_parts::{ChannelSendError, StateId};
 use futures::task::Poll;
 use futures::test::MockTask;
-use futures_intrusive::channel::GenericChannel;
 use futures_intrusive::channel::shared::{
-    Receiver, Sender, channel, oneshot_broadcast_channel, oneshot_channel, state_broadcast_channel,
+    channel, oneshot_broadcast_channel, oneshot_channel, state_broadcast_channel,
     unbuffered_channel,
 };
 use std::alloc::AllocGlobal;
-use std::sync::Wait;
 
 // The clone of a sender is dropped, then the sender: the value that it sent comes, and then the end.
 #[test]
@@ -131,61 +129,6 @@ fn an_unbuffered_channel_has_no_room(rt: HostRuntime) {
     let (sender, receiver) = ends.expect(&rt, "memory");
     assert!(rt; sender.capacity() == 0 && receiver.capacity() == 0);
     assert!(rt; sender.try_send(1) == Err(TrySendError::Full(1)));
-}
-
-/// The ends of a channel, and a borrowed one that gets the same calls.
-#[derive(Drop)]
-struct Beside<R: Wait + Drop> {
-    sender: Sender<u64, R>,
-    receiver: Receiver<u64, R>,
-    borrowed: GenericChannel<u64, GrowingHeapBuf<u64>, R>,
-}
-
-impl<R: Wait + Drop> Beside<R> {
-    // Whether both ends say of their channel what the borrowed one says.
-    fn say_the_same(&self) -> bool {
-        let (sender, receiver, borrowed) = (&self.sender, &self.receiver, &self.borrowed);
-        let (len, capacity) = (borrowed.len(), borrowed.capacity());
-        let flags = (
-            borrowed.is_closed(),
-            borrowed.is_empty(),
-            borrowed.is_full(),
-        );
-        (sender.len(), sender.capacity()) == (len, capacity)
-            && (receiver.len(), receiver.capacity()) == (len, capacity)
-            && (sender.is_closed(), sender.is_empty(), sender.is_full()) == flags
-            && (
-                receiver.is_closed(),
-                receiver.is_empty(),
-                receiver.is_full(),
-            ) == flags
-    }
-
-    fn send(&self, value: u64) -> bool {
-        self.sender.try_send(value) == self.borrowed.try_send(value) && self.say_the_same()
-    }
-
-    fn receive(&self) -> bool {
-        self.receiver.try_receive() == self.borrowed.try_receive() && self.say_the_same()
-    }
-}
-
-#[test]
-fn ends_say_what_the_channel_says(rt: HostRuntime) {
-    for capacity in 0..3 {
-        let ends = channel::<u64, HostRuntime>(rt.alloc(), rt, capacity);
-        let (sender, receiver) = ends.expect(&rt, "memory");
-        let borrowed = GenericChannel::with_capacity(rt.alloc(), rt, capacity);
-        let both = Beside {
-            sender,
-            receiver,
-            borrowed: borrowed.expect(&rt, "memory"),
-        };
-        assert!(rt; both.say_the_same() && both.send(1) && both.send(2) && both.send(3));
-        assert!(rt; both.receive() && both.send(4));
-        assert!(rt; both.sender.close() == both.borrowed.close() && both.say_the_same());
-        assert!(rt; both.receive() && both.receive() && both.receive() && both.send(5));
-    }
 }
 
 // Those of one value and of states say only whether they are closed.

@@ -178,13 +178,23 @@ where
     })
 }
 
+// Whether both hand out the same waker next.
+fn agree_on_waker<P: Primitive>(first: &mut P, second: &mut P) -> bool
+where
+    P::Answer: PartialEq,
+{
+    let one = first.apply(P::next_wake_call());
+    let other = second.apply(P::next_wake_call());
+    one == other
+}
+
 // Whether both hand out the same wakers.
 fn agree_on_wakers<P: Primitive>(first: &mut P, second: &mut P) -> bool
 where
     P::Answer: PartialEq,
 {
     for _ in 0..8u64 {
-        if first.apply(P::next_wake_call()) != second.apply(P::next_wake_call()) {
+        if !agree_on_waker(first, second) {
             return false;
         }
     }
