@@ -88,7 +88,6 @@ impl<B: RingBuf> RingBuf for Clearable<B> {
         }
     }
 
-    #[inline(always)]
     fn push(&mut self, item: B::Item) -> Result<(), NoRoom<B::Item>> {
         match &mut self.kept {
             Some(kept) => kept.push(item),
@@ -96,7 +95,6 @@ impl<B: RingBuf> RingBuf for Clearable<B> {
         }
     }
 
-    #[inline(always)]
     fn pop(&mut self) -> B::Item {
         match &mut self.kept {
             Some(kept) => kept.pop(),

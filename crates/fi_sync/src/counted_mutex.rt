@@ -157,7 +157,6 @@ impl<T: Drop, L: Ledger> PollSlot<MutexLock> for CountedMutex<T, L> {
 
     ghost leaves = { leftover_at };
 
-    #[inline(always)]
     fn poll_slot(&mut self, slot: Slot, waker: PollWaker) -> SlotPolled<Self::Output> {
         if waker.is_none() && !self.state.ends_now(slot) && self.state.can_poll(slot) {
             return None;
@@ -181,7 +180,6 @@ impl<T: Drop, L: Ledger> Cancel<MutexLock> for CountedMutex<T, L> {
 
     ghost cancels = { CancelsAt Cancels };
 
-    #[inline(always)]
     fn cancel(&mut self, slot: Slot) -> Option<PollWaker> {
         self.state.leave(slot)
     }

@@ -130,7 +130,6 @@ impl<L: Ledger> PollSlot<SemaphoreAcquire> for CountedSemaphore<L> {
 
     ghost leaves = { leftover_at };
 
-    #[inline(always)]
     fn poll_slot(&mut self, slot: Slot, waker: PollWaker) -> SlotPolled<Self::Output> {
         if waker.is_none() && !self.state.ends_now(slot) && self.state.can_poll(slot) {
             return None;
@@ -157,7 +156,6 @@ impl<L: Ledger> Cancel<SemaphoreAcquire> for CountedSemaphore<L> {
 
     ghost cancels = { CancelsAt Cancels };
 
-    #[inline(always)]
     fn cancel(&mut self, slot: Slot) -> Option<PollWaker> {
         self.state.leave(slot)
     }

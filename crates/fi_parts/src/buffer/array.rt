@@ -104,7 +104,6 @@ impl<T: Drop, const N: usize> RingBuf for ArrayBuf<T, N> {
         self.ring.len() != N
     }
 
-    #[inline(always)]
     fn push(&mut self, item: T) -> Result<(), NoRoom<T>>
         requires { length self.old.items < self.old.capacity }
         ensures ok { OnOk result (self.new ≡ pushed self.old item self.new.reserved) }
@@ -121,7 +120,6 @@ impl<T: Drop, const N: usize> RingBuf for ArrayBuf<T, N> {
         Ok(())
     }
 
-    #[inline(always)]
     fn pop(&mut self) -> T {
         self.ring.pop()
     }

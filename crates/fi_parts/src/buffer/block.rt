@@ -69,7 +69,6 @@ impl<T: Drop> Block<T> {
     }
 
     /// Puts the item behind the others.
-    #[inline(always)]
     pub(crate) fn push(&mut self, item: T)
         requires { length self.old.items < self.old.capacity }
         ensures pushed { self.new ≡ buffer (self.old.items ++ item ∷ []) self.old.capacity }
@@ -85,7 +84,6 @@ impl<T: Drop> Block<T> {
     }
 
     /// Takes out the oldest item.
-    #[inline(always)]
     pub(crate) fn pop(&mut self) -> T
         requires { 0 < length self.old.items }
         ensures item { self.old.items ≡ result ∷ self.new.items }

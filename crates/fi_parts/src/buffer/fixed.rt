@@ -79,7 +79,6 @@ impl<T: Drop> RingBuf for FixedHeapBuf<T> {
         self.block.len() != self.block.capacity()
     }
 
-    #[inline(always)]
     fn push(&mut self, item: T) -> Result<(), NoRoom<T>>
         requires { length self.old.items < self.old.capacity }
         ensures ok { IsOk result }
@@ -90,7 +89,6 @@ impl<T: Drop> RingBuf for FixedHeapBuf<T> {
         Ok(())
     }
 
-    #[inline(always)]
     fn pop(&mut self) -> T {
         self.block.pop()
     }

@@ -113,7 +113,6 @@ impl<T: Drop> RingBuf for GrowingHeapBuf<T> {
         self.block.len() != self.limit
     }
 
-    #[inline(always)]
     fn push(&mut self, item: T) -> Result<(), NoRoom<T>>
         requires { length self.old.items < self.old.capacity }
         ensures ok { OnOk result (self.new ≡ pushed self.old item (reserved_after self.old (doubled self.old))) }
@@ -127,7 +126,6 @@ impl<T: Drop> RingBuf for GrowingHeapBuf<T> {
         Ok(())
     }
 
-    #[inline(always)]
     fn pop(&mut self) -> T {
         self.block.pop()
     }

@@ -105,7 +105,6 @@ impl<T: Drop> Ring<T> {
     }
 
     /// Takes out the oldest item.
-    #[inline(always)]
     pub(crate) fn pop(&mut self) -> T
         requires { 0 < length self.old.items }
         ensures item { self.old.items ≡ result ∷ self.new.items }
