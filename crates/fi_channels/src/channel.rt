@@ -126,6 +126,7 @@ impl<T: Drop, B: RingBuf<Item = T>, W: Drop> ChannelState<T, B, W> {
     ///
     /// Else the value comes back and nothing has changed: `Closed` if the channel is closed, else `Full` if there is no room
     /// (with capacity 0 always), else `NoMemory` if the buffer could not grow. Keeps `GenericChannel::try_send`.
+    #[inline(always)]
     pub fn try_send(&mut self, value: T) -> Result<(), TrySendError<T>>
         ensures tried { TriesSend self.old value result self.new }
         ensures all_stay { AllStay self.old self.new }
@@ -137,6 +138,7 @@ impl<T: Drop, B: RingBuf<Item = T>, W: Drop> ChannelState<T, B, W> {
     /// (without a buffer its value is the one received), and is named to be woken.
     ///
     /// Else nothing has changed: `Closed` if the channel is closed, else `Empty`. Keeps `GenericChannel::try_receive`.
+    #[inline(always)]
     pub fn try_receive(&mut self) -> Result<T, TryReceiveError>
         ensures tried { TriesReceive self.old result self.new }
         ensures all_stay { AllStay self.old self.new }
@@ -259,6 +261,7 @@ impl<T: Drop, B: RingBuf<Item = T>, W: Drop> ChannelState<T, B, W> {
 
     /// Makes a send of this value under a slot that was not live. Refused only for want of memory; then the value comes back
     /// and nothing has changed.
+    #[inline(always)]
     pub fn claim_send(&mut self, value: T) -> Result<Slot, NoRoom<T>>
         ensures made { IfOk result (λ slot. MakesSend self.old value slot.0 self.new) }
         ensures pollable { IfOk result (λ slot. channel.can_send (send_phase self.new slot.0) ≡ true) }
@@ -271,6 +274,7 @@ impl<T: Drop, B: RingBuf<Item = T>, W: Drop> ChannelState<T, B, W> {
     }
 
     /// Makes a receive of one value under a slot that was not live. Refused only with `NoMemory`; then nothing has changed.
+    #[inline(always)]
     pub fn claim_receive(&mut self) -> Result<Slot, Fault>
         ensures made { IfOk result (λ slot. MakesReceive self.old Single slot.0 self.new) }
         ensures pollable { IfOk result
@@ -384,6 +388,7 @@ impl<T: Drop, B: RingBuf<Item = T>, W: Drop> ChannelSendAccess for ChannelState<
         self.fields.send_ends_now(slot)
     }
 
+    #[inline(always)]
     fn send_checked(&mut self, slot: Slot, waker: W) -> Result<Sent<T, W>, W>
         ensures polled { IfOk result (λ polled. PollsSend self.old slot.0 waker polled.0 self.new) }
         ensures displaced { IfOk result
@@ -399,6 +404,7 @@ impl<T: Drop, B: RingBuf<Item = T>, W: Drop> ChannelSendAccess for ChannelState<
         self.fields.send_checked(slot, waker)
     }
 
+    #[inline(always)]
     fn leave_send(&mut self, slot: Slot) -> (Option<T>, Option<W>)
         ensures cancelled { is_some (send_phase self.old slot.0) ≡ true → CancelsSend self.old slot.0 result.0 self.new }
         ensures displaced { is_some (send_phase self.old slot.0) ≡ true → result.1 ≡ displaced_send self.old slot.0 }
@@ -446,6 +452,7 @@ impl<T: Drop, B: RingBuf<Item = T>, W: Drop> ChannelReceiveAccess for ChannelSta
         self.fields.receive_ends_now(slot)
     }
 
+    #[inline(always)]
     fn receive_checked(&mut self, slot: Slot, waker: W) -> Result<Received<T, W>, W>
         ensures polled { IfOk result
             (λ polled. Answered (PollsReceive self.old slot.0 waker) (λ fault state. ⊥) polled.0 self.new) }
@@ -467,6 +474,7 @@ impl<T: Drop, B: RingBuf<Item = T>, W: Drop> ChannelReceiveAccess for ChannelSta
         }
     }
 
+    #[inline(always)]
     fn leave_receive(&mut self, slot: Slot) -> Option<W>
         ensures left { LeavesWhere (is_some (receive_phase self.old slot.0)) (CancelsReceive self.old slot.0 self.new)
             (displaced_receive self.old slot.0) self.old result self.new }

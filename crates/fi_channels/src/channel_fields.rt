@@ -170,6 +170,7 @@ impl<T: Drop, B: RingBuf<Item = T>, W: Drop> ChannelFields<T, B, W> {
     }
 
     /// A fresh send of this value. Refused only for want of memory; then the value comes back and nothing has changed.
+    #[inline(always)]
     pub fn claim_send(&mut self, value: T) -> Result<Slot, NoRoom<T>>
         ensures made { IfOk result (λ slot. MakesSend (machine_of B.bounded self.old) value slot.0 (machine_of B.bounded self.new)) }
         ensures refused { OnErr result (machine_of B.bounded self.new ≡ machine_of B.bounded self.old) }
@@ -183,6 +184,7 @@ impl<T: Drop, B: RingBuf<Item = T>, W: Drop> ChannelFields<T, B, W> {
     }
 
     /// A fresh receive, or stream. Refused only with `NoMemory`; then nothing has changed.
+    #[inline(always)]
     pub fn claim_receive(&mut self, kind: ReceiveKind) -> Result<Slot, Fault>
         ensures made { IfOk result (λ slot. MakesReceive (machine_of B.bounded self.old) kind slot.0 (machine_of B.bounded self.new)) }
         ensures refused { OnErr result (machine_of B.bounded self.new ≡ machine_of B.bounded self.old) }
@@ -195,6 +197,7 @@ impl<T: Drop, B: RingBuf<Item = T>, W: Drop> ChannelFields<T, B, W> {
     }
 
     // Takes the oldest value, and lets the oldest send that waits hand its value on; None if there is no value.
+    #[inline(always)]
     fn take_next(&mut self) -> Option<T>
         requires { IsSound (machine_of B.bounded self.old) }
         ensures taken { Takes (B.bounded self.old.buffer) self.old.waiters result (B.bounded self.new.buffer) self.new.waiters }
@@ -214,6 +217,7 @@ impl<T: Drop, B: RingBuf<Item = T>, W: Drop> ChannelFields<T, B, W> {
     }
 
     /// Takes the oldest value at once, if there is one.
+    #[inline(always)]
     pub fn try_receive(&mut self) -> Result<T, TryReceiveError>
         requires { IsSound (machine_of B.bounded self.old) }
         ensures { TriesReceive (machine_of B.bounded self.old) result (machine_of B.bounded self.new) }
@@ -229,6 +233,7 @@ impl<T: Drop, B: RingBuf<Item = T>, W: Drop> ChannelFields<T, B, W> {
 
     /// Polls a receive: it takes the oldest value, or is registered, or ends where none will come. Where no receive lives under this slot
     /// that has not ended, the waker comes back and nothing has changed. One look-up decides which it is.
+    #[inline(always)]
     pub fn receive_checked(
         &mut self,
         slot: Slot,
@@ -298,6 +303,7 @@ impl<T: Drop, B: RingBuf<Item = T>, W: Drop> ChannelFields<T, B, W> {
     }
 
     // Polls a receive or a stream that waits: it keeps its place with this newer waker.
+    #[inline(always)]
     fn receive_registered(&mut self, slot: Slot, waker: W) -> (Poll<Option<T>>, Leftover<W>)
         requires sound { IsSound (machine_of B.bounded self.old) }
         requires registered { is_registered (phase_of self.old.waiters.receives slot.0) ≡ true }
@@ -313,6 +319,7 @@ impl<T: Drop, B: RingBuf<Item = T>, W: Drop> ChannelFields<T, B, W> {
     }
 
     // Polls a fresh or a told receive, or stream: it takes the oldest value, or is registered, or ends where none will come.
+    #[inline(always)]
     fn receive_apart(
         &mut self,
         slot: Slot,
@@ -342,6 +349,7 @@ impl<T: Drop, B: RingBuf<Item = T>, W: Drop> ChannelFields<T, B, W> {
 
     /// Removes a receive or a stream, and returns the waker that it had. A told one passes its notice on to the oldest. None where none
     /// lives under this slot; then nothing has changed.
+    #[inline(always)]
     pub fn leave_receive(&mut self, slot: Slot) -> Option<W>
         requires { IsSound (machine_of B.bounded self.old) }
         ensures { LeavesWhere (is_some (phase_of self.old.waiters.receives slot.0))
@@ -363,6 +371,7 @@ impl<T: Drop, B: RingBuf<Item = T>, W: Drop> ChannelFields<T, B, W> {
 
     /// Sends a value at once, if the channel is open and its buffer has room; tells the oldest receive. Else the value comes
     /// back and nothing has changed.
+    #[inline(always)]
     pub fn try_send(&mut self, value: T) -> Result<(), TrySendError<T>>
         requires { IsSound (machine_of B.bounded self.old) }
         ensures { TriesSend (machine_of B.bounded self.old) value result (machine_of B.bounded self.new) }
@@ -383,6 +392,7 @@ impl<T: Drop, B: RingBuf<Item = T>, W: Drop> ChannelFields<T, B, W> {
     /// Polls a send: its value is stored or waits with it, and the oldest receive is told; a closed channel hands it back.
     /// Refused if there is no memory to store it; then nothing has changed, and the send still owns its value. Where no send lives under
     /// this slot that has not ended, the waker comes back and nothing has changed. One look-up decides which it is.
+    #[inline(always)]
     pub fn send_checked(&mut self, slot: Slot, waker: W) -> Result<Sent<T, W>, W>
         requires { IsSound (machine_of B.bounded self.old) }
         ensures polled { IfOk result
@@ -404,6 +414,7 @@ impl<T: Drop, B: RingBuf<Item = T>, W: Drop> ChannelFields<T, B, W> {
     }
 
     // Polls a send whose value was taken: it ends.
+    #[inline(always)]
     fn send_complete(&mut self, slot: Slot, waker: W) -> Sent<T, W>
         requires sound { IsSound (machine_of B.bounded self.old) }
         requires complete { phase_of self.old.waiters.sends slot.0 ≡ Some Complete }
@@ -417,6 +428,7 @@ impl<T: Drop, B: RingBuf<Item = T>, W: Drop> ChannelFields<T, B, W> {
     }
 
     // Polls a send that waits: it keeps its place with this newer waker.
+    #[inline(always)]
     fn send_registered(&mut self, slot: Slot, waker: W) -> Sent<T, W>
         requires sound { IsSound (machine_of B.bounded self.old) }
         requires registered { is_registered (phase_of self.old.waiters.sends slot.0) ≡ true }
@@ -432,6 +444,7 @@ impl<T: Drop, B: RingBuf<Item = T>, W: Drop> ChannelFields<T, B, W> {
     }
 
     // Polls a fresh send.
+    #[inline(always)]
     fn send_fresh(&mut self, slot: Slot, waker: W) -> Sent<T, W>
         requires sound { IsSound (machine_of B.bounded self.old) }
         requires fresh { phase_of self.old.waiters.sends slot.0 ≡ Some Fresh }
@@ -470,6 +483,7 @@ impl<T: Drop, B: RingBuf<Item = T>, W: Drop> ChannelFields<T, B, W> {
 
     /// Removes a send. Returns the value that it still owned, and the waker that it had; nothing where none lives under this slot, and
     /// then nothing has changed.
+    #[inline(always)]
     pub fn leave_send(&mut self, slot: Slot) -> (Option<T>, Option<W>)
         ensures cancelled { is_some (phase_of self.old.waiters.sends slot.0) ≡ true →
             CancelsSend (machine_of B.bounded self.old) slot.0 result.0 (machine_of B.bounded self.new) }

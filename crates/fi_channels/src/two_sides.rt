@@ -171,6 +171,7 @@ impl<D: Drop, E: Drop, W: Drop> TwoSides<D, E, W> {
     /// Inserts a fresh future, in a slot that was not live.
     ///
     /// Refused if there is no memory for it or its ticket; then what it asks for comes back, and nothing has changed.
+    #[inline(always)]
     pub fn insert<S: Side<D, E, W>>(&mut self, asks: S::Asks) -> Result<Slot, NoRoom<S::Asks>>
         ensures was_free { IfOk result (λ slot. phase_of (S.side.waiters self.old) slot.0 ≡ None) }
         ensures inserted { IfOk result (λ slot. self.new ≡ change S.side (λ side. insert_fresh side slot.0 asks) self.old) }
@@ -185,6 +186,7 @@ impl<D: Drop, E: Drop, W: Drop> TwoSides<D, E, W> {
     }
 
     /// Takes the waker of a live future out of the outbox, in constant time; None if it was not named.
+    #[inline(always)]
     pub fn take_out<S: Side<D, E, W>>(&mut self, slot: Slot) -> Option<W>
         requires { IsLive (S.side.waiters self.old) slot.0 }
         ensures waker { result ≡ waker_by same_waiter (S.side.waiter slot.0) self.old.out }
@@ -198,6 +200,7 @@ impl<D: Drop, E: Drop, W: Drop> TwoSides<D, E, W> {
     }
 
     /// Registers a future that is not in the queue: it goes to the queue's end.
+    #[inline(always)]
     pub fn register<S: Side<D, E, W>>(&mut self, slot: Slot, waker: W)
         requires live { IsLive (S.side.waiters self.old) slot.0 }
         requires apart { holds slot.0 (S.side.waiters self.old).queue ≡ false }
@@ -207,6 +210,7 @@ impl<D: Drop, E: Drop, W: Drop> TwoSides<D, E, W> {
     }
 
     /// Sets the phase of a live future; its place in the queue stays. Returns the waker that it was registered with.
+    #[inline(always)]
     pub fn set_phase<S: Side<D, E, W>>(&mut self, slot: Slot, phase: Phase<W>) -> Option<W>
         requires { IsLive (S.side.waiters self.old) slot.0 }
         ensures waker { MatchOption (phase_of (S.side.waiters self.old) slot.0) ⊥ (λ before. result ≡ waker_in before) }
@@ -226,6 +230,7 @@ impl<D: Drop, E: Drop, W: Drop> TwoSides<D, E, W> {
 
     /// Removes a future, also from the queue and the outbox. Returns it as it was, with the waker of its pair. None if none lives in this
     /// slot; then nothing has changed.
+    #[inline(always)]
     pub fn remove<S: Side<D, E, W>>(
         &mut self,
         slot: Slot,
@@ -245,6 +250,7 @@ impl<D: Drop, E: Drop, W: Drop> TwoSides<D, E, W> {
     }
 
     // Takes the oldest future out of the queue; None if the queue is empty.
+    #[inline(always)]
     fn leave_oldest<S: Side<D, E, W>>(&mut self) -> Option<Slot>
         ensures { MatchOption result (((S.side.waiters self.old).queue ≡ []) × (self.new ≡ self.old))
             (λ slot. (others : List ℕ) × ((S.side.waiters self.old).queue ≡ slot.0 ∷ others)
@@ -255,6 +261,7 @@ impl<D: Drop, E: Drop, W: Drop> TwoSides<D, E, W> {
     }
 
     // Sets the phase of a registered future, and names it with the waker that it was registered with.
+    #[inline(always)]
     fn notice<S: Side<D, E, W>>(&mut self, slot: Slot, phase: Phase<W>)
         requires registered { is_registered (phase_of (S.side.waiters self.old) slot.0) ≡ true }
         requires no_pair { has_by same_waiter (S.side.waiter slot.0) self.old.out ≡ false }
@@ -266,6 +273,7 @@ impl<D: Drop, E: Drop, W: Drop> TwoSides<D, E, W> {
     }
 
     /// Notices all queued futures of a side, the oldest first: each leaves the queue and is named.
+    #[inline(always)]
     pub fn notice_all<S: Side<D, E, W>>(&mut self, notice: Notice)
         requires { IsOrdered (S.side.waiters self.old) (S.side.pairs_in self.old.out) }
         ensures { self.new ≡ notify S.side (phase_after notice) self.old }
@@ -277,6 +285,7 @@ impl<D: Drop, E: Drop, W: Drop> TwoSides<D, E, W> {
 
     /// Takes the oldest future out of the queue, makes it complete and names it. Returns what it asked for, in place of which
     /// `left` is set; None, and `left` is dropped, if none is queued.
+    #[inline(always)]
     pub fn complete_oldest<S: Side<D, E, W>>(&mut self, left: S::Asks) -> Option<S::Asks>
         requires { IsOrdered (S.side.waiters self.old) (S.side.pairs_in self.old.out) }
         ensures asked { result ≡ asks_of_oldest (S.side.waiters self.old) }
@@ -289,6 +298,7 @@ impl<D: Drop, E: Drop, W: Drop> TwoSides<D, E, W> {
     }
 
     /// Takes the oldest future out of the queue, tells it and names it, if one is queued.
+    #[inline(always)]
     pub fn tell_oldest<S: Side<D, E, W>>(&mut self)
         requires { IsOrdered (S.side.waiters self.old) (S.side.pairs_in self.old.out) }
         ensures { self.new ≡ change_naming S.side (pop_oldest Phase.Told) pair_of_oldest self.old }

@@ -79,6 +79,7 @@ impl<T, W> Model for MutexState<T, W> {
 }
 
 // Tells the oldest of the queue, if there is one.
+#[inline(always)]
 fn tell_oldest<W: Drop>(locks: &mut Waits<(), W>, is_fair: bool)
     requires { IsOrderedBy (is_queued is_fair) locks.old.side locks.old.out }
     ensures { TakesEffect (tells_oldest is_fair locks.old.side.queue) locks.old locks.new }
@@ -89,6 +90,7 @@ fn tell_oldest<W: Drop>(locks: &mut Waits<(), W>, is_fair: bool)
 }
 
 // Grants a live future this value, which was taken of the mutex: the future ends, and leaves the queue if it has a place.
+#[inline(always)]
 fn grant<T, W: Drop>(
     locks: &mut Waits<(), W>,
     slot: Slot,
@@ -115,6 +117,7 @@ fn grant<T, W: Drop>(
 }
 
 // Registers a live future that has no place in the queue: it goes to the queue's end.
+#[inline(always)]
 fn register<T, W: Drop>(locks: &mut Waits<(), W>, slot: Slot, waker: W) -> (Poll<T>, Leftover<W>)
     requires unregistered { may_be_named (phase_of locks.old.side slot.0) ≡ true }
     requires apart { holds slot.0 locks.old.side.queue ≡ false }
@@ -172,6 +175,7 @@ impl<T: Drop, W: Drop> MutexState<T, W> {
     }
 
     /// Locks the mutex at once, as `try_lock`, without a guard: whoever has the value gives it back by `unlock`.
+    #[inline(always)]
     pub fn try_take(&mut self) -> Option<T>
         ensures tried { TriesLock self.old result self.new }
         ensures locked { IsLockedIfGiven result self.new }
@@ -187,6 +191,7 @@ impl<T: Drop, W: Drop> MutexState<T, W> {
     /// locked hands the value back, and nothing has changed.
     ///
     /// Keeps the drop of `GenericMutexGuard`.
+    #[inline(always)]
     pub fn unlock(&mut self, value: T) -> Result<(), T>
         ensures unlocked { Unlocks self.old value result self.new }
         ensures all_stay { AllStay can_be_polled self.old self.new }
@@ -224,6 +229,7 @@ impl<T: Drop, W: Drop> MutexState<T, W> {
     }
 
     /// Makes a future under a slot that was not live. Refused only with `NoMemory`; then nothing has changed.
+    #[inline(always)]
     pub fn claim_lock(&mut self) -> Result<Slot, Fault>
         ensures made { IfOk result (λ slot. Makes self.old slot.0 self.new) }
         ensures pollable { IfOk result (λ slot. can_be_polled (phase_at self.new slot.0) ≡ true) }
@@ -289,6 +295,7 @@ impl<T: Drop, W: Drop> MutexState<T, W> {
 
     /// Polls the future under this slot as `try_wait` does, if one lives there that has not ended. Else the waker comes back, and
     /// nothing has changed: so it asks its caller for nothing.
+    #[inline(always)]
     pub fn poll_checked(&mut self, slot: Slot, waker: W) -> Result<(Poll<T>, Leftover<W>), W>
         ensures polled { IfOk result (λ polled. Polls self.old slot.0 waker polled.0 self.new) }
         ensures displaced { IfOk result (λ polled. polled.1.displaced ≡ displaced_at self.old slot.0) }
@@ -311,6 +318,7 @@ impl<T: Drop, W: Drop> MutexState<T, W> {
 
     /// Cancels the future under this slot as `remove_waiter` does, if one lives there. Else None, and nothing changes: so it asks its
     /// caller for nothing.
+    #[inline(always)]
     pub fn leave(&mut self, slot: Slot) -> Option<W>
         ensures left { LeavesWhere (is_some (phase_at self.old slot.0)) (Cancels self.old slot.0 self.new) (displaced_at self.old slot.0)
             self.old result self.new }
@@ -331,6 +339,7 @@ impl<T: Drop, W: Drop> MutexState<T, W> {
 
     /// Cancels the future under this slot, which is live, and gives back the waker that it had. If it was told, the oldest queued
     /// future is told in its place, whether or not the mutex is locked.
+    #[inline(always)]
     pub fn remove_waiter(&mut self, slot: Slot) -> Option<W>
         requires { is_some (phase_at self.old slot.0) ≡ true }
         ensures cancelled { Cancels self.old slot.0 self.new }
@@ -348,6 +357,7 @@ impl<T: Drop, W: Drop> MutexState<T, W> {
         self.is_fair && self.locks.oldest().is_some()
     }
 
+    #[inline(always)]
     fn poll_fresh(&mut self, slot: Slot, waker: W) -> (Poll<T>, Leftover<W>)
         requires { phase_at self.old slot.0 ≡ Some phases.Fresh }
         ensures polled { Polls self.old slot.0 waker result.0 self.new }
@@ -362,6 +372,7 @@ impl<T: Drop, W: Drop> MutexState<T, W> {
         register(&mut self.locks, slot, waker)
     }
 
+    #[inline(always)]
     fn poll_registered(&mut self, slot: Slot, waker: W) -> (Poll<T>, Leftover<W>)
         requires { is_registered (phase_at self.old slot.0) ≡ true }
         ensures polled { Polls self.old slot.0 waker result.0 self.new }
@@ -378,6 +389,7 @@ impl<T: Drop, W: Drop> MutexState<T, W> {
         (Poll::Pending, Leftover::of(before, None))
     }
 
+    #[inline(always)]
     fn poll_told(&mut self, slot: Slot, waker: W) -> (Poll<T>, Leftover<W>)
         requires { phase_at self.old slot.0 ≡ Some phases.Told }
         ensures polled { Polls self.old slot.0 waker result.0 self.new }

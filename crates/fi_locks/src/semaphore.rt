@@ -154,6 +154,7 @@ impl<W: Drop> SemaphoreState<W> {
     ///
     /// Refused with `Overflow` if the permits, free and held, would be more than `usize::MAX`; then nothing has changed.
     /// Keeps `GenericSemaphore::release`, which does not check.
+    #[inline(always)]
     pub fn release(&mut self, permits: usize) -> Result<(), Fault>
         ensures released { IfOk result (λ _. Releases self.old permits self.new) }
         ensures refused { OnErr result (self.new ≡ self.old) }
@@ -197,6 +198,7 @@ impl<W: Drop> SemaphoreState<W> {
 
     /// Makes a future that needs this many permits, under a slot that was not live. Refused only with `NoMemory`; then nothing
     /// has changed.
+    #[inline(always)]
     pub fn claim_acquire(&mut self, permits: usize) -> Result<Slot, Fault>
         ensures made { IfOk result (λ slot. Makes self.old permits slot.0 self.new) }
         ensures pollable { IfOk result (λ slot. can_be_polled (phase_at self.new slot.0) ≡ true) }
@@ -254,6 +256,7 @@ impl<W: Drop> SemaphoreState<W> {
 
     /// Polls the future under this slot as `acquire_or_register` does, if one lives there that has not ended. Else the waker comes
     /// back, and nothing has changed: so it asks its caller for nothing.
+    #[inline(always)]
     pub fn poll_checked(&mut self, slot: Slot, waker: W) -> Result<(Poll<usize>, Leftover<W>), W>
         ensures polled { IfOk result (λ polled. Polls self.old slot.0 waker polled.0 self.new) }
         ensures held { IfOk result (λ polled. AreHeld polled.0 self.new.own.held) }
@@ -270,6 +273,7 @@ impl<W: Drop> SemaphoreState<W> {
 
     /// Cancels the future under this slot as `remove_waiter` does, if one lives there. Else None, and nothing changes: so it asks its
     /// caller for nothing.
+    #[inline(always)]
     pub fn leave(&mut self, slot: Slot) -> Option<W>
         ensures left { LeavesWhere (is_some (phase_at self.old slot.0)) (Cancels self.old slot.0 self.new) (displaced_at self.old slot.0)
             self.old result self.new }
@@ -285,6 +289,7 @@ impl<W: Drop> SemaphoreState<W> {
     /// Cancels the future under this slot, which is live, and gives back the waker that it had. A notice that it had not used is
     /// passed on to those who wait. If it waited in a fair semaphore, the longest front of the queue whose needs together are
     /// free then is told.
+    #[inline(always)]
     pub fn remove_waiter(&mut self, slot: Slot) -> Option<W>
         requires { is_some (phase_at self.old slot.0) ≡ true }
         ensures cancelled { Cancels self.old slot.0 self.new }
@@ -297,6 +302,7 @@ impl<W: Drop> SemaphoreState<W> {
 
     /// Acquires this many permits as `try_acquire` does, and says whether it did. They are then held until `give_back` or
     /// `disarm` is called with them.
+    #[inline(always)]
     pub fn try_acquire_sync(&mut self, permits: usize) -> bool
         ensures tried { TriesAcquire self.old permits result self.new }
         ensures all_stay { AllStay can_be_polled self.old self.new }
@@ -307,6 +313,7 @@ impl<W: Drop> SemaphoreState<W> {
     /// Makes this many held permits free again, and tells the longest front of the queue whose needs together are free then.
     ///
     /// The caller has seen that they are held (`held`).
+    #[inline(always)]
     pub fn give_back(&mut self, permits: usize)
         requires { permits ≤ self.old.own.held }
         ensures given_back { GivesBack self.old permits self.new }
@@ -338,6 +345,7 @@ impl<W: Drop> Fields<W> {
         self.waits.next_wake()
     }
 
+    #[inline(always)]
     fn claim_acquire(&mut self, permits: usize) -> Result<Slot, Fault>
         requires sound { IsSound (machine_of self.old) }
         requires marked { IsMarked self.old }
@@ -415,6 +423,7 @@ impl<W: Drop> Fields<W> {
         self.waits.set_phase(slot, Phase::Ended).or(named)
     }
 
+    #[inline(always)]
     fn poll_fresh(&mut self, slot: Slot, need: usize, waker: W) -> (Poll<usize>, Leftover<W>)
         requires sound { IsSound (machine_of self.old) }
         requires marked { IsMarked self.old }
@@ -437,6 +446,7 @@ impl<W: Drop> Fields<W> {
         (Poll::Ready(need), Leftover::of(named, Some(waker)))
     }
 
+    #[inline(always)]
     fn poll_registered(&mut self, slot: Slot, need: usize, waker: W) -> (Poll<usize>, Leftover<W>)
         requires sound { IsSound (machine_of self.old) }
         requires marked { IsMarked self.old }
@@ -457,6 +467,7 @@ impl<W: Drop> Fields<W> {
         (Poll::Ready(need), Leftover::of(before, Some(waker)))
     }
 
+    #[inline(always)]
     fn poll_told(&mut self, slot: Slot, need: usize, waker: W) -> (Poll<usize>, Leftover<W>)
         requires sound { IsSound (machine_of self.old) }
         requires marked { IsMarked self.old }
@@ -482,6 +493,7 @@ impl<W: Drop> Fields<W> {
         (Poll::Ready(need), Leftover::of(named, Some(waker)))
     }
 
+    #[inline(always)]
     fn poll_checked(&mut self, slot: Slot, waker: W) -> Result<(Poll<usize>, Leftover<W>), W>
         requires sound { IsSound (machine_of self.old) }
         requires marked { IsMarked self.old }
@@ -516,6 +528,7 @@ impl<W: Drop> Fields<W> {
     }
 
     // Marks the oldest that is not told as it is without this future, whether or not the future is told.
+    #[inline(always)]
     fn pass_over(&mut self, slot: Slot)
         requires sound { IsSound (machine_of self.old) }
         requires marked { IsMarked self.old }
@@ -544,6 +557,7 @@ impl<W: Drop> Fields<W> {
         }
     }
 
+    #[inline(always)]
     fn remove_waiter(&mut self, slot: Slot) -> Option<W>
         requires sound { IsSound (machine_of self.old) }
         requires marked { IsMarked self.old }
@@ -566,6 +580,7 @@ impl<W: Drop> Fields<W> {
         waker
     }
 
+    #[inline(always)]
     fn try_acquire(&mut self, permits: usize) -> bool
         requires sound { IsSound (machine_of self.old) }
         requires marked { IsMarked self.old }
@@ -579,6 +594,7 @@ impl<W: Drop> Fields<W> {
         true
     }
 
+    #[inline(always)]
     fn release(&mut self, permits: usize) -> Result<(), Fault>
         requires sound { IsSound (machine_of self.old) }
         requires marked { IsMarked self.old }
@@ -597,6 +613,7 @@ impl<W: Drop> Fields<W> {
         Ok(())
     }
 
+    #[inline(always)]
     fn give_back(&mut self, permits: usize)
         requires sound { IsSound (machine_of self.old) }
         requires marked { IsMarked self.old }
@@ -634,6 +651,7 @@ impl<W: Drop> Fields<W> {
 
     // Tells futures from this one on, each taking its need from what is available, until the first that needs more. Gives
     // that one, and what is left.
+    #[inline(always)]
     fn tell_from(&mut self, first: Option<Slot>, permits: usize) -> (Option<Slot>, usize)
         requires sound { IsSound (machine_of self.old) }
         requires walked { Walk self.old.is_fair self.old.free self.old.waits self.old.waits permits first }
@@ -657,6 +675,7 @@ impl<W: Drop> Fields<W> {
     }
 
     // A telling round: the longest front of the queue whose needs together are free is told.
+    #[inline(always)]
     fn tell(&mut self)
         requires sound { IsSound (machine_of self.old) }
         requires marked { IsMarked self.old }

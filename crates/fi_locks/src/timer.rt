@@ -157,6 +157,7 @@ impl<W: Drop> TimerState<W> {
 
     /// Makes a future with this expiry, in milliseconds, under a slot that was not live. Refused only with `NoMemory`; then
     /// nothing has changed.
+    #[inline(always)]
     pub fn claim_deadline(&mut self, expiry: u64) -> Result<Slot, Fault>
         ensures made { IfOk result (λ slot. Makes self.old expiry slot.0 self.new) }
         ensures pollable { IfOk result (λ slot. can_be_polled (phase_at self.new slot.0) ≡ true) }
@@ -234,6 +235,7 @@ impl<W: Drop> TimerState<W> {
 
     /// Polls the future under this slot as `try_wait` does, if one lives there that has not ended. Else the waker comes back, and
     /// nothing has changed: so it asks its caller for nothing.
+    #[inline(always)]
     pub fn poll_checked(
         &mut self,
         slot: Slot,
@@ -269,6 +271,7 @@ impl<W: Drop> TimerState<W> {
 
     /// Cancels the future under this slot as `remove_waiter` does, if one lives there. Else None, and nothing changes: so it asks its
     /// caller for nothing.
+    #[inline(always)]
     pub fn leave(&mut self, slot: Slot) -> Option<W>
         ensures left { LeavesWhere (is_some (phase_at self.old slot.0)) (Cancels self.old slot.0 self.new) (displaced_at self.old slot.0)
             self.old result self.new }
@@ -278,6 +281,7 @@ impl<W: Drop> TimerState<W> {
     }
 
     /// Cancels the future under this slot, which is live, and gives back the waker that it had. Nobody is told.
+    #[inline(always)]
     pub fn remove_waiter(&mut self, slot: Slot) -> Option<W>
         requires { is_some (phase_at self.old slot.0) ≡ true }
         ensures cancelled { Cancels self.old slot.0 self.new }

@@ -159,6 +159,7 @@ impl<T> Blocks<T> {
 
     /// Takes a value in under a slot that was not live, and does not link it. Where there is no memory the value comes
     /// back, and nothing has changed: room in the slab is made first, then the block.
+    #[inline(always)]
     pub fn claim(&mut self, value: T) -> Result<usize, NoRoom<T>>
     where
         T: Drop,
@@ -194,6 +195,7 @@ impl<T> Blocks<T> {
 
     /// Takes a slot out of the list, if it is linked, and gives its value back; it is not live afterwards. None where it is not live.
     /// As `unlink` and then `free`, with one look-up.
+    #[inline(always)]
     pub fn unlink_and_free(&mut self, slot: usize) -> Option<T>
     where
         T: Drop,
@@ -228,6 +230,7 @@ impl<T> Blocks<T> {
     }
 
     /// Links a slot at the youngest place.
+    #[inline(always)]
     pub fn link(&mut self, slot: usize)
         requires live { IsLive self.old slot }
         requires apart { holds slot self.old.order ≡ false }
@@ -241,6 +244,7 @@ impl<T> Blocks<T> {
     }
 
     /// Takes a slot out of the list; false where it is not linked.
+    #[inline(always)]
     pub fn unlink(&mut self, slot: usize) -> bool
         ensures found { result ≡ holds slot self.old.order }
         ensures live { self.new.live ≡ self.old.live }
@@ -256,6 +260,7 @@ impl<T> Blocks<T> {
     }
 
     /// Takes the oldest linked slot out of the list, by its pointer; None where no slot is linked.
+    #[inline(always)]
     pub fn unlink_last(&mut self) -> Option<usize>
         ensures oldest { result ≡ oldest self.old.order }
         ensures live { self.new.live ≡ self.old.live }

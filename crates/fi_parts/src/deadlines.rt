@@ -69,6 +69,7 @@ fn name_seat(heap: &mut PairingHeap<Due>, seat: Slot, due: Due)
 }
 
 // Frees a seat, taken or not.
+#[inline(always)]
 fn give_up(heap: &mut PairingHeap<Due>, seat: Slot)
     requires { IsLiveIn heap.old seat.0 }
     ensures live { heap.new.live ≡ map.remove heap.old.live seat.0 }
@@ -149,6 +150,7 @@ impl<W: Drop> Deadlines<W> {
     /// Makes a fresh future with this expiry under a name that was not live.
     ///
     /// Refused with `NoMemory` if there is no memory for it, its seat or its ticket; then nothing has changed.
+    #[inline(always)]
     pub fn insert(&mut self, expiry: u64) -> Result<Slot, Fault>
         ensures was_free { IfOk result (λ slot. phase_of self.old.side slot.0 ≡ None) }
         ensures made { IfOk result (λ slot. self.new ≡ record self.old { side = insert_fresh self.old.side slot.0 expiry }) }
@@ -173,6 +175,7 @@ impl<W: Drop> Deadlines<W> {
     }
 
     /// Takes out a live future's own pair, and returns its waker; None where it has no pair.
+    #[inline(always)]
     pub fn take_out(&mut self, slot: Slot) -> Option<W>
         requires { IsLive self.old.side slot.0 }
         ensures waker { result ≡ waker_of slot.0 self.old.out }
@@ -182,6 +185,7 @@ impl<W: Drop> Deadlines<W> {
     }
 
     /// Registers a live future that is not registered; it takes its seat in the heap.
+    #[inline(always)]
     pub fn register(&mut self, slot: Slot, waker: W)
         requires live { IsLive self.old.side slot.0 }
         requires apart { is_registered (phase_of self.old.side slot.0) ≡ false }
@@ -204,6 +208,7 @@ impl<W: Drop> Deadlines<W> {
     }
 
     /// Removes a future from everything, and returns the waker that it had; None where none lives under this slot.
+    #[inline(always)]
     pub fn remove(&mut self, slot: Slot) -> Option<W>
         ensures { LeavesWhere (is_some (phase_of self.old.side slot.0))
             (self.new ≡ record { side = without_future self.old.side slot.0; out = without_pair slot.0 self.old.out })

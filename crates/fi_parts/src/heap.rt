@@ -71,6 +71,7 @@ impl<T: Ord> PairingHeap<T> {
     /// # Errors
     ///
     /// `NoRoom` with the value where there was no memory. The heap is then as it was.
+    #[inline(always)]
     pub fn claim(&mut self, value: T) -> Result<Slot, NoRoom<T>>
         ensures was_free { IfOk result (λ slot. value_under self.old slot.0 ≡ None) }
         ensures live { IfOk result (λ slot. IsLiveIn self.new slot.0) }
@@ -83,6 +84,7 @@ impl<T: Ord> PairingHeap<T> {
     }
 
     /// Ends the life of a slot that isn't in the heap, and gives its value.
+    #[inline(always)]
     pub fn free(&mut self, slot: Slot) -> T
         requires live { IsLiveIn self.old slot.0 }
         requires apart { set.contains self.old.members slot.0 ≡ false }
@@ -136,6 +138,7 @@ impl<T: Ord> PairingHeap<T> {
     /// Adds a live slot that isn't in the heap.
     ///
     /// Keeps `PairingHeap::insert` of futures-intrusive.
+    #[inline(always)]
     pub fn insert(&mut self, slot: Slot)
         requires live { IsLiveIn self.old slot.0 }
         requires apart { set.contains self.old.members slot.0 ≡ false }
@@ -162,6 +165,7 @@ impl<T: Ord> PairingHeap<T> {
     /// Takes a slot out of the heap, the least or any other. It stays live.
     ///
     /// Keeps `PairingHeap::remove` of futures-intrusive.
+    #[inline(always)]
     pub fn remove(&mut self, slot: Slot)
         requires { set.contains self.old.members slot.0 ≡ true }
         ensures apart { set.contains self.new.members slot.0 ≡ false }

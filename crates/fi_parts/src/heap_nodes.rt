@@ -109,6 +109,7 @@ impl<T> HeapNodes<T> {
     }
 
     /// A new node without links. Where there is no memory the value comes back.
+    #[inline(always)]
     pub fn claim(&mut self, value: T) -> Result<usize, NoRoom<T>>
         ensures was_free { IfOk result (λ slot. get self.old.store slot ≡ None) }
         ensures claimed { IfOk result (λ slot. Updates self.old.store self.new.store slot (Some (loose_node value))) }
@@ -132,6 +133,7 @@ impl<T> HeapNodes<T> {
     }
 
     /// Takes a node away, and gives its value back. Links that name it are the caller's care.
+    #[inline(always)]
     pub fn free(&mut self, slot: usize) -> T
         requires { ContainsKey self.old.store slot }
         ensures value { values_of self.old slot ≡ Some result }
@@ -161,6 +163,7 @@ impl<T> HeapNodes<T> {
     }
 
     /// Takes the links of a node that is in the heap, and leaves it none.
+    #[inline(always)]
     pub fn take_links(&mut self, slot: usize) -> HeapLinks
         requires { IsLinked self.old slot }
         ensures links { links_of self.old slot ≡ Some result }

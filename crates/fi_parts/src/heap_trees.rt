@@ -20,6 +20,7 @@ impl<T> HeapNodes<T> {
     }
 
     /// Makes the link that led to a node lead elsewhere.
+    #[inline(always)]
     fn set_link(&mut self, back: Back, to: Link)
         requires { IsBackLinked (links_of self.old) back }
         ensures links { links_of self.new ≡ pointed (links_of self.old) back to }
@@ -34,6 +35,7 @@ impl<T> HeapNodes<T> {
     }
 
     /// Makes a node the first child of another.
+    #[inline(always)]
     fn adopt(&mut self, parent: usize, child: usize)
         requires parent { IsLinked self.old parent }
         requires child { IsLinked self.old child }
@@ -50,6 +52,7 @@ impl<T> HeapNodes<T> {
 
 impl<T: Ord> HeapNodes<T> {
     /// Makes the tree with the lesser top the parent of the other, and gives its top.
+    #[inline(always)]
     fn meld(&mut self, left: usize, right: usize) -> usize
         requires { Meldable (links_of self.old) left right }
         ensures melded { MeldsInto T.cmp self.old self.new left right result }
@@ -65,6 +68,7 @@ impl<T: Ord> HeapNodes<T> {
     }
 
     /// Melds the trees of a chain two by two, and chains what comes out, the last first.
+    #[inline(always)]
     fn pair_up(&mut self, first: Link) -> Link
         requires { InParts T.cmp self.old self.old.root None first None }
         ensures paired { InParts T.cmp self.new self.new.root None result None }
@@ -92,6 +96,7 @@ impl<T: Ord> HeapNodes<T> {
     }
 
     /// Melds the trees of a chain into one, from the first on.
+    #[inline(always)]
     fn meld_all(&mut self, first: Link) -> Option<usize>
         requires { InParts T.cmp self.old self.old.root None first None }
         ensures melded { InParts T.cmp self.new self.new.root result None None }
@@ -110,6 +115,7 @@ impl<T: Ord> HeapNodes<T> {
     }
 
     /// Melds a tree into the heap's own.
+    #[inline(always)]
     fn add_tree(&mut self, tree: usize)
         requires { InParts T.cmp self.old self.old.root (Some tree) None None }
         ensures heap { IsHeap T.cmp self.new }
@@ -125,6 +131,7 @@ impl<T: Ord> HeapNodes<T> {
     }
 
     /// Takes a node out of its tree, and gives the first of its children, which stay chained.
+    #[inline(always)]
     fn cut(&mut self, slot: usize) -> Link
         requires heap { IsHeap T.cmp self.old }
         requires member { IsLinked self.old slot }
@@ -138,6 +145,7 @@ impl<T: Ord> HeapNodes<T> {
     }
 
     /// Puts a node into the heap.
+    #[inline(always)]
     pub fn insert(&mut self, slot: usize)
         requires heap { IsHeap T.cmp self.old }
         requires live { is_some (values_of self.old slot) ≡ true }
@@ -155,6 +163,7 @@ impl<T: Ord> HeapNodes<T> {
     }
 
     /// Takes a node out of the heap.
+    #[inline(always)]
     pub fn remove(&mut self, slot: usize)
         requires heap { IsHeap T.cmp self.old }
         requires member { IsLinked self.old slot }

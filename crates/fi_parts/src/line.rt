@@ -57,6 +57,7 @@ pub fn waker_from<N: Drop, W>(pair: Option<(N, W)>) -> Option<W>
 }
 
 /// Gives a live ticket back, and takes its pair out of the outbox. Returns the waker of the pair; None if there is none.
+#[inline(always)]
 pub fn release<N: Drop, W: Drop>(outbox: &mut Outbox<(N, W)>, ticket: Ticket) -> Option<W>
     requires { set.contains outbox.old.tickets ticket.0 ≡ true }
     ensures waker { result ≡ waker_in_pair (waker_of ticket.0 outbox.old.pairs) }
@@ -69,6 +70,7 @@ pub fn release<N: Drop, W: Drop>(outbox: &mut Outbox<(N, W)>, ticket: Ticket) ->
 }
 
 // Takes a ticket's pair out of the outbox, and gives its waker; None where it has none.
+#[inline(always)]
 fn take_pair<N: Drop, W: Drop>(outbox: &mut Outbox<(N, W)>, ticket: Ticket) -> Option<W>
     ensures waker { result ≡ waker_in_pair (waker_of ticket.0 outbox.old.pairs) }
     ensures tickets { outbox.new.tickets ≡ outbox.old.tickets }
@@ -115,6 +117,7 @@ fn swap_phase<D: Drop, W: Drop>(
 }
 
 // Sets the phase of the youngest future of the list.
+#[inline(always)]
 fn set_youngest<D: Drop, W: Drop>(list: &mut LinkedList<Entry<D, W>>, phase: Phase<W>)
     requires { IsSome (item_of list.old (youngest list.old.order)) }
     ensures { (entry : Entry D W) × (item_of list.old (youngest list.old.order) ≡ Some entry)
@@ -206,6 +209,7 @@ impl<D: Drop, W: Drop> Line<D, W> {
     /// Inserts a fresh future, in a slot and with a ticket that were not live.
     ///
     /// Refused if there is no memory for it or its ticket; then what it asks for comes back, and nothing has changed.
+    #[inline(always)]
     pub fn insert<N: Drop>(
         &mut self,
         outbox: &mut Outbox<(N, W)>,
@@ -239,6 +243,7 @@ impl<D: Drop, W: Drop> Line<D, W> {
     }
 
     /// Registers a future that is not in the queue: it goes to the queue's end.
+    #[inline(always)]
     pub fn register(&mut self, slot: Slot, waker: W)
         requires live { IsLive self.old.side slot.0 }
         requires apart { holds slot.0 self.old.side.queue ≡ false }
@@ -249,6 +254,7 @@ impl<D: Drop, W: Drop> Line<D, W> {
     }
 
     /// Sets the phase of a live future; its place in the queue stays. Returns the waker that it was registered with.
+    #[inline(always)]
     pub fn set_phase(&mut self, slot: Slot, phase: Phase<W>) -> Option<W>
         requires { IsLive self.old.side slot.0 }
         ensures waker { MatchOption (phase_of self.old.side slot.0) ⊥ (λ before. result ≡ waker_in before) }
@@ -258,6 +264,7 @@ impl<D: Drop, W: Drop> Line<D, W> {
     }
 
     /// Sets the phase of a live future as `set_phase` does, and gives its ticket with the waker: it is looked up once.
+    #[inline(always)]
     pub fn notice(&mut self, slot: Slot, phase: Phase<W>) -> (Ticket, Option<W>)
         requires { IsLive self.old.side slot.0 }
         ensures ticket { map.get self.old.tickets slot.0 ≡ Some result.0.0 }
@@ -300,6 +307,7 @@ impl<D: Drop, W: Drop> Line<D, W> {
 
     /// Removes a future, also from the queue, and returns it with its ticket, which stays live in the outbox. None if none lives in
     /// this slot.
+    #[inline(always)]
     pub fn remove(&mut self, slot: Slot) -> Option<Entry<D, W>>
         ensures ticket { IfSome result (λ entry. map.get self.old.tickets slot.0 ≡ Some entry.ticket.0) }
         ensures future { IfSome result (λ entry. map.get self.old.side.live slot.0 ≡ Some entry.future) }
@@ -331,6 +339,7 @@ impl<D: Drop, W: Drop> Line<D, W> {
     }
 
     /// Takes the oldest future out of the queue; None if the queue is empty.
+    #[inline(always)]
     pub fn leave_oldest(&mut self) -> Option<Slot>
         ensures { MatchOption result ((self.old.side.queue ≡ []) × (self.new ≡ self.old))
             (λ slot. (others : List ℕ) × (self.old.side.queue ≡ slot.0 ∷ others) ×
@@ -341,6 +350,7 @@ impl<D: Drop, W: Drop> Line<D, W> {
     }
 
     /// Takes a future out of the queue, wherever its place is; it stays live. Does nothing if it isn't queued.
+    #[inline(always)]
     pub fn leave(&mut self, slot: Slot)
         ensures { self.new ≡ record self.old { side = record self.old.side { queue = without slot.0 self.old.side.queue } } }
     {

@@ -100,6 +100,7 @@ impl<T> LinkedList<T> {
     /// Takes a value in under a slot that was not live, outside the list.
     ///
     /// Refused only where there is no memory: then the value is handed back and nothing has changed.
+    #[inline(always)]
     pub fn claim(&mut self, value: T) -> Result<Slot, NoRoom<T>>
     where
         T: Drop,
@@ -114,6 +115,7 @@ impl<T> LinkedList<T> {
     }
 
     /// Gives the value of a live slot back, which is not in the list; the slot is not live afterwards.
+    #[inline(always)]
     pub fn free(&mut self, slot: Slot) -> T
     where
         T: Drop,
@@ -126,6 +128,7 @@ impl<T> LinkedList<T> {
     }
 
     /// Puts a live slot that is not in the list at the youngest place. Keeps `LinkedList::add_front`.
+    #[inline(always)]
     pub fn add_front(&mut self, slot: Slot)
         requires live { IsLive self.old slot.0 }
         requires apart { holds slot.0 self.old.order ≡ false }
@@ -139,6 +142,7 @@ impl<T> LinkedList<T> {
 
     /// Takes a slot out of the list; it stays live. `false` where it was not in the list. Keeps `LinkedList::remove`.
     #[tactic(auto, using(crate::proofs::Queues::taken_out))]
+    #[inline(always)]
     pub fn remove(&mut self, slot: Slot) -> bool
         ensures found { result ≡ holds slot.0 self.old.order }
         ensures live { self.new.live ≡ self.old.live }
@@ -152,6 +156,7 @@ impl<T> LinkedList<T> {
 
     /// Takes a slot out of the list, if it is there, and gives its value back; it is not live afterwards. None where it is not live.
     /// As `remove` and then `free`, with one look-up.
+    #[inline(always)]
     pub fn remove_and_free(&mut self, slot: Slot) -> Option<T>
     where
         T: Drop,
@@ -216,6 +221,7 @@ impl<T> LinkedList<T> {
     }
 
     /// Takes the oldest slot out; it stays live. None for an empty list. Keeps `LinkedList::remove_last`.
+    #[inline(always)]
     pub fn remove_last(&mut self) -> Option<Slot>
         ensures order { MatchOption result ((self.old.order ≡ []) × (self.new.order ≡ []))
             (λ slot. self.old.order ≡ self.new.order ++ slot.0 ∷ []) }

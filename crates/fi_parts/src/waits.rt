@@ -75,6 +75,7 @@ impl<D: Drop, W: Drop> Waits<D, W> {
     /// Makes a fresh future under a name that was not live.
     ///
     /// Refused if there is no memory for it or its ticket; then what it asks for comes back, and nothing has changed.
+    #[inline(always)]
     pub fn insert(&mut self, asks: D) -> Result<Slot, NoRoom<D>>
         ensures was_free { IfOk result (λ slot. phase_of self.old.side slot.0 ≡ None) }
         ensures made { IfOk result (λ slot. self.new ≡ record self.old { side = insert_fresh self.old.side slot.0 asks }) }
@@ -89,6 +90,7 @@ impl<D: Drop, W: Drop> Waits<D, W> {
     }
 
     /// Takes a live future's own pair out of the outbox, and gives its waker; None where it was not named.
+    #[inline(always)]
     pub fn take_out(&mut self, slot: Slot) -> Option<W>
         requires { IsLive self.old.side slot.0 }
         ensures waker { result ≡ waker_of slot.0 self.old.out }
@@ -108,6 +110,7 @@ impl<D: Drop, W: Drop> Waits<D, W> {
     ///
     /// One look-up tests the future and changes its phase. Joining the queue takes one more, and so does the ticket of one that joins or
     /// ends, while somebody is named to be woken.
+    #[inline(always)]
     pub fn poll_checked(
         &mut self,
         slot: Slot,
@@ -134,6 +137,7 @@ impl<D: Drop, W: Drop> Waits<D, W> {
     }
 
     /// Registers a future that is not in the queue: it goes to the queue's end.
+    #[inline(always)]
     pub fn register(&mut self, slot: Slot, waker: W)
         requires live { IsLive self.old.side slot.0 }
         requires apart { holds slot.0 self.old.side.queue ≡ false }
@@ -143,6 +147,7 @@ impl<D: Drop, W: Drop> Waits<D, W> {
     }
 
     /// Sets the phase of a live future; its place in the queue stays. Gives the waker that it was registered with.
+    #[inline(always)]
     pub fn set_phase(&mut self, slot: Slot, phase: Phase<W>) -> Option<W>
         requires { IsLive self.old.side slot.0 }
         ensures waker { MatchOption (phase_of self.old.side slot.0) ⊥ (λ before. result ≡ waker_in before) }
@@ -162,6 +167,7 @@ impl<D: Drop, W: Drop> Waits<D, W> {
 
     /// Takes a future out of the store, the queue and the outbox, and gives back what it asked for and the waker that it had.
     /// None where none lives under this slot. It is looked up once.
+    #[inline(always)]
     pub fn remove(&mut self, slot: Slot) -> Option<(D, Option<W>)>
         ensures live { OnSome result (is_some (phase_of self.old.side slot.0) ≡ true) }
         ensures asked { IfSome result (λ left. asks_of self.old.side slot.0 ≡ Some left.0) }
@@ -176,6 +182,7 @@ impl<D: Drop, W: Drop> Waits<D, W> {
     }
 
     /// Takes a future out of everything as `remove` does, and gives it back as it was, with the waker of its pair.
+    #[inline(always)]
     pub fn remove_future(&mut self, slot: Slot) -> Option<(Future<D, W>, Option<W>)>
         ensures future { IfSome result (λ left. map.get self.old.side.live slot.0 ≡ Some left.0) }
         ensures waker { IfSome result (λ left. left.1 ≡ waker_of slot.0 self.old.out) }
@@ -219,6 +226,7 @@ impl<D: Drop, W: Drop> Waits<D, W> {
     }
 
     /// Takes a future out of the queue, wherever its place is; it stays live. Does nothing if it isn't queued.
+    #[inline(always)]
     pub fn leave(&mut self, slot: Slot)
         ensures { self.new ≡ record self.old { side = record self.old.side { queue = without slot.0 self.old.side.queue } } }
     {
@@ -226,6 +234,7 @@ impl<D: Drop, W: Drop> Waits<D, W> {
     }
 
     /// Gives a live future this phase, and names its waker if it was registered. Its place in the queue stays.
+    #[inline(always)]
     pub fn notice(&mut self, slot: Slot, phase: Phase<W>)
         requires live { IsLive self.old.side slot.0 }
         requires no_pair { is_registered (phase_of self.old.side slot.0) ≡ true → has slot.0 self.old.out ≡ false }
@@ -242,6 +251,7 @@ impl<D: Drop, W: Drop> Waits<D, W> {
 
     /// Tells a future of the queue, and names its waker if it was registered. It then leaves the queue, unless it keeps
     /// its place.
+    #[inline(always)]
     pub fn tell(&mut self, slot: Slot, keeps_place: bool)
         requires ordered { IsOrderedBy (is_queued keeps_place) self.old.side self.old.out }
         requires queued { holds slot.0 self.old.side.queue ≡ true }
@@ -254,6 +264,7 @@ impl<D: Drop, W: Drop> Waits<D, W> {
     }
 
     /// Notices all queued futures, the oldest first: each leaves the queue and is named.
+    #[inline(always)]
     pub fn notice_all(&mut self, notice: Notice)
         requires { IsOrdered self.old.side self.old.out }
         ensures { self.new ≡ notify_all (phase_after notice) self.old }

@@ -100,6 +100,7 @@ impl<T: Drop, B: RingBuf<Item = T>, R: Drop> GenericChannel<T, B, R> {
 impl<T: Drop, B: RingBuf<Item = T>, R: Wait> GenericChannel<T, B, R> {
     /// Sends a value at once, if the channel is open and its buffer has room, and wakes the oldest receive that waits. Else the
     /// value comes back: with `Closed`, with `Full`, or with `NoMemory` where the buffer could not grow. Keeps `GenericChannel::try_send`.
+    #[inline(always)]
     pub fn try_send(&self, value: T) -> Result<(), TrySendError<T>>
         ensures tried { InSomeHold (λ old. TriesSend {W = Option Waker} old value result) }
         ensures handed_back { IfErr result (λ refused. value_in refused ≡ value) }
@@ -109,6 +110,7 @@ impl<T: Drop, B: RingBuf<Item = T>, R: Wait> GenericChannel<T, B, R> {
 
     /// Receives the oldest value at once, if there is one. Else `Closed` where the channel is closed, or `Empty`. Keeps
     /// `GenericChannel::try_receive`.
+    #[inline(always)]
     pub fn try_receive(&self) -> Result<T, TryReceiveError>
         ensures tried { InSomeHold (λ old. TriesReceive {W = Option Waker} old result) }
     {
@@ -150,6 +152,7 @@ impl<T: Drop, B: RingBuf<Item = T>, R: Wait> GenericChannel<T, B, R> {
 
     /// A future that sends the value. Its making is refused only for want of memory; then the value comes back. Keeps
     /// `GenericChannel::send`.
+    #[inline(always)]
     pub fn send(
         &self,
         value: T,
@@ -163,6 +166,7 @@ impl<T: Drop, B: RingBuf<Item = T>, R: Wait> GenericChannel<T, B, R> {
 
     /// A future that receives one value, or None once the channel is closed and empty. Refused only with `NoMemory`; then
     /// nothing has changed. Keeps `GenericChannel::receive`.
+    #[inline(always)]
     pub fn receive(
         &self,
     ) -> Result<ChannelReceiveFuture<'_, ChannelState<T, B, PollWaker>, R>, Fault>

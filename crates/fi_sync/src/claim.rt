@@ -52,6 +52,7 @@ impl<K> Claim<K> {
     }
 
     /// Cancels the future, which gives its slot back.
+    #[inline(always)]
     pub fn cancel<S: Cancel<K>>(self, state: &mut S) -> S::Left
         ensures { S.cancels state.old self result state.new }
     {

@@ -109,6 +109,7 @@ impl<T: Drop, L: Ledger> CountedMutex<T, L> {
     }
 
     /// Makes a future under a slot that was not live. Refused only with `NoMemory`; then nothing has changed.
+    #[inline(always)]
     pub fn claim_lock(&mut self) -> Result<Slot, Fault>
         ensures made { IfOk result (λ slot. Makes self.old slot.0 self.new) }
         ensures refused { OnErr result (self.new ≡ self.old) }
@@ -125,6 +126,7 @@ impl<T: Drop, L: Ledger> CountedMutex<T, L> {
     }
 
     /// Locks the mutex at once: its value, with the hold of it. None where it is locked, or is fair and a future is queued for it.
+    #[inline(always)]
     pub fn try_lock(&mut self) -> Option<Locked<T, L>>
         ensures tried { TriesLock self.old result self.new }
         ensures locked { IfSome result (λ _. is_free self.new ≡ false) }
@@ -135,6 +137,7 @@ impl<T: Drop, L: Ledger> CountedMutex<T, L> {
     }
 
     /// Puts the value back and unlocks the mutex, which is locked: its hold is alive.
+    #[inline(always)]
     pub fn unlock(&mut self, locked: Locked<T, L>)
         ensures held { is_free self.old ≡ false }
         ensures unlocked { Unlocks self.old locked (Ok tt) self.new }
@@ -157,6 +160,7 @@ impl<T: Drop, L: Ledger> PollSlot<MutexLock> for CountedMutex<T, L> {
 
     ghost leaves = { leftover_at };
 
+    #[inline(always)]
     fn poll_slot(&mut self, slot: Slot, waker: PollWaker) -> SlotPolled<Self::Output> {
         if waker.is_none() && !self.state.ends_now(slot) && self.state.can_poll(slot) {
             return None;
@@ -180,6 +184,7 @@ impl<T: Drop, L: Ledger> Cancel<MutexLock> for CountedMutex<T, L> {
 
     ghost cancels = { CancelsAt Cancels };
 
+    #[inline(always)]
     fn cancel(&mut self, slot: Slot) -> Option<PollWaker> {
         self.state.leave(slot)
     }

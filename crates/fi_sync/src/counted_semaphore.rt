@@ -56,6 +56,7 @@ impl<L: Ledger> CountedSemaphore<L> {
 
     /// Makes a future that needs this many permits, under a slot that was not live. Refused only with `NoMemory`; then nothing
     /// has changed.
+    #[inline(always)]
     pub fn claim_acquire(&mut self, permits: usize) -> Result<Slot, Fault>
         ensures made { IfOk result (λ slot. Makes self.old permits slot.0 self.new) }
         ensures refused { OnErr result (self.new ≡ self.old) }
@@ -66,6 +67,7 @@ impl<L: Ledger> CountedSemaphore<L> {
 
     /// Acquires this many permits if they are free and, in a fair semaphore, no future is queued; 0 permits are always granted.
     /// None if they are not granted; then nothing has changed.
+    #[inline(always)]
     pub fn try_acquire(&mut self, permits: usize) -> Option<Grant<L>>
         ensures tried { TriesAcquire self.old permits (is_some result) self.new }
         ensures granted { IfSome result (λ grant. grant ≡ permits) }
@@ -103,6 +105,7 @@ impl<L: Ledger> CountedSemaphore<L> {
     }
 
     /// Makes the permits free again, which are held: their grant is alive.
+    #[inline(always)]
     pub fn give_back(&mut self, grant: Grant<L>)
         ensures held { grant ≤ self.old.own.held }
         ensures given_back { GivesBack self.old grant self.new }
@@ -130,6 +133,7 @@ impl<L: Ledger> PollSlot<SemaphoreAcquire> for CountedSemaphore<L> {
 
     ghost leaves = { leftover_at };
 
+    #[inline(always)]
     fn poll_slot(&mut self, slot: Slot, waker: PollWaker) -> SlotPolled<Self::Output> {
         if waker.is_none() && !self.state.ends_now(slot) && self.state.can_poll(slot) {
             return None;
@@ -156,6 +160,7 @@ impl<L: Ledger> Cancel<SemaphoreAcquire> for CountedSemaphore<L> {
 
     ghost cancels = { CancelsAt Cancels };
 
+    #[inline(always)]
     fn cancel(&mut self, slot: Slot) -> Option<PollWaker> {
         self.state.leave(slot)
     }

@@ -82,6 +82,7 @@ impl<R: Wait> ManualResetEvent<R> {
     /// A future that waits for the event. Refused only with `NoMemory`; then nothing has changed.
     ///
     /// Keeps `ManualResetEvent::wait`.
+    #[inline(always)]
     pub fn wait(&self) -> Result<WaitForEventFuture<'_, R>, Fault>
         ensures made { IfOk result (λ future. IsNew self.now future) }
         ensures fault { IfErr result (λ fault. fault ≡ Fault.NoMemory) }

@@ -25,6 +25,7 @@ impl PollSlot<EventWait> for EventState<PollWaker> {
 
     ghost leaves = { leftover_at };
 
+    #[inline(always)]
     fn poll_slot(&mut self, slot: Slot, waker: PollWaker) -> SlotPolled<Self::Output> {
         if waker.is_none() && !self.ends_now(slot) && self.can_poll(slot) {
             return None;
@@ -42,6 +43,7 @@ impl Cancel<EventWait> for EventState<PollWaker> {
 
     ghost cancels = { CancelsAt Cancels };
 
+    #[inline(always)]
     fn cancel(&mut self, slot: Slot) -> Option<PollWaker> {
         self.leave(slot)
     }

@@ -61,6 +61,7 @@ impl<S: HasOutbox, R: Wait> Monitor<S, R> {
     ///
     /// The call takes an input, since a closure can capture only values that are `Drop`. What it answers is dropped after the
     /// lock is released.
+    #[inline(always)]
     pub fn call<I, A, F: FnOnce(&mut S, I) -> A>(&self, input: I, call: F) -> A
         requires { F.IsAlwaysCallable call }
         ensures { (shown : MutBor S) × (left : MutBor S) × F.post call shown input result left }
@@ -71,6 +72,7 @@ impl<S: HasOutbox, R: Wait> Monitor<S, R> {
     }
 
     /// Makes a future of the kind `K`, as `call` makes a call: its claim on the slot that the state gave it.
+    #[inline(always)]
     pub fn claim<K, I, E, F: FnOnce(&mut S, I) -> Result<Slot, E>>(
         &self,
         input: I,
@@ -91,6 +93,7 @@ impl<S: HasOutbox, R: Wait> Monitor<S, R> {
     /// unused. None if the poll has to wait, has no spare one and no waker can be made; then nothing has changed.
     ///
     /// A future that the poll ends is cancelled in the same hold of the lock. The claim of one that goes on comes back.
+    #[inline(always)]
     pub fn poll<K>(
         &self,
         claim: Claim<K>,
@@ -111,6 +114,7 @@ impl<S: HasOutbox, R: Wait> Monitor<S, R> {
     }
 
     /// Cancels the future that has this claim, as `call` makes a call, and answers what it leaves.
+    #[inline(always)]
     pub fn cancel<K>(&self, claim: Claim<K>) -> S::Left
     where
         S: Cancel<K>,

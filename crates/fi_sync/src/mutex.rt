@@ -88,6 +88,7 @@ impl<T, R, L: Ledger> Mutex<T, R, L> {
 
 impl<T: Drop, R: Wait, L: Ledger> Mutex<T, R, L> {
     /// A future that locks the mutex. Refused only with `NoMemory`; then nothing has changed. Keeps `GenericMutex::lock`.
+    #[inline(always)]
     pub fn lock(&self) -> Result<MutexLockFuture<'_, T, R, L>, Fault>
         ensures made { IfOk result (λ future. IsNew self.now future) }
         ensures fault { IfErr result (λ fault. fault ≡ Fault.NoMemory) }
@@ -101,6 +102,7 @@ impl<T: Drop, R: Wait, L: Ledger> Mutex<T, R, L> {
 
     /// Locks the mutex at once: its guard. None where it is locked, or is fair and a future is queued for it. Keeps
     /// `GenericMutex::try_lock`.
+    #[inline(always)]
     pub fn try_lock(&self) -> Option<MutexGuard<'_, T, R, L>> {
         let Locked { value, hold } = self.monitor.call((), |mutex, ()| mutex.try_lock())?;
         Some(MutexGuard {
@@ -159,6 +161,7 @@ impl<T: Drop, R: Wait, L: Ledger> MutexGuard<'_, T, R, L> {
 }
 
 impl<T: Drop, R: Wait, L: Ledger> Drop for MutexGuard<'_, T, R, L> {
+    #[inline(always)]
     fn drop(self) {
         let MutexGuard {
             monitor,
@@ -228,6 +231,7 @@ impl<'a, T: Drop, R: Wait, L: Ledger> Future for MutexLockFuture<'a, T, R, L> {
 
     ghost needs = { λ lock source. source ≡ lock.source };
 
+    #[inline(always)]
     fn poll(&mut self, cx: &mut Context<'_>) -> Poll<Result<MutexGuard<'a, T, R, L>, Fault>>
         ensures value { IfReady result (λ _. ⊤) }
         ensures again { OnPending result ⊤ }

@@ -97,6 +97,7 @@ impl<T: Drop, G: GivesValue<T>, R: Wait> OneValueChannel<T, G, R> {
 
     /// A future that receives the value, or None if none will come: the channel was closed without one, or (of a oneshot)
     /// another receive took it. Refused only with `NoMemory`; then nothing has changed. Keeps `OneshotChannel::receive`.
+    #[inline(always)]
     pub fn receive(
         &self,
     ) -> Result<ChannelReceiveFuture<'_, OneValueState<T, PollWaker, G>, R>, Fault>

@@ -27,6 +27,7 @@ impl<C: ChannelReceiveAccess<Waker = PollWaker>> PollSlot<ChannelReceive> for C 
 
     ghost leaves = { λ old name waker answer. leftover_after answer (C.waker_of old name) waker };
 
+    #[inline(always)]
     fn poll_slot(&mut self, slot: Slot, waker: PollWaker) -> SlotPolled<Self::Output> {
         if waker.is_none() && !self.receive_ends_now(slot) && self.can_receive(slot) {
             return None;
@@ -44,6 +45,7 @@ impl<C: ChannelReceiveAccess<Waker = PollWaker>> Cancel<ChannelReceive> for C {
     ghost cancels = { λ old name left new. LeavesWhere (C.is_receiving old name) (C.cancels old name new)
         (C.waker_of old name) old left new };
 
+    #[inline(always)]
     fn cancel(&mut self, slot: Slot) -> Option<PollWaker> {
         self.leave_receive(slot)
     }

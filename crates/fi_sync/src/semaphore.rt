@@ -74,6 +74,7 @@ pub type SemaphoreAcquireFuture<'a, R, L> = SemaphoreAcquireFutureOf<
 impl<R: Wait, L: Ledger> Semaphore<R, L> {
     /// A future that acquires this many permits. Refused only with `NoMemory`; then nothing has changed. Keeps
     /// `GenericSemaphore::acquire`.
+    #[inline(always)]
     pub fn acquire(&self, permits: usize) -> Result<SemaphoreAcquireFuture<'_, R, L>, Fault>
         ensures made { IfOk result (λ future. IsNew self.now future) }
         ensures fault { IfErr result (λ fault. fault ≡ Fault.NoMemory) }
@@ -86,6 +87,7 @@ impl<R: Wait, L: Ledger> Semaphore<R, L> {
 
     /// Acquires this many permits if they are free and, in a fair semaphore, no future is queued; 0 permits are always granted.
     /// None if they are not granted. Keeps `GenericSemaphore::try_acquire`.
+    #[inline(always)]
     pub fn try_acquire(&self, permits: usize) -> Option<SemaphoreReleaser<'_, R, L>>
         ensures { IfSome result (λ releaser. releaser ≡ permits) }
     {

@@ -68,6 +68,7 @@ impl<M: HasMonitor<State = CountedSemaphore<L>>, L: Ledger> Future
 
     ghost needs = { λ acquire source. source ≡ acquire.source };
 
+    #[inline(always)]
     fn poll(&mut self, cx: &mut Context<'_>) -> Poll<Result<SemaphoreReleaserOf<M, L>, Fault>>
         ensures value { IfReady result (λ _. ⊤) }
         ensures again { OnPending result ⊤ }

@@ -46,6 +46,7 @@ impl<M: HasMonitor<State = CountedSemaphore<L>>, L: Ledger> SemaphoreReleaserOf<
 }
 
 impl<M: HasMonitor<State = CountedSemaphore<L>>, L: Ledger> Drop for SemaphoreReleaserOf<M, L> {
+    #[inline(always)]
     fn drop(self) {
         let SemaphoreReleaserOf { monitor, grant } = self;
         monitor.monitor().call(grant, CountedSemaphore::give_back);

@@ -93,6 +93,7 @@ impl<R: Wait + Drop, L: Ledger> SharedSemaphore<R, L> {
 
     /// A future that acquires this many permits. Refused only with `NoMemory`; then nothing has changed. Keeps
     /// `GenericSharedSemaphore::acquire`.
+    #[inline(always)]
     pub fn acquire(&self, permits: usize) -> Result<SharedSemaphoreAcquireFuture<R, L>, Fault>
         ensures made { IfOk result (λ future. IsNew self.now future) }
         ensures fault { IfErr result (λ fault. fault ≡ Fault.NoMemory) }
@@ -108,6 +109,7 @@ impl<R: Wait + Drop, L: Ledger> SharedSemaphore<R, L> {
     /// Acquires this many permits if they are free and, in a fair semaphore, no future is queued; 0 permits are always granted.
     /// None if they are not granted. Refused with `NoMemory` as `clone`; then nothing has changed. Keeps
     /// `GenericSharedSemaphore::try_acquire`.
+    #[inline(always)]
     pub fn try_acquire(
         &self,
         permits: usize,

@@ -167,6 +167,7 @@ where
 
     ghost gives = { λ future. IsGiven M.State.polls (M.State.Output.refusal Fault.NoMemory) };
 
+    #[inline(always)]
     fn poll(&mut self, cx: &mut Context<'_>) -> Poll<<M::State as PollSlot<K>>::Output>
         ensures value { IfReady result (IsGiven M.State.polls (M.State.Output.refusal Fault.NoMemory)) }
         ensures registered { OnPending result (Covers cx.new (λ source. source ≡ self.new.source)) }
@@ -198,6 +199,7 @@ impl<M: HasMonitor, K> Drop for SlotFuture<M, K>
 where
     M::State: PollSlot<K>,
 {
+    #[inline(always)]
     fn drop(self) {
         let SlotFuture {
             monitor,

@@ -90,6 +90,7 @@ impl<T: Clone, R: Wait> StateBroadcastChannel<T, R> {
 
     /// A clone of the newest state with its number, if that is greater than `seen`. Refused with `NoMemory` where the clone could
     /// not be allocated. Keeps `StateBroadcastChannel::try_receive`.
+    #[inline(always)]
     pub fn try_receive(&self, seen: StateId) -> Result<Option<(StateId, T)>, Fault>
         ensures fault { IfErr result (λ fault. fault ≡ Fault.NoMemory) }
         // In some hold of the lock there was a newer state, whose clone can fail.
@@ -101,6 +102,7 @@ impl<T: Clone, R: Wait> StateBroadcastChannel<T, R> {
 
     /// A future that receives the newest state once its number is greater than `seen`. Refused only with `NoMemory`; then nothing
     /// has changed. Keeps `StateBroadcastChannel::receive`.
+    #[inline(always)]
     pub fn receive(&self, seen: StateId) -> Result<StateReceiveFuture<'_, T, R>, Fault>
         ensures made { IfOk result (λ future. IsNew self.now future) }
         ensures fault { IfErr result (λ fault. fault ≡ Fault.NoMemory) }

@@ -157,6 +157,7 @@ impl<C: Clock> PollSlot<TimerWait> for Timed<C> {
 
     ghost leaves = { λ old name waker answer. leftover_after answer (displaced_at old.timer name) waker };
 
+    #[inline(always)]
     fn poll_slot(&mut self, slot: Slot, waker: PollWaker) -> SlotPolled<Self::Output> {
         let now = self.clock.now();
         if waker.is_none() && !self.timer.ends_now(slot, now) && self.timer.can_poll(slot) {
@@ -180,6 +181,7 @@ impl<C: Clock> Cancel<TimerWait> for Timed<C> {
         × LeavesWhere (is_some (phase_at old.timer name)) (Cancels old.timer name new.timer)
         (displaced_at old.timer name) old left new };
 
+    #[inline(always)]
     fn cancel(&mut self, slot: Slot) -> Option<PollWaker> {
         self.timer.leave(slot)
     }

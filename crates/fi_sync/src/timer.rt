@@ -71,6 +71,7 @@ impl<C: Clock + Drop, R> TimerService<C, R> {
 impl<C: Clock + Drop, R: Wait> TimerService<C, R> {
     /// A future for this moment, in milliseconds: ready at its first poll if the clock has reached it, else once
     /// `check_expirations` has told it. Refused only with `NoMemory`; then nothing has changed. Keeps `Timer::deadline`.
+    #[inline(always)]
     pub fn deadline(&self, expiry: u64) -> Result<TimerFuture<'_, C, R>, Fault>
         ensures made { IfOk result (λ future. IsNew self.now future) }
         ensures fault { IfErr result (λ fault. fault ≡ Fault.NoMemory) }
@@ -81,6 +82,7 @@ impl<C: Clock + Drop, R: Wait> TimerService<C, R> {
 
     /// A future for the moment this long after the clock's time now, in whole milliseconds, rounded down, and at most `u64::MAX`.
     /// Refused only with `NoMemory`; then nothing has changed. Keeps `Timer::delay`.
+    #[inline(always)]
     pub fn delay(&self, delay: Duration) -> Result<TimerFuture<'_, C, R>, Fault>
         ensures made { IfOk result (λ future. IsNew self.now future) }
         ensures fault { IfErr result (λ fault. fault ≡ Fault.NoMemory) }

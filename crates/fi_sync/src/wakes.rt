@@ -63,6 +63,7 @@ impl<S: HasOutbox> Guarded<S> {
     /// Makes a call on the state in one hold of the lock. What is owed after it is a wake for each waker that is named then.
     ///
     /// The call takes an input, since a closure can capture only values that are `Drop`.
+    #[inline(always)]
     pub fn lend<R: Wait, I, A, F>(&self, rt: &R, input: I, call: F) -> (A, Owed<'_, S>)
     where
         F: FnOnce(&mut S, I) -> A,
@@ -79,6 +80,7 @@ impl<S: HasOutbox> Guarded<S> {
     /// A waker is made if the poll has to wait and there is no spare one, in the same hold of the lock, or before it if the spare
     /// one is another task's. If the poll has to wait and there is none then, the answer is None and nothing has changed. If the
     /// poll ends the future, that is cancelled too, in the same hold.
+    #[inline(always)]
     pub fn poll<K, R: Wait>(
         &self,
         rt: &R,
@@ -107,6 +109,7 @@ impl<S: HasOutbox> Guarded<S> {
 
     // Takes out the oldest waker, in a hold of the lock that is over when it comes back: a waker's wake and its drop could run its
     // owner's code (the kit's do not), which may take the same lock.
+    #[inline(always)]
     fn take_oldest<R: Wait>(&self, rt: &R) -> Option<PollWaker>
         ensures { (old : S) × (new : S) × TakesFirst (S.wakers old) result (S.wakers new) }
     {
@@ -119,6 +122,7 @@ impl<S: HasOutbox> Owed<'_, S> {
     /// held.
     ///
     /// Another thread may have taken some of them out; then it wakes them.
+    #[inline(always)]
     pub fn pay<R: Wait>(self, rt: &R) {
         let mut owed = self;
         while !owed.is_paid() {
@@ -132,6 +136,7 @@ impl<S: HasOutbox> Owed<'_, S> {
 }
 
 // Polls the future that has this claim as `poll_or_register` does, and cancels it if it has ended then.
+#[inline(always)]
 fn poll_or_end<K, S: PollSlot<K>>(
     state: &mut S,
     claim: Claim<K>,
@@ -165,6 +170,7 @@ fn has_ended<A: PollOutput>(polled: &SlotPolled<A>) -> bool
 }
 
 // Polls the future under this slot with the spare waker, or without one, and if it has to wait then, with a waker that is made now.
+#[inline(always)]
 fn poll_or_register<K, S: PollSlot<K>>(
     state: &mut S,
     slot: Slot,
@@ -188,6 +194,7 @@ fn poll_or_register<K, S: PollSlot<K>>(
 }
 
 // Makes a call on a state, and counts the wakers that are named after it.
+#[inline(always)]
 fn counted<'a, S: HasOutbox, I, A, F>(
     guarded: &'a Guarded<S>,
     state: &mut S,

@@ -240,6 +240,7 @@ impl<S: SendsClosed> ChannelSendAccess for CountedEnds<S> {
         self.state.send_ends_now(slot)
     }
 
+    #[inline(always)]
     fn send_checked(
         &mut self,
         slot: Slot,
@@ -248,6 +249,7 @@ impl<S: SendsClosed> ChannelSendAccess for CountedEnds<S> {
         self.state.send_checked(slot, waker)
     }
 
+    #[inline(always)]
     fn leave_send(&mut self, slot: Slot) -> (Option<S::Item>, Option<PollWaker>) {
         self.state.leave_send(slot)
     }
@@ -283,6 +285,7 @@ impl<S: ReceivesClosed> ChannelReceiveAccess for CountedEnds<S> {
         self.state.receive_ends_now(slot)
     }
 
+    #[inline(always)]
     fn receive_checked(
         &mut self,
         slot: Slot,
@@ -291,6 +294,7 @@ impl<S: ReceivesClosed> ChannelReceiveAccess for CountedEnds<S> {
         self.state.receive_checked(slot, waker)
     }
 
+    #[inline(always)]
     fn leave_receive(&mut self, slot: Slot) -> Option<PollWaker> {
         self.state.leave_receive(slot)
     }

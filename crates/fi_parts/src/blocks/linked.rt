@@ -77,6 +77,7 @@ impl<T> LinkedBlocks<T> {
     }
 
     /// A new block that is not in the list, one of at most so many. Where there is no memory the item comes back.
+    #[inline(always)]
     pub fn claim(&mut self, item: T, slot: usize, most: usize) -> Result<BlockPtr<T>, NoRoom<T>>
     where
         T: Drop,

@@ -105,6 +105,7 @@ impl<T> BlockOwner<T> {
     }
 
     /// A new block, one of at most so many. It lies where no other does. Where there is no memory the item comes back.
+    #[inline(always)]
     pub fn put(&mut self, item: T, slot: usize, most: usize) -> Result<BlockPtr<T>, NoRoom<T>>
     where
         T: Drop,
