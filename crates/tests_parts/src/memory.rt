@@ -5,11 +5,11 @@ use std::sync::{Mutex, Wait};
 use std::test::Fail;
 use std::{fs, thread};
 
-// A list of so many live slots of this value.
-fn nodes<T: Copy + Drop>(alloc: Global, value: T, count: u64) -> Result<LinkedList<T>, NoRoom<T>> {
+// A list of so many live slots of 24 bytes each.
+fn small_nodes(alloc: Global, count: u64) -> Result<LinkedList<[u64; 3]>, NoRoom<[u64; 3]>> {
     let mut list = LinkedList::new(alloc);
-    for _ in 0..count {
-        list.claim(value)?;
+    for i in 0..count {
+        list.claim([i; 3])?;
     }
     Ok(list)
 }
@@ -19,7 +19,7 @@ fn nodes<T: Copy + Drop>(alloc: Global, value: T, count: u64) -> Result<LinkedLi
 #[test]
 fn a_node_and_its_entry_are_small(rt: HostRuntime) -> Result<(), Fail> {
     let before = pages(&rt)?;
-    let list = nodes(rt.alloc(), [7u64; 3], 200_000).ok().ok_or("room")?;
+    let list = small_nodes(rt.alloc(), 200_000).ok().ok_or("room")?;
     let after = pages(&rt)?;
     assert!(rt; list.is_empty(), "none of them was linked");
     assert!(rt;
@@ -30,10 +30,10 @@ fn a_node_and_its_entry_are_small(rt: HostRuntime) -> Result<(), Fail> {
 }
 
 // A list of so many live slots, half of them linked, some freed and claimed again, comes to its end.
-fn make_and_end<T: Copy + Drop>(alloc: Global, value: T, count: u64) -> Result<(), NoRoom<T>> {
+fn make_and_end(alloc: Global, count: u64) -> Result<(), NoRoom<[u64; 512]>> {
     let mut list = LinkedList::new(alloc);
     for i in 0..count {
-        let slot = list.claim(value)?;
+        let slot = list.claim([i; 512])?;
         if i % 2 == 0 {
             list.add_front(slot);
         }
@@ -53,9 +53,9 @@ fn pages(rt: &HostRuntime) -> Result<u64, Fail> {
     Ok(resident.parse().ok().ok_or("a number")?)
 }
 
-fn make_and_end_often<T: Copy + Drop>(alloc: Global, value: T) -> Result<(), NoRoom<T>> {
+fn make_and_end_often(alloc: Global) -> Result<(), NoRoom<[u64; 512]>> {
     for _ in 0..40 {
-        make_and_end(alloc, value, 2_000)?;
+        make_and_end(alloc, 2_000)?;
     }
     Ok(())
 }
@@ -64,13 +64,9 @@ fn make_and_end_often<T: Copy + Drop>(alloc: Global, value: T) -> Result<(), NoR
 // allocator take what it keeps for itself.
 #[test]
 fn all_memory_is_given_back(rt: HostRuntime) -> Result<(), Fail> {
-    make_and_end_often(rt.alloc(), [7u64; 512])
-        .ok()
-        .ok_or("room")?;
+    make_and_end_often(rt.alloc()).ok().ok_or("room")?;
     let before = pages(&rt)?;
-    make_and_end_often(rt.alloc(), [7u64; 512])
-        .ok()
-        .ok_or("room")?;
+    make_and_end_often(rt.alloc()).ok().ok_or("room")?;
     let after = pages(&rt)?;
     assert!(rt;
         after.saturating_sub(before) < 20_000,
@@ -80,14 +76,10 @@ fn all_memory_is_given_back(rt: HostRuntime) -> Result<(), Fail> {
 }
 
 // Claims and frees a node, so many times, while another one lives.
-fn claim_and_free<T: Copy + Drop>(
-    list: &mut LinkedList<T>,
-    value: T,
-    count: u64,
-) -> Result<(), NoRoom<T>> {
-    let kept = list.claim(value)?;
-    for _ in 0..count {
-        let slot = list.claim(value)?;
+fn claim_and_free(list: &mut LinkedList<[u64; 512]>, count: u64) -> Result<(), NoRoom<[u64; 512]>> {
+    let kept = list.claim([1; 512])?;
+    for i in 0..count {
+        let slot = list.claim([i; 512])?;
         if list.get(slot).is_some() && slot != kept {
             list.free(slot);
         }
@@ -101,9 +93,7 @@ fn claim_and_free<T: Copy + Drop>(
 fn freed_memory_is_used_again(rt: HostRuntime) -> Result<(), Fail> {
     let mut list = LinkedList::new(rt.alloc());
     let before = pages(&rt)?;
-    claim_and_free(&mut list, [7u64; 512], 20_000)
-        .ok()
-        .ok_or("room")?;
+    claim_and_free(&mut list, 20_000).ok().ok_or("room")?;
     let after = pages(&rt)?;
     assert!(rt;
         after.saturating_sub(before) < 5_000,
