@@ -160,30 +160,3 @@ pub fn every_run_of_a_mutex<T: Drop, W: Drop>()
 {
     every_run::<MutexState<T, W>>();
 }
-
-#[cfg(test)]
-mod tests {
-    use super::*;
-    use crate::tests::answers;
-    use std::test::Fail;
-
-    const A: Slot = Slot(0);
-
-    #[test]
-    fn what_is_refused(rt: HostRuntime) -> Result<(), Fail> {
-        let rows = [
-            (MutexCall::Unlock(8), Answer::Back(8, Fault::NotHeld)),
-            (MutexCall::Poll(A, 1), Answer::Refused(Fault::NoSlot)),
-            (MutexCall::Cancel(A), Answer::Refused(Fault::NoSlot)),
-            (MutexCall::Lock, Answer::Made(A)),
-            (MutexCall::Poll(A, 1), Answer::Item(7)),
-            (MutexCall::Poll(A, 1), Answer::Refused(Fault::NoSlot)),
-            (MutexCall::Cancel(A), Answer::Done),
-            (MutexCall::Unlock(9), Answer::Done),
-            (MutexCall::IsLocked, Answer::Flag(false)),
-        ];
-        assert!(rt; answers::<MutexState<u64, u64>>(rt.alloc(), (7, true), rows.as_slice())?);
-        every_run_of_a_mutex::<u64, u64>();
-        Ok(())
-    }
-}

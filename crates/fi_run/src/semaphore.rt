@@ -200,32 +200,3 @@ pub fn every_run_of_a_semaphore<W: Drop>()
 {
     every_run::<SemaphoreState<W>>();
 }
-
-#[cfg(test)]
-mod tests {
-    use super::*;
-    use crate::tests::answers;
-    use std::test::Fail;
-
-    const A: Slot = Slot(0);
-
-    #[test]
-    fn what_is_refused(rt: HostRuntime) -> Result<(), Fail> {
-        let rows = [
-            (SemaphoreCall::Poll(A, 1), Answer::Refused(Fault::NoSlot)),
-            (SemaphoreCall::Cancel(A), Answer::Refused(Fault::NoSlot)),
-            (SemaphoreCall::Acquire(1), Answer::Made(A)),
-            (SemaphoreCall::Poll(A, 1), Answer::Ready),
-            (SemaphoreCall::Poll(A, 1), Answer::Refused(Fault::NoSlot)),
-            (SemaphoreCall::Cancel(A), Answer::Done),
-            (SemaphoreCall::NextWake, Answer::Woken(None)),
-            (SemaphoreCall::GiveBack(2), Answer::Refused(Fault::NotHeld)),
-            (SemaphoreCall::GiveBack(1), Answer::Done),
-            (SemaphoreCall::NextWake, Answer::Woken(None)),
-            (SemaphoreCall::NextWake, Answer::Woken(None)),
-        ];
-        assert!(rt; answers::<SemaphoreState<u64>>(rt.alloc(), (1, true), rows.as_slice())?);
-        every_run_of_a_semaphore::<u64>();
-        Ok(())
-    }
-}
