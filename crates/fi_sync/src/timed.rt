@@ -106,7 +106,7 @@ impl<C: Clock> Timed<C> {
         ensures left { IsNextExpiry self.old.timer.waiting.side result }
     {
         self.runner = None;
-        self.timer.next_expiration()
+        self.next_expiration()
     }
 
     /// Tells those whose expiry is not after the clock's time now, and plans the runner's next check for the next expiry, or for this

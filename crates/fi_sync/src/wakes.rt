@@ -10,12 +10,11 @@ ghost use Rattle.fi_sync.specs.Wakes.{TakesFirst};
 mod owed;
 mod taken_apart;
 
-pub use owed::Owed;
-
 use crate::claim::{Claim, Fate};
 use crate::slot_future::{PollOutput, PollSlot, SlotPolled};
 use fi_parts::Slot;
 use futures::task::{Context, Poll, Source, Waker};
+pub use owed::Owed;
 use std::marker::Model;
 use std::sync::{Mutex, Wait};
 

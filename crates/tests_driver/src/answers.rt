@@ -5,92 +5,111 @@ use fi_parts::{ChannelSendError, CloseStatus, Fault, StateId};
 use fi_run::Answer;
 use futures::task::Poll;
 
-/// Of a poll of a wait.
-pub fn of_wait(polled: Poll<Result<(), Fault>>) -> Answer<u64, u64> {
+/// What the plain state answers where a call or a ready poll gives this.
+pub trait IntoAnswer {
+    fn into_answer(self) -> Answer<u64, u64>;
+}
+
+/// Of a poll.
+pub fn of_poll<A: IntoAnswer>(polled: Poll<A>) -> Answer<u64, u64> {
     match polled {
-        Poll::Ready(Ok(())) => Answer::Ready,
-        Poll::Ready(Err(fault)) => Answer::Refused(fault),
+        Poll::Ready(given) => given.into_answer(),
         Poll::Pending => Answer::Pending,
     }
 }
 
-/// Of a poll of a receive.
-pub fn of_receive(polled: Poll<Result<Option<u64>, Fault>>) -> Answer<u64, u64> {
-    match polled {
-        Poll::Ready(Ok(Some(value))) => Answer::Item(value),
-        Poll::Ready(Ok(None)) => Answer::Nothing,
-        Poll::Ready(Err(fault)) => Answer::Refused(fault),
-        Poll::Pending => Answer::Pending,
+/// Of a wait.
+impl IntoAnswer for Result<(), Fault> {
+    fn into_answer(self) -> Answer<u64, u64> {
+        match self {
+            Ok(()) => Answer::Ready,
+            Err(fault) => Answer::Refused(fault),
+        }
     }
 }
 
-/// Of a poll of a stream.
-pub fn of_next(polled: Poll<Option<Result<u64, Fault>>>) -> Answer<u64, u64> {
-    match polled {
-        Poll::Ready(Some(Ok(value))) => Answer::Item(value),
-        Poll::Ready(Some(Err(fault))) => Answer::Refused(fault),
-        Poll::Ready(None) => Answer::End,
-        Poll::Pending => Answer::Pending,
+/// Of a receive.
+impl IntoAnswer for Result<Option<u64>, Fault> {
+    fn into_answer(self) -> Answer<u64, u64> {
+        match self {
+            Ok(Some(value)) => Answer::Item(value),
+            Ok(None) => Answer::Nothing,
+            Err(fault) => Answer::Refused(fault),
+        }
     }
 }
 
-/// Of a receive of a state at once.
-pub fn of_state(received: Result<Option<(StateId, u64)>, Fault>) -> Answer<u64, u64> {
-    match received {
-        Ok(Some((number, value))) => Answer::State(number, value),
-        Ok(None) => Answer::Nothing,
-        Err(fault) => Answer::Refused(fault),
+/// Of a stream.
+impl IntoAnswer for Option<Result<u64, Fault>> {
+    fn into_answer(self) -> Answer<u64, u64> {
+        match self {
+            Some(Ok(value)) => Answer::Item(value),
+            Some(Err(fault)) => Answer::Refused(fault),
+            None => Answer::End,
+        }
     }
 }
 
-/// Of a poll of a receive of a state.
-pub fn of_state_poll(polled: Poll<Result<Option<(StateId, u64)>, Fault>>) -> Answer<u64, u64> {
-    match polled {
-        Poll::Ready(received) => of_state(received),
-        Poll::Pending => Answer::Pending,
+/// Of a receive of a state.
+impl IntoAnswer for Result<Option<(StateId, u64)>, Fault> {
+    fn into_answer(self) -> Answer<u64, u64> {
+        match self {
+            Ok(Some((number, value))) => Answer::State(number, value),
+            Ok(None) => Answer::Nothing,
+            Err(fault) => Answer::Refused(fault),
+        }
     }
 }
 
 /// Of a send on a channel of one value or of a state.
-pub fn of_sent(sent: Result<(), ChannelSendError<u64>>) -> Answer<u64, u64> {
-    match sent {
-        Ok(()) => Answer::Done,
-        Err(ChannelSendError(value)) => Answer::Back(value, Fault::Closed),
+impl IntoAnswer for Result<(), ChannelSendError<u64>> {
+    fn into_answer(self) -> Answer<u64, u64> {
+        match self {
+            Ok(()) => Answer::Done,
+            Err(ChannelSendError(value)) => Answer::Back(value, Fault::Closed),
+        }
     }
 }
 
-/// Of a poll of a send.
-pub fn of_send(polled: Poll<Result<(), SendFault<u64>>>) -> Answer<u64, u64> {
-    match polled {
-        Poll::Ready(Ok(())) => Answer::Done,
-        Poll::Ready(Err(SendFault::Closed(value))) => Answer::Back(value, Fault::Closed),
-        Poll::Ready(Err(SendFault::Fault(fault))) => Answer::Refused(fault),
-        Poll::Pending => Answer::Pending,
+/// Of a send on a channel of many values.
+impl IntoAnswer for Result<(), SendFault<u64>> {
+    fn into_answer(self) -> Answer<u64, u64> {
+        match self {
+            Ok(()) => Answer::Done,
+            Err(SendFault::Closed(value)) => Answer::Back(value, Fault::Closed),
+            Err(SendFault::Fault(fault)) => Answer::Refused(fault),
+        }
     }
 }
 
 /// Of a send at once on a channel of many values.
-pub fn of_try_send(sent: Result<(), TrySendError<u64>>) -> Answer<u64, u64> {
-    match sent {
-        Ok(()) => Answer::Done,
-        Err(TrySendError::Closed(value)) => Answer::Back(value, Fault::Closed),
-        Err(TrySendError::Full(value)) => Answer::Back(value, Fault::Full),
-        Err(TrySendError::NoMemory(value)) => Answer::Back(value, Fault::NoMemory),
+impl IntoAnswer for Result<(), TrySendError<u64>> {
+    fn into_answer(self) -> Answer<u64, u64> {
+        match self {
+            Ok(()) => Answer::Done,
+            Err(TrySendError::Closed(value)) => Answer::Back(value, Fault::Closed),
+            Err(TrySendError::Full(value)) => Answer::Back(value, Fault::Full),
+            Err(TrySendError::NoMemory(value)) => Answer::Back(value, Fault::NoMemory),
+        }
     }
 }
 
 /// Of a receive at once from a channel of many values.
-pub fn of_try_receive(received: Result<u64, TryReceiveError>) -> Answer<u64, u64> {
-    match received {
-        Ok(value) => Answer::Item(value),
-        Err(TryReceiveError::Empty) => Answer::Refused(Fault::Empty),
-        Err(TryReceiveError::Closed) => Answer::Refused(Fault::Closed),
+impl IntoAnswer for Result<u64, TryReceiveError> {
+    fn into_answer(self) -> Answer<u64, u64> {
+        match self {
+            Ok(value) => Answer::Item(value),
+            Err(TryReceiveError::Empty) => Answer::Refused(Fault::Empty),
+            Err(TryReceiveError::Closed) => Answer::Refused(Fault::Closed),
+        }
     }
 }
 
-pub fn of_close(status: CloseStatus) -> Answer<u64, u64> {
-    match status {
-        CloseStatus::NewlyClosed => Answer::Newly,
-        CloseStatus::AlreadyClosed => Answer::Already,
+impl IntoAnswer for CloseStatus {
+    fn into_answer(self) -> Answer<u64, u64> {
+        match self {
+            CloseStatus::NewlyClosed => Answer::Newly,
+            CloseStatus::AlreadyClosed => Answer::Already,
+        }
     }
 }

@@ -1,6 +1,5 @@
 //! The event.
 
-use crate::answers::of_wait;
 use crate::owned::Futures;
 use crate::tasks::Tasks;
 use crate::{Flavour, Opened, Play, Played, Seen};
@@ -31,13 +30,7 @@ impl<'a, R: Wait> Opened<R, EventCall<u64>>
     fn apply(&mut self, rt: &R, tasks: &mut Tasks, call: EventCall<u64>) -> Seen {
         match call {
             EventCall::Wait => self.waits.keep(self.event.wait()),
-            EventCall::Poll(Slot(number), waker) => {
-                let answer = match self.waits.poll(rt, tasks, number, waker) {
-                    Some(polled) => Some(of_wait(polled)),
-                    None => None,
-                };
-                self.waits.seen(number, answer)
-            }
+            EventCall::Poll(Slot(number), waker) => { self.waits.poll(rt, tasks, number, waker) }
             EventCall::Cancel(Slot(number)) => self.waits.let_go(number),
             EventCall::Set => {
                 self.event.set();

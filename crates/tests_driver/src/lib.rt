@@ -10,11 +10,22 @@ use std::alloc::{AllocError, AllocGlobal};
 use std::sync::Wait;
 
 pub mod answers;
+pub mod channel;
+pub mod drawn;
 pub mod event;
+pub mod mutex;
+pub mod one_value;
 pub mod owned;
+pub mod pollable;
+pub mod refusals;
+pub mod rows;
+pub mod semaphore;
+pub mod state;
 pub mod tasks;
+pub mod timer;
 pub mod worked;
 
+use answers::IntoAnswer;
 use tasks::{TaskSet, Tasks};
 
 /// A call, its answer, and the wakers of those whom it wakes, in their order. The waker `n` is that of the task `n`.
@@ -40,6 +51,11 @@ pub enum Seen {
 impl Seen {
     pub fn answered(answer: Answer<u64, u64>) -> Self {
         Seen::Answered(answer, TaskSet::new())
+    }
+
+    /// Of a call at once that gives this.
+    pub fn given<A: IntoAnswer>(given: A) -> Self {
+        Seen::answered(given.into_answer())
     }
 
     /// Of a poll of a future that these tasks have polled.
@@ -124,8 +140,19 @@ pub enum Played {
     DiffersAt(usize),
     /// The list has a call that the type lacks.
     LeftOut,
-    /// The type could not be opened.
+    /// Memory is missing: the type could not be opened.
     NoMemory,
+}
+
+impl Played {
+    /// The first of both that did not go as listed; the second, if the first did.
+    pub fn and(self, other: Self) -> Self {
+        if self == Played::AsListed {
+            other
+        } else {
+            self
+        }
+    }
 }
 
 /// A list of calls.

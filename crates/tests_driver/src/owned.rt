@@ -1,11 +1,13 @@
 //! The futures of a primitive, and the tasks that polled them.
 
 use crate::Seen;
+use crate::answers::{IntoAnswer, of_poll};
+use crate::pollable::Pollable;
 use crate::tasks::{TaskSet, Tasks};
 use fi_parts::{Fault, NoRoom, Slot};
 use fi_run::Answer;
 use futures::task::Poll;
-use futures::{Future, Stream, StreamExt};
+use futures::{Stream, StreamExt};
 use std::alloc::AllocGlobal;
 use std::sync::Wait;
 
@@ -80,10 +82,10 @@ impl<F: Drop> Futures<F> {
     }
 
     /// What is seen of a poll of the future of this number that is answered so.
-    pub fn seen(&self, number: usize, answer: Option<Answer<u64, u64>>) -> Seen {
-        match (self.owned.get(number), answer) {
-            (Some(owned), Some(answer)) => Seen::polled(owned.tasks, answer),
-            _ => Seen::Lost,
+    pub fn seen(&self, number: usize, answer: Answer<u64, u64>) -> Seen {
+        match self.owned.get(number) {
+            Some(owned) => Seen::polled(owned.tasks, answer),
+            None => Seen::Lost,
         }
     }
 
@@ -95,36 +97,55 @@ impl<F: Drop> Futures<F> {
     }
 }
 
-impl<F: Future> Futures<F> {
-    /// Polls the future of this number by the task with this waker.
-    pub fn poll<R: Wait>(
+impl<F: Pollable> Futures<F> {
+    /// Polls the future of this number by the task with this waker. None if it can't be polled any more.
+    pub fn try_poll<R: Wait>(
         &mut self,
         rt: &R,
         tasks: &mut Tasks,
         number: usize,
         waker: u64,
-    ) -> Option<Poll<F::Output>>
-        requires { (any : F) → F.can_poll any }
-    {
+    ) -> Option<Poll<F::Output>> {
         let task = waker as usize;
         let future = self.polled_by(number, task)?;
         tasks.poll(rt, task, future)
     }
 }
 
-impl<S: Stream> Futures<S> {
-    /// Polls the stream of this number by the task with this waker.
+impl<F: Pollable> Futures<F>
+where
+    F::Output: IntoAnswer,
+{
+    /// What is seen of a poll of the future of this number by the task with this waker.
+    pub fn poll<R: Wait>(&mut self, rt: &R, tasks: &mut Tasks, number: usize, waker: u64) -> Seen {
+        match self.try_poll(rt, tasks, number, waker) {
+            Some(polled) => self.seen(number, of_poll(polled)),
+            None => Seen::Lost,
+        }
+    }
+}
+
+impl<S: Stream> Futures<S>
+where
+    Option<S::Item>: IntoAnswer,
+{
+    /// What is seen of a poll of the stream of this number by the task with this waker.
     pub fn poll_next<R: Wait>(
         &mut self,
         rt: &R,
         tasks: &mut Tasks,
         number: usize,
         waker: u64,
-    ) -> Option<Poll<Option<S::Item>>>
+    ) -> Seen
         requires { (any : S) → S.can_poll any }
     {
         let task = waker as usize;
-        let stream = self.polled_by(number, task)?;
-        tasks.poll(rt, task, &mut stream.next())
+        let Some(stream) = self.polled_by(number, task) else {
+            return Seen::Lost;
+        };
+        match tasks.poll(rt, task, &mut stream.next()) {
+            Some(polled) => self.seen(number, of_poll(polled)),
+            None => Seen::Lost,
+        }
     }
 }

@@ -29,8 +29,7 @@ fn woken(tasks: &[MockTask]) -> usize {
 }
 
 // The waits for an event that is set.
-fn set_wakes<R: Blocking + Copy>(rt: R) -> bool
-{
+fn set_wakes<R: Blocking + Copy>(rt: R) -> bool {
     let event = ManualResetEvent::new(rt.alloc(), rt, false);
     let (tasks, mut waits) = (tasks(&rt), Vec::new(rt.alloc()));
     for task in tasks.as_slice() {
@@ -45,8 +44,7 @@ fn set_wakes<R: Blocking + Copy>(rt: R) -> bool
 }
 
 // The receives from a channel that is closed.
-fn close_wakes<R: Blocking + Copy>(rt: R) -> bool
-{
+fn close_wakes<R: Blocking + Copy>(rt: R) -> bool {
     let channel = Channel::<u64, 1, R>::new(rt.alloc(), rt);
     let (tasks, mut waits) = (tasks(&rt), Vec::new(rt.alloc()));
     for task in tasks.as_slice() {
@@ -61,8 +59,7 @@ fn close_wakes<R: Blocking + Copy>(rt: R) -> bool
 }
 
 // The receives from a state broadcast that gets a state.
-fn state_wakes<R: Blocking + Copy>(rt: R) -> bool
-{
+fn state_wakes<R: Blocking + Copy>(rt: R) -> bool {
     let states = StateBroadcastChannel::<u64, R>::new(rt.alloc(), rt);
     let (tasks, mut waits) = (tasks(&rt), Vec::new(rt.alloc()));
     for task in tasks.as_slice() {
@@ -77,8 +74,7 @@ fn state_wakes<R: Blocking + Copy>(rt: R) -> bool
 }
 
 // The futures of a timer whose moment has come.
-fn check_wakes<R: Blocking + Copy>(rt: R) -> bool
-{
+fn check_wakes<R: Blocking + Copy>(rt: R) -> bool {
     let Ok(clock) = Arc::new(rt.alloc(), MockClock::new()) else {
         return false;
     };

@@ -125,67 +125,88 @@ fn calls_before<R: Blocking + time::Clock>(timer: &TimerService<Counted<'_, R>, 
     timer.next_expiration().is_none() && delay.is_ok()
 }
 
-// The readings of the clock from the beginning of a wait of eight milliseconds until it is woken.
-fn readings_of_a_wait<R: Blocking + time::Clock>(
+// Begins a wait of eight milliseconds, and looks until it is woken: its moment, and whether it is sure that it roused the runner.
+//
+// The runner told the last wait at its moment or later, and then sleeps for ten milliseconds, unless it is roused. So a wait that
+// begins within these and ends with them is told by the first check, if it did not rouse the runner, and else by the second.
+fn next_wait<R: Blocking + time::Clock>(
     timer: &TimerService<Counted<'_, R>, R>,
-    clock: &StdClock<R>,
-    readings: &AtomicU64,
+    counted: &Counted<'_, R>,
     task: &MockTask,
-) -> Option<u64> {
+    of_a_poll: u64,
+    last: u64,
+) -> Option<(u64, bool)> {
     if !calls_before(timer) {
         return None;
     }
-    let before = readings.load(Ordering::SeqCst);
-    let _wait = begins(timer, task, clock.now().saturating_add(8))?;
+    let moment = counted.clock.now().saturating_add(8);
+    let before = counted.readings.load(Ordering::SeqCst);
+    let _wait = begins(timer, task, moment)?;
+    let is_prompt = moment.max(counted.clock.now()) < last.saturating_add(10);
     if !is_woken_soon(task) {
         return None;
     }
-    Some(readings.load(Ordering::SeqCst).wrapping_sub(before))
+    let all = counted.readings.load(Ordering::SeqCst).wrapping_sub(before);
+    Some((moment, is_prompt && all.saturating_sub(of_a_poll) >= 2))
 }
 
-// The checks that a runner makes for forty waits, where a poll that waits reads the clock so often.
-fn checks_of_forty<R: Blocking + time::Clock>(
+// Whether five waits of at most five hundred surely roused the runner.
+fn rouse_often<R: Blocking + time::Clock>(
     timer: &TimerService<Counted<'_, R>, R>,
-    clock: &StdClock<R>,
-    readings: &AtomicU64,
+    counted: &Counted<'_, R>,
     task: &MockTask,
     of_a_poll: u64,
-) -> Option<u64> {
-    let mut checks = 0u64;
-    for _ in 0..40u64 {
-        let all = readings_of_a_wait(timer, clock, readings, task)?;
-        checks = checks.wrapping_add(all.saturating_sub(of_a_poll));
+) -> bool {
+    let (mut last, mut roused) = (0u64, 0u64);
+    for _ in 0..500u32 {
+        let Some((moment, is_roused)) = next_wait(timer, counted, task, of_a_poll, last) else {
+            return false;
+        };
+        last = moment;
+        roused = roused.wrapping_add(u64::from(is_roused));
+        if roused >= 5 {
+            return true;
+        }
     }
-    Some(checks)
+    false
 }
 
-// A runner that nobody waits for sleeps for ten milliseconds. A future that comes to wait for a moment in eight rouses it, and it
-// checks twice: then, and at that moment. If nobody roused it, it would check once, after the moment.
-fn rouses<R>(rt: R)
+// How often a poll that waits reads the clock.
+fn readings_of_a_poll<R: Blocking + time::Clock>(
+    timer: &TimerService<Counted<'_, R>, R>,
+    counted: &Counted<'_, R>,
+    task: &MockTask,
+) -> Option<u64> {
+    let before = counted.readings.load(Ordering::SeqCst);
+    let _wait = begins(timer, task, u64::MAX)?;
+    Some(counted.readings.load(Ordering::SeqCst).wrapping_sub(before))
+}
+
+// A thread runs the timer, while this one waits for one moment after the other.
+fn rouses<R>(rt: R) -> bool
 where
     R: Blocking + Threads + Abort + time::Clock + Drop + Copy + Send + Sync,
 {
     let clock = &StdClock::new(rt).ok().expect(&rt, "a clock");
     let readings = &AtomicU64::new(0);
+    let counted = &Counted { clock, readings };
     let timer = &TimerService::new(rt.alloc(), rt, Counted { clock, readings });
     let is_over = &ManualResetEvent::new(rt.alloc(), rt, false);
     let task = &MockTask::new(&rt).expect(&rt, "memory");
-    drop(begins(timer, task, u64::MAX).expect(&rt, "memory"));
-    let of_a_poll = readings.load(Ordering::SeqCst);
+    let of_a_poll = readings_of_a_poll(timer, counted, task).expect(&rt, "memory");
     let waits = move || {
-        let checks = checks_of_forty(timer, clock, readings, task, of_a_poll);
+        let are_roused = rouse_often(timer, counted, task, of_a_poll);
         is_over.set();
-        checks
+        are_roused
     };
-    let (checks, ran) = thread::join(&rt, waits, move || timer.run(is_over).is_ok());
-    let checks = checks.expect(&rt, "each wait begins and is woken");
-    assert!(rt; ran && checks >= 60, "{checks} checks");
+    let (are_roused, ran) = thread::join(&rt, waits, move || timer.run(is_over).is_ok());
+    are_roused && ran
 }
 
 // A future that comes to wait for a moment before the runner's next check rouses the runner, whatever was called before.
 #[test]
 fn an_earlier_moment_rouses_the_runner(rt: HostRuntime) {
-    rouses(rt);
+    assert!(rt; rouses(rt));
 }
 
 // A call that waits three times is made beside a thread that runs the timer, and one that gives up ends that thread too.

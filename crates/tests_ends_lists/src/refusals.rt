@@ -1,0 +1,8 @@
+//! Each request for memory of ends is refused in turn. Where nothing is refused, as in a run without proofs, the tests say nothing.
+
+mod blocking;
+mod clones;
+mod deliveries;
+mod polls;
+mod shared;
+mod values;

@@ -1,0 +1,11 @@
+//! Futures of this library under the executors and combinators of the kit.
+#![tactic(auto)]
+
+#[cfg(test)]
+mod joins;
+#[cfg(test)]
+mod local_pool;
+#[cfg(test)]
+mod several;
+#[cfg(test)]
+mod stops;

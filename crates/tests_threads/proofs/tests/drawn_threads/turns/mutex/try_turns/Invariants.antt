@@ -1,4 +1,0 @@
-use Rattle.futures_intrusive.proofs.tests.drawn_threads.turns.mutex.try_turns.Given as goal
-
-abbrev pub ghosts-play_at_seven : goal.ghosts-play_at_seven
-ghosts-play_at_seven g a = record { name = a.blank.name; parts = a.blank.parts }

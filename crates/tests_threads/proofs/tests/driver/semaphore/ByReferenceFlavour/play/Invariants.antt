@@ -1,4 +1,0 @@
-use Rattle.futures_intrusive.proofs.tests.driver.semaphore.ByReferenceFlavour.play.Given as goal
-
-abbrev pub ghosts-play_borrowed : goal.ghosts-play_borrowed
-ghosts-play_borrowed g a = record { name = a.blank.name; parts = a.blank.parts }

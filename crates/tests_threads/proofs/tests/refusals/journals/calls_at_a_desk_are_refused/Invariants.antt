@@ -1,4 +1,0 @@
-use Rattle.futures_intrusive.proofs.tests.refusals.journals.calls_at_a_desk_are_refused.Given as goal
-
-abbrev pub ghosts-calls_at_a_desk : goal.ghosts-calls_at_a_desk
-ghosts-calls_at_a_desk g a = record { name = a.blank.name; parts = a.blank.parts }
