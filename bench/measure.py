@@ -1,8 +1,8 @@
 #!/usr/bin/env python3
 """Runs each load by this project's programs and by those over the Rust crate in turn, and writes what was measured to a table:
-`bench/measure.py OURS RUST WORK FIGURES [GROUP..]`, of the groups script, call, memory and sync, or of all. OURS has `schedule`,
-`bench_calls` and `bench_sync`, RUST what bench/rust/build.sh makes, WORK is a folder for scripts and FIGURES the table's file.
-bench/all.sh calls it."""
+`bench/measure.py OURS RUST WORK FIGURES [GROUP..]`, of the groups script, call, memory, sync and blocking, or of all. OURS has
+`schedule`, `bench_calls` and `bench_sync`, RUST what bench/rust/build.sh makes, WORK is a folder for scripts and FIGURES the table's
+file. bench/all.sh calls it."""
 import csv
 import os
 import re
@@ -11,7 +11,9 @@ import sys
 import time
 
 HERE = os.path.dirname(os.path.abspath(__file__))
-SIDES = ("ours", "crate")
+# The other side of each group: the Rust crate, or where calls block, which it has no calls for, Rust's std.
+OTHERS = {"blocking": "std"}
+GROUPS = ("script", "call", "memory", "sync", "blocking")
 SIZES = (10_000, 100_000, 1_000_000)
 # The largest size whose instructions are counted: a run under callgrind takes some fifty times as long.
 COUNTED = int(os.environ.get("COUNTED", "100000"))
@@ -34,7 +36,10 @@ ALONE = (
     "pool-jobs", "journal-bare", "journal-recorded", "list-slots", "list-links", "list-look-ups", "list-fresh", "outbox-tickets",
 )
 SYNC = ("try-lock", "lock", "lock-queue", "try-acquire", "acquire", "try-send", "send", "end-try-send", "end-send")
-IN_THREADS = ("try-lock", "try-acquire", "try-send", "end-try-send")
+BLOCKING = ("lock-blocking", "acquire-blocking", "send-blocking", "end-blocking", "wait-blocking")
+IN_THREADS = (
+    "try-lock", "try-acquire", "try-send", "end-try-send", "lock-blocking", "acquire-blocking", "send-blocking",
+)
 # What waits in each of these loads at its peak.
 WAITING = ("event-kept", "timer", "locks-served", "acquires-served", "full-sends", "receive-cancels")
 
@@ -106,7 +111,7 @@ class Run:
 
     def note(self, group, load, size, measure, count, values):
         """Notes a measure of each side, for each of so many."""
-        for side, value in zip(SIDES, values):
+        for side, value in zip(("ours", OTHERS.get(group, "crate")), values):
             self.rows.append((group, load, size, measure, side, f"{value / count:.3f}"))
         print(group, load, size, measure, *(f"{value / count:.1f}" for value in values), flush=True)
 
@@ -146,14 +151,15 @@ class Run:
             self.note("call", load, size, "instructions", 2 * size, without_start(
                 programs(1), programs(3), lambda both: [program.instructions() for program in both]))
 
-    def shared(self, load, threads):
-        """Measures one load of what threads share."""
+    def shared(self, group, load, threads):
+        """Measures one load of what threads share, by calls of that group."""
+        rust = "blocking" if group == "blocking" else "sync"
         count = BATCH if threads == 1 else BATCH // 5
-        programs = self.sides("bench_sync", "sync", [load, str(count), str(threads)])
-        self.note("sync", load, threads, "ns", count, [1e9 * t for t in least_times(programs, 1, 0 if threads == 1 else 1)])
+        programs = self.sides("bench_sync", rust, [load, str(count), str(threads)])
+        self.note(group, load, threads, "ns", count, [1e9 * t for t in least_times(programs, 1, 0 if threads == 1 else 1)])
         if threads == 1:
-            self.note("sync", load, threads, "instructions", 20_000, without_start(*(
-                self.sides("bench_sync", "sync", [load, str(number), "1"]) for number in (10_000, 30_000)),
+            self.note(group, load, threads, "instructions", 20_000, without_start(*(
+                self.sides("bench_sync", rust, [load, str(number), "1"]) for number in (10_000, 30_000)),
                 lambda both: [program.instructions() for program in both]))
 
     def memory(self, load, size=100_000):
@@ -170,9 +176,10 @@ class Run:
                 self.call(load, size)
         for load in WAITING if "memory" in groups else ():
             self.memory(load)
-        for load in SYNC if "sync" in groups else ():
-            for threads in (1, 2, 4) if load in IN_THREADS else (1,):
-                self.shared(load, threads)
+        for group, loads in (("sync", SYNC), ("blocking", BLOCKING)):
+            for load in loads if group in groups else ():
+                for threads in (1, 2, 4) if load in IN_THREADS else (1,):
+                    self.shared(group, load, threads)
 
 
 HEAD = ("group", "load", "size", "measure", "side", "figure")
@@ -189,7 +196,7 @@ def kept(figures, groups):
 def main():
     """Measures the groups, or all, and writes the table."""
     ours, rust, work, figures, *groups = sys.argv[1:]
-    groups = groups or ["script", "call", "memory", "sync"]
+    groups = groups or list(GROUPS)
     run = Run(ours, rust, work)
     subprocess.run(["cc", "-O2", "-shared", "-fPIC", "-o", run.peak, os.path.join(HERE, "peak.c"), "-ldl"], check=True)
     run.all(groups)

@@ -11,6 +11,9 @@ HERE = os.path.dirname(os.path.abspath(__file__))
 PAGE = os.path.join(HERE, "..", "docs", "BENCHMARKS.md")
 PLOT = os.path.join(HERE, "..", "docs", "benchmarks.svg")
 UNITS = {"ns": "ns", "instructions": "instructions", "bytes": "bytes"}
+GROUPS = ("script", "call", "sync", "blocking", "memory")
+# The other side of a group, where that is not the Rust crate.
+OTHERS = {"blocking": "std"}
 
 
 class Figures:
@@ -28,14 +31,14 @@ class Figures:
         return list(dict.fromkeys(key[1] for key in found)), list(dict.fromkeys(key[2] for key in found))
 
     def pair(self, group, load, size, measure):
-        """Ours and the crate's, if they were measured."""
+        """Ours and the other side's, if they were measured."""
         sides = self.table.get((group, load, size, measure), {})
-        return sides.get("ours"), sides.get("crate")
+        return sides.get("ours"), sides.get(OTHERS.get(group, "crate"))
 
     def ratio(self, group, load, size, measure):
-        """Ours as a part of the crate's."""
-        ours, crate = self.pair(group, load, size, measure)
-        return ours / crate if ours and crate else None
+        """Ours as a part of the other side's."""
+        ours, other = self.pair(group, load, size, measure)
+        return ours / other if ours and other else None
 
 
 def plain(number):
@@ -51,18 +54,18 @@ def table(head, rows):
 
 
 def comparison(figures, group, measure):
-    """Ours, the crate's and their ratio of each load, at each size."""
+    """Ours, the other side's and their ratio of each load, at each size."""
     loads, sizes = figures.keys(group, measure)
     head = ["load"]
     for size in sizes:
-        head += [f"{size:,}: ours", "crate", "ratio"]
+        head += [f"{size:,}: ours", OTHERS.get(group, "crate"), "ratio"]
     rows = []
     for load in loads:
         row = [load]
         for size in sizes:
-            ours, crate = figures.pair(group, load, size, measure)
+            ours, other = figures.pair(group, load, size, measure)
             ratio = figures.ratio(group, load, size, measure)
-            row += [plain(ours), plain(crate), f"{ratio:.2f}" if ratio else ""]
+            row += [plain(ours), plain(other), f"{ratio:.2f}" if ratio else ""]
         rows.append(row)
     return table(head, rows)
 
@@ -114,7 +117,7 @@ def main():
     name = [word for word in sys.argv[1:] if word != "--check"][0]
     figures = Figures(name)
     tables = {f"{group}-{measure}": comparison(figures, group, measure)
-              for group in ("script", "call", "sync", "memory") for measure in UNITS}
+              for group in GROUPS for measure in UNITS}
     tables["script-lines"] = lines(figures)
     with open(PAGE, encoding="utf-8") as file:
         text = file.read()

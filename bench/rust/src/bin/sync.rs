@@ -5,10 +5,12 @@ use futures_intrusive::channel::GenericChannel;
 use futures_intrusive::channel::shared::{generic_channel, GenericReceiver, GenericSender};
 use futures_intrusive::sync::{GenericMutex, GenericSemaphore};
 use lock_api::StdLock;
+use std::collections::VecDeque;
 use std::future::Future;
 use std::pin::pin;
-use std::sync::atomic::{AtomicU64, Ordering};
-use std::task::{Context, Poll, Waker};
+use std::sync::atomic::{AtomicBool, AtomicU64, Ordering};
+use std::sync::Arc;
+use std::task::{Context, Poll, Wake, Waker};
 
 type Mutex = GenericMutex<StdLock, u64>;
 type Semaphore = GenericSemaphore<StdLock>;
@@ -148,19 +150,47 @@ fn end_pairs(sender: &Sender, receiver: &Receiver, cx: &mut Context, count: u64)
     done
 }
 
-const WAITERS: u64 = 100;
+const WAITERS: usize = 100;
 
-/// Of a hundred futures that wait for a mutex the oldest is served and made again, so many times.
-fn lock_queue(mutex: &Mutex, cx: &mut Context, count: u64) -> u64 {
+/// The places of the tasks that were woken, oldest first.
+static WOKEN: std::sync::Mutex<VecDeque<usize>> = std::sync::Mutex::new(VecDeque::new());
+
+/// A task, whose waker queues it unless it is queued already.
+struct Task {
+    place: usize,
+    is_queued: AtomicBool,
+}
+
+impl Wake for Task {
+    fn wake(self: Arc<Self>) {
+        self.wake_by_ref();
+    }
+
+    fn wake_by_ref(self: &Arc<Self>) {
+        if !self.is_queued.swap(true, Ordering::SeqCst) {
+            WOKEN.lock().unwrap().push_back(self.place);
+        }
+    }
+}
+
+/// Of a hundred futures of as many tasks that wait for a mutex the oldest is woken, served and made again, so many times.
+fn lock_queue(mutex: &Mutex, count: u64) -> u64 {
     let mut held = mutex.try_lock();
-    let mut locks: Vec<_> = (0..WAITERS).map(|_| Box::pin(mutex.lock())).collect();
-    for lock in &mut locks {
-        let _ = lock.as_mut().poll(cx);
+    let tasks: Vec<_> = (0..WAITERS).map(|place| Arc::new(Task { place, is_queued: AtomicBool::new(false) })).collect();
+    let wakers: Vec<_> = tasks.iter().map(|task| Waker::from(task.clone())).collect();
+    let mut locks: Vec<_> = tasks.iter().map(|_| Box::pin(mutex.lock())).collect();
+    for (lock, waker) in locks.iter_mut().zip(&wakers) {
+        let _ = lock.as_mut().poll(&mut Context::from_waker(waker));
     }
     let mut done = 0;
-    for i in 0..count {
+    for _ in 0..count {
         drop(held.take());
-        let oldest = &mut locks[(i % WAITERS) as usize];
+        let Some(place) = WOKEN.lock().unwrap().pop_front() else {
+            return done;
+        };
+        tasks[place].is_queued.store(false, Ordering::SeqCst);
+        let cx = &mut Context::from_waker(&wakers[place]);
+        let oldest = &mut locks[place];
         if let Poll::Ready(guard) = oldest.as_mut().poll(cx) {
             held = Some(guard);
             done += 1;
@@ -198,7 +228,7 @@ fn run(load: &str, count: u64, threads: u64) -> u64 {
     match load {
         "try-lock" => in_threads(threads, || try_lock_pairs(&mutex, share)),
         "lock" => lock_pairs(&mutex, cx, count),
-        "lock-queue" => lock_queue(&mutex, cx, count),
+        "lock-queue" => lock_queue(&mutex, count),
         "try-acquire" => in_threads(threads, || try_acquire_pairs(&semaphore, share)),
         "acquire" => acquire_pairs(&semaphore, cx, count),
         "try-send" if threads < 2 => try_send_pairs(&channel, count),
