@@ -20,6 +20,8 @@ type Sending<R> = ChannelSendFuture<SharedChannelState<u64, GrowingHeapBuf<u64>>
 
 type Receiving<R> = ChannelReceiveFuture<SharedChannelState<u64, GrowingHeapBuf<u64>>, R>;
 
+type Streaming<R> = SharedStream<u64, GrowingHeapBuf<u64>, R>;
+
 /// Who closes.
 #[derive(Clone, Copy)]
 pub enum Closer {
@@ -110,114 +112,170 @@ impl<R: Wait + Drop> StreamingEnd for SharedStream<u64, GrowingHeapBuf<u64>, R> 
     ghost is_pollable = { λ _. tt };
 }
 
-/// Both ends, with the sends, and with the receives or the streams: no list has both.
+/// The sending end, with its sends. `OpenedEnds` sees it as this, since the prover follows every part of a type that it can see.
+trait SendingSide<R> {
+    fn make(&mut self, value: u64) -> Seen;
+
+    fn poll(&mut self, rt: &R, tasks: &mut Tasks, number: usize, waker: u64) -> Seen;
+
+    fn let_go(&mut self, number: usize) -> Seen;
+
+    fn try_send(&self, value: u64) -> Seen;
+
+    fn close(&self) -> CloseStatus;
+}
+
+/// The receiving end, with receives or streams: no list has both. It is seen as three traits, since one of all calls takes the prover
+/// past its limits.
+trait ReceivingSide<R> {
+    fn make(&mut self) -> Seen;
+
+    fn poll(&mut self, rt: &R, tasks: &mut Tasks, number: usize, waker: u64) -> Seen;
+
+    fn try_receive(&self) -> Seen;
+}
+
+trait StreamingSide<R> {
+    fn make_stream(&mut self) -> Seen;
+
+    fn poll_next(&mut self, rt: &R, tasks: &mut Tasks, number: usize, waker: u64) -> Seen;
+}
+
+trait ClosingSide<R> {
+    /// Lets go of a receive or of a stream.
+    fn let_go(&mut self, number: usize) -> Seen;
+
+    /// Closes the channel by the stream that was made last, if it is wanted and there is one, or by the receiver.
+    fn close(&self, is_by_stream: bool) -> CloseStatus;
+}
+
 #[derive(Drop)]
-struct OpenedEnds<E: Drop, S: Drop, V: Drop, F: Drop, T: Drop> {
-    closer: Closer,
+struct Sends<E: Drop, S: Drop> {
     sender: E,
     sends: Futures<S>,
-    receiver: V,
+}
+
+impl<R: Wait + Drop> SendingSide<R> for Sends<Sender<u64, R>, Sending<R>> {
+    fn make(&mut self, value: u64) -> Seen {
+        self.sends.keep_send(SendingEnd::send(&self.sender, value))
+    }
+
+    fn poll(&mut self, rt: &R, tasks: &mut Tasks, number: usize, waker: u64) -> Seen {
+        self.sends.poll(rt, tasks, number, waker)
+    }
+
+    fn let_go(&mut self, number: usize) -> Seen {
+        self.sends.let_go(number)
+    }
+
+    fn try_send(&self, value: u64) -> Seen {
+        Seen::given(SendingEnd::try_send(&self.sender, value))
+    }
+
+    fn close(&self) -> CloseStatus {
+        SendingEnd::close(&self.sender)
+    }
+}
+
+#[derive(Drop)]
+struct Receives<E: Drop, F: Drop, T: Drop> {
+    receiver: E,
     receives: Futures<F>,
     streams: Futures<T>,
 }
 
-impl<E: Drop, S: Drop, V: Drop, F: Drop, T: Drop> OpenedEnds<E, S, V, F, T> {
-    // None if memory is missing.
-    fn new<R: AllocGlobal>(rt: &R, closer: Closer, sender: E, receiver: V) -> Option<Self> {
-        Some(OpenedEnds {
-            closer,
-            sender,
-            sends: Futures::new(rt)?,
-            receiver,
-            receives: Futures::new(rt)?,
-            streams: Futures::new(rt)?,
-        })
+impl<R: Wait + Drop> ReceivingSide<R> for Receives<Receiver<u64, R>, Receiving<R>, Streaming<R>> {
+    fn make(&mut self) -> Seen {
+        self.receives.keep(ReceivingEnd::receive(&self.receiver))
     }
 
-    // Drops the receive or the stream of this number.
+    fn poll(&mut self, rt: &R, tasks: &mut Tasks, number: usize, waker: u64) -> Seen {
+        self.receives.poll(rt, tasks, number, waker)
+    }
+
+    fn try_receive(&self) -> Seen {
+        Seen::given(ReceivingEnd::try_receive(&self.receiver))
+    }
+}
+
+impl<R: Wait + Drop> StreamingSide<R> for Receives<Receiver<u64, R>, Receiving<R>, Streaming<R>> {
+    fn make_stream(&mut self) -> Seen {
+        self.streams.keep(ReceivingEnd::stream(&self.receiver))
+    }
+
+    fn poll_next(&mut self, rt: &R, tasks: &mut Tasks, number: usize, waker: u64) -> Seen {
+        self.streams.poll_next(rt, tasks, number, waker)
+    }
+}
+
+impl<R: Wait + Drop> ClosingSide<R> for Receives<Receiver<u64, R>, Receiving<R>, Streaming<R>> {
     fn let_go(&mut self, number: usize) -> Seen {
         if self.streams.is_empty() {
             return self.receives.let_go(number);
         }
         self.streams.let_go(number)
     }
-}
 
-impl<E, S, V, F, T> OpenedEnds<E, S, V, F, T>
-where
-    E: SendingEnd + Drop,
-    S: Drop,
-    V: ReceivingEnd + Drop,
-    F: Drop,
-    T: StreamingEnd,
-{
-    fn close(&self) -> CloseStatus {
-        match (self.closer, self.streams.last()) {
-            (Closer::Sender, _) => self.sender.close(),
-            (Closer::Stream, Some(stream)) => stream.close(),
-            _ => self.receiver.close(),
+    fn close(&self, is_by_stream: bool) -> CloseStatus {
+        match self.streams.last() {
+            Some(stream) if is_by_stream => StreamingEnd::close(stream),
+            _ => ReceivingEnd::close(&self.receiver),
         }
     }
 }
 
-impl<R, E, S, V, F, T> Opened<R, ChannelCall<u64, u64>> for OpenedEnds<E, S, V, F, T>
+/// Both ends, and who closes.
+#[derive(Drop)]
+struct OpenedEnds<'a, S, E> {
+    closer: Closer,
+    sends: &'a mut S,
+    receives: &'a mut E,
+}
+
+impl<R, S, E> Opened<R, ChannelCall<u64, u64>> for OpenedEnds<'_, S, E>
 where
-    R: Wait,
-    E: SendingEnd<Send = S> + Drop,
-    S: Pollable + Future<Output = Result<(), SendFault<u64>>>,
-    V: ReceivingEnd<Receive = F, Items = T> + Drop,
-    F: Pollable + Future<Output = Result<Option<u64>, Fault>>,
-    T: StreamingEnd + Stream<Item = Result<u64, Fault>>,
+    S: SendingSide<R>,
+    E: ReceivingSide<R> + StreamingSide<R> + ClosingSide<R>,
 {
     fn apply(&mut self, rt: &R, tasks: &mut Tasks, call: ChannelCall<u64, u64>) -> Seen {
         match call {
-            ChannelCall::Send(value) => self.sends.keep_send(self.sender.send(value)),
-            ChannelCall::Receive => self.receives.keep(self.receiver.receive()),
-            ChannelCall::Stream => self.streams.keep(self.receiver.stream()),
-            ChannelCall::PollSend(Slot(number), waker) => {
-                self.sends.poll(rt, tasks, number, waker)
-            }
+            ChannelCall::Send(value) => self.sends.make(value),
+            ChannelCall::Receive => self.receives.make(),
+            ChannelCall::Stream => self.receives.make_stream(),
+            ChannelCall::PollSend(Slot(number), waker) => self.sends.poll(rt, tasks, number, waker),
             ChannelCall::PollReceive(Slot(number), waker) => {
                 self.receives.poll(rt, tasks, number, waker)
             }
             ChannelCall::PollNext(Slot(number), waker) => {
-                self.streams.poll_next(rt, tasks, number, waker)
+                self.receives.poll_next(rt, tasks, number, waker)
             }
             ChannelCall::CancelSend(Slot(number)) => self.sends.let_go(number),
-            ChannelCall::CancelReceive(Slot(number)) => self.let_go(number),
-            ChannelCall::TrySend(value) => Seen::given(self.sender.try_send(value)),
-            ChannelCall::TryReceive => Seen::given(self.receiver.try_receive()),
-            ChannelCall::Close => Seen::given(self.close()),
+            ChannelCall::CancelReceive(Slot(number)) => self.receives.let_go(number),
+            ChannelCall::TrySend(value) => self.sends.try_send(value),
+            ChannelCall::TryReceive => self.receives.try_receive(),
+            ChannelCall::Close => Seen::given(match self.closer {
+                Closer::Sender => self.sends.close(),
+                Closer::Receiver => self.receives.close(false),
+                Closer::Stream => self.receives.close(true),
+            }),
             ChannelCall::NextWake => Seen::answered(Answer::Woken(None)),
         }
     }
 }
 
 // Plays a list on two ends.
-fn play_on<R, E, V, P>(
+fn play_on<R, S, E, P>(
     rt: &R,
     tasks: &mut Tasks,
     list: &mut P,
-    closer: Closer,
-    sender: E,
-    receiver: V,
+    opened: &mut OpenedEnds<S, E>,
 ) -> Played
 where
-    R: Wait + AllocGlobal,
-    E: SendingEnd + Drop,
-    E::Send: Pollable + Future<Output = Result<(), SendFault<u64>>>,
-    V: ReceivingEnd + Drop,
-    V::Receive: Pollable + Future<Output = Result<Option<u64>, Fault>>,
-    V::Items: StreamingEnd + Stream<Item = Result<u64, Fault>>,
+    S: SendingSide<R>,
+    E: ReceivingSide<R> + StreamingSide<R> + ClosingSide<R>,
     P: Play<R, ChannelCall<u64, u64>>,
 {
-    let opened: Option<OpenedEnds<E, E::Send, V, V::Receive, V::Items>> = OpenedEnds::new(
-        rt, closer, sender, receiver,
-    );
-    match opened {
-        Some(mut opened) => list.play(rt, tasks, &mut opened),
-        None => Played::NoMemory,
-    }
+    list.play(rt, tasks, opened)
 }
 
 /// The ends of a channel of this capacity, and the one that closes it.
@@ -236,9 +294,29 @@ impl<R: Wait + Copy + Drop + AllocGlobal> Flavour<R> for ChannelEnds {
         tasks: &mut Tasks,
         list: &mut P,
     ) -> Played {
-        match channel::<u64, R>(rt.alloc(), *rt, self.capacity) {
-            Ok((sender, receiver)) => play_on(rt, tasks, list, self.closer, sender, receiver),
-            Err(_) => Played::NoMemory,
-        }
+        let Some(sends) = Futures::new(rt) else {
+            return Played::NoMemory;
+        };
+        let Some(receives) = Futures::new(rt) else {
+            return Played::NoMemory;
+        };
+        let Some(streams) = Futures::new(rt) else {
+            return Played::NoMemory;
+        };
+        let Ok((sender, receiver)) = channel::<u64, R>(rt.alloc(), *rt, self.capacity) else {
+            return Played::NoMemory;
+        };
+        let mut sends = Sends { sender, sends };
+        let mut receives = Receives {
+            receiver,
+            receives,
+            streams,
+        };
+        let mut opened = OpenedEnds {
+            closer: self.closer,
+            sends: &mut sends,
+            receives: &mut receives,
+        };
+        play_on(rt, tasks, list, &mut opened)
     }
 }

@@ -131,7 +131,8 @@ fn calls_before<R: Blocking + time::Clock>(timer: &TimerService<Counted<'_, R>, 
 // begins within these and ends with them is told by the first check, if it did not rouse the runner, and else by the second.
 fn next_wait<R: Blocking + time::Clock>(
     timer: &TimerService<Counted<'_, R>, R>,
-    counted: &Counted<'_, R>,
+    clock: &StdClock<R>,
+    readings: &AtomicU64,
     task: &MockTask,
     of_a_poll: u64,
     last: u64,
@@ -139,27 +140,29 @@ fn next_wait<R: Blocking + time::Clock>(
     if !calls_before(timer) {
         return None;
     }
-    let moment = counted.clock.now().saturating_add(8);
-    let before = counted.readings.load(Ordering::SeqCst);
+    let moment = clock.now().saturating_add(8);
+    let before = readings.load(Ordering::SeqCst);
     let _wait = begins(timer, task, moment)?;
-    let is_prompt = moment.max(counted.clock.now()) < last.saturating_add(10);
+    let is_prompt = moment.max(clock.now()) < last.saturating_add(10);
     if !is_woken_soon(task) {
         return None;
     }
-    let all = counted.readings.load(Ordering::SeqCst).wrapping_sub(before);
+    let all = readings.load(Ordering::SeqCst).wrapping_sub(before);
     Some((moment, is_prompt && all.saturating_sub(of_a_poll) >= 2))
 }
 
 // Whether five waits of at most five hundred surely roused the runner.
 fn rouse_often<R: Blocking + time::Clock>(
     timer: &TimerService<Counted<'_, R>, R>,
-    counted: &Counted<'_, R>,
+    clock: &StdClock<R>,
+    readings: &AtomicU64,
     task: &MockTask,
     of_a_poll: u64,
 ) -> bool {
     let (mut last, mut roused) = (0u64, 0u64);
     for _ in 0..500u32 {
-        let Some((moment, is_roused)) = next_wait(timer, counted, task, of_a_poll, last) else {
+        let next = next_wait(timer, clock, readings, task, of_a_poll, last);
+        let Some((moment, is_roused)) = next else {
             return false;
         };
         last = moment;
@@ -174,33 +177,53 @@ fn rouse_often<R: Blocking + time::Clock>(
 // How often a poll that waits reads the clock.
 fn readings_of_a_poll<R: Blocking + time::Clock>(
     timer: &TimerService<Counted<'_, R>, R>,
-    counted: &Counted<'_, R>,
+    readings: &AtomicU64,
     task: &MockTask,
 ) -> Option<u64> {
-    let before = counted.readings.load(Ordering::SeqCst);
+    let before = readings.load(Ordering::SeqCst);
     let _wait = begins(timer, task, u64::MAX)?;
-    Some(counted.readings.load(Ordering::SeqCst).wrapping_sub(before))
+    Some(readings.load(Ordering::SeqCst).wrapping_sub(before))
 }
 
 // A thread runs the timer, while this one waits for one moment after the other.
-fn rouses<R>(rt: R) -> bool
+fn waits_beside_a_runner<'a, 'b, R>(
+    rt: &'a R,
+    timer: &'a TimerService<Counted<'b, R>, R>,
+    clock: &'a StdClock<R>,
+    readings: &'a AtomicU64,
+    is_over: &'a ManualResetEvent<R>,
+    task: &'a MockTask,
+) -> bool
 where
-    R: Blocking + Threads + Abort + time::Clock + Drop + Copy + Send + Sync,
+    R: Blocking + Threads + time::Clock + Send + Sync,
 {
-    let clock = &StdClock::new(rt).ok().expect(&rt, "a clock");
-    let readings = &AtomicU64::new(0);
-    let counted = &Counted { clock, readings };
-    let timer = &TimerService::new(rt.alloc(), rt, Counted { clock, readings });
-    let is_over = &ManualResetEvent::new(rt.alloc(), rt, false);
-    let task = &MockTask::new(&rt).expect(&rt, "memory");
-    let of_a_poll = readings_of_a_poll(timer, counted, task).expect(&rt, "memory");
+    let Some(of_a_poll) = readings_of_a_poll(timer, readings, task) else {
+        return false;
+    };
     let waits = move || {
-        let are_roused = rouse_often(timer, counted, task, of_a_poll);
+        let are_roused = rouse_often(timer, clock, readings, task, of_a_poll);
         is_over.set();
         are_roused
     };
-    let (are_roused, ran) = thread::join(&rt, waits, move || timer.run(is_over).is_ok());
+    let (are_roused, ran) = thread::join(rt, waits, move || timer.run(is_over).is_ok());
     are_roused && ran
+}
+
+fn rouses<R>(rt: R) -> bool
+where
+    R: Blocking + Threads + time::Clock + Drop + Copy + Send + Sync,
+{
+    let (Ok(clock), Ok(task)) = (StdClock::new(rt), MockTask::new(&rt)) else {
+        return false;
+    };
+    let readings = AtomicU64::new(0);
+    let counted = Counted {
+        clock: &clock,
+        readings: &readings,
+    };
+    let timer = TimerService::new(rt.alloc(), rt, counted);
+    let is_over = ManualResetEvent::new(rt.alloc(), rt, false);
+    waits_beside_a_runner(&rt, &timer, &clock, &readings, &is_over, &task)
 }
 
 // A future that comes to wait for a moment before the runner's next check rouses the runner, whatever was called before.
