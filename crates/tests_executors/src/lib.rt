@@ -4,8 +4,4 @@
 #[cfg(test)]
 mod joins;
 #[cfg(test)]
-mod local_pool;
-#[cfg(test)]
-mod several;
-#[cfg(test)]
 mod stops;
