@@ -1,5 +1,5 @@
 -- A channel that is closed and cleared is sound, owes no wake, and has no send that waits.
-use Rattle.std.proofs.Common.{◌≡◌, Bool, true, false, Option, sym, ap, subst, refl, ◌∙◌, arith}
+use Rattle.std.proofs.Common.{◌≡◌, Bool, true, false, sym, ap, subst, refl, ◌∙◌, arith}
 use Rattle.std.proofs.lemmas.Bool.{both_ways}
 use Rattle.fi_parts.specs.declared.errors.CloseStatus.{CloseStatus}
 use Rattle.fi_parts.specs.Buffer.{Bounded, empty}
@@ -34,17 +34,16 @@ module _ {T W : Type 0} where
     },
   )
 
-  module _ {B : Type 0} (bounded : B → Bounded T) (old new : ChannelMachine T W) (taken : Option B) where
+  module _ {B : Type 0} (bounded : B → Bounded T) (old new : ChannelMachine T W) (taken : B) where
     pub cleared_holds : ClosesAndClears bounded old taken new → Holds old → Holds new
-    cleared_holds did was = subst Holds (sym did.5)
-        (subst (λ buffer. Holds (with_contents did.0 buffer)) (sym did.4.1)
-        (empty_holds did.0 (closed_by_close old did.0 did.1 did.3) (closes old did.0 did.1 did.3 was).1))
+    cleared_holds did was = subst Holds (sym did.4)
+        (empty_holds did.0 (closed_by_close old did.0 did.1 did.2) (closes old did.0 did.1 did.2 was).1)
 
     pub no_send_waits : ClosesAndClears bounded old taken new → Holds new → NoSendWaits new
     no_send_waits did now name = at (is_registered (send_phase new name)) refl
       where
         shut : new.own.is_open ≡ false
-        shut = ap (λ (m : ChannelMachine T W). m.own.is_open) did.5 ∙ closed_by_close old did.0 did.1 did.3
+        shut = ap (λ (m : ChannelMachine T W). m.own.is_open) did.4 ∙ closed_by_close old did.0 did.1 did.2
 
         at : (waits : Bool) → is_registered (send_phase new name) ≡ waits → waits ≡ false
         at false is = refl

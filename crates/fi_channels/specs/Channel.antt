@@ -297,7 +297,7 @@ module _ {T W : Type 0} where
   TriesSend old value (Err (not_sent.Closed back)) new = (back ≡ value) × (old.own.is_open ≡ false) × (new ≡ old)
   TriesSend old value (Err (not_sent.Full back)) new =
       (back ≡ value) × (old.own.is_open ≡ true) × (has_room old.own ≡ false) × (new ≡ old)
-  TriesSend old value (Err (not_sent.NoMemory back)) new = (back ≡ value) × IsGrowing old.own × (new ≡ old)
+  TriesSend old value (Err (not_sent.NoMemory back)) new = (back.0 ≡ value) × IsGrowing old.own × (new ≡ old)
 
   -- A receive at once, where this can be received; else it is refused and nothing has changed.
   abbrev pub TriesNext : Option (T × Bounded T) → Bool → ChannelMachine T W → Result T TryReceiveError → ChannelMachine T W →

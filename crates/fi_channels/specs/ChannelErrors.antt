@@ -14,7 +14,7 @@ module _ {T : Type 0} where
   abbrev pub value_in : TrySendError T → T
   value_in (Full value) = value
   value_in (Closed value) = value
-  value_in (NoMemory value) = value
+  value_in (NoMemory refused) = refused.0
 
   abbrev pub is_full : TrySendError T → Bool
   is_full (Full value) = true

@@ -1,18 +1,16 @@
 -- A channel that is closed and cleared in one call.
-use Rattle.std.specs.Prelude.{◌≡◌, ℕ, false, Option}
+use Rattle.std.specs.Prelude.{◌≡◌, ℕ, false}
 use Rattle.fi_parts.specs.declared.errors.CloseStatus.{CloseStatus}
-use Rattle.fi_parts.specs.Buffer.{Bounded}
+use Rattle.fi_parts.specs.Buffer.{Bounded, empty}
 use Rattle.fi_parts.specs.Waiting.{is_registered}
 use Rattle.fi_channels.specs.Channel.{ChannelMachine, Closes, with_buffer, send_phase}
-use Rattle.fi_channels.specs.Clearable.{TakesAll}
 
 module _ {T W : Type 0} where
-  -- It is as after a close, and then its buffer is taken out.
-  abbrev pub ClosesAndClears : {B : Type 0} → (B → Bounded T) → ChannelMachine T W → Option B → ChannelMachine T W → Type 0
+  -- It is as after a close, and then its buffer is taken out with its items and its memory. An empty one of the same capacity is left.
+  abbrev pub ClosesAndClears : {B : Type 0} → (B → Bounded T) → ChannelMachine T W → B → ChannelMachine T W → Type 0
   ClosesAndClears bounded old taken new =
-      (closed : ChannelMachine T W) × (status : CloseStatus) × (buffer : Bounded T) × Closes old status closed
-      × TakesAll bounded closed.own.buffer taken buffer
-      × (new ≡ record closed { own = with_buffer closed.own buffer })
+      (closed : ChannelMachine T W) × (status : CloseStatus) × Closes old status closed × (bounded taken ≡ closed.own.buffer)
+      × (new ≡ record closed { own = with_buffer closed.own (empty closed.own.buffer.capacity 0) })
 
   -- No send is registered.
   abbrev pub NoSendWaits : ChannelMachine T W → Type 0

@@ -18,7 +18,6 @@ use crate::access::{ChannelReceiveAccess, ChannelSendAccess, Received, Sent};
 use crate::channel_errors::{TryReceiveError, TrySendError};
 use crate::channel_fields::{ChannelFields, ReceiveKind};
 use crate::channel_stream::LocalChannelStream;
-use crate::clearable::Clearable;
 use crate::receive_future::LocalReceiveFuture;
 use crate::send_future::LocalSendFuture;
 use fi_parts::buffer::{ArrayBuf, RingBuf};
@@ -37,15 +36,15 @@ use std::marker::Model;
 /// # Examples
 ///
 /// ```
-/// let Ok(slot) = pipe.claim_send(self.next.wrapping_mul(self.next)) else {    // `pipe` is a `ChannelState` over an array
-///     return Err(Fault::NoMemory);
-/// };
-/// // ..
-/// let Ok((answer, _leftover)) = pipe.next_checked(self.stream, SUM) else {
-///     return;
-/// };
-/// // ..
-/// pipe.leave_receive(self.stream);
+/// use futures::task::Poll;
+/// use futures_intrusive::buffer::ArrayBuf;
+/// use futures_intrusive::channel::{ChannelSendAccess, ChannelState};
+///
+/// let mut channel: ChannelState<u64, ArrayBuf<u64, 1>, u64> = ChannelState::new(rt.alloc());
+/// let slot = channel.claim_send(5).ok().expect(&rt, "memory");
+/// let is_sent = matches!(channel.send_checked(slot, 1), Ok((Poll::Ready(Ok(())), _)));
+/// channel.leave_send(slot);
+/// assert!(rt; is_sent && channel.try_receive() == Ok(5));
 /// ```
 #[derive(Drop)]
 pub struct ChannelState<T: Drop, B: RingBuf<Item = T>, W> {
@@ -60,6 +59,8 @@ pub struct ChannelState<T: Drop, B: RingBuf<Item = T>, W> {
 /// # Examples
 ///
 /// ```
+/// use futures_intrusive::channel::LocalChannel;
+///
 /// let mut channel: LocalChannel<u64, 1, u64> = LocalChannel::new(rt.alloc());
 /// let stored = channel.try_send(5);
 /// let mut send = channel.send(6).expect(&rt, "memory");
@@ -79,6 +80,9 @@ pub type LocalChannel<T, const N: usize, W> = ChannelState<T, ArrayBuf<T, N>, W>
 /// # Examples
 ///
 /// ```
+/// use futures::task::Poll;
+/// use futures_intrusive::channel::LocalUnbufferedChannel;
+///
 /// let mut channel: LocalUnbufferedChannel<u64, u64> = LocalUnbufferedChannel::new(rt.alloc());
 /// let mut stream = channel.stream().expect(&rt, "room");
 /// let answer = stream.poll(&mut channel, 2);
@@ -116,6 +120,7 @@ impl<T: Drop, B: RingBuf<Item = T>, W: Drop> ChannelState<T, B, W> {
     /// Refused only with `NoMemory`. Keeps `GenericChannel::with_capacity`.
     pub fn with_capacity(alloc: Global, capacity: usize) -> Result<Self, Fault>
         ensures opened { IfOk result (λ made. made ≡ opened (empty (B.capacity_for capacity) made.own.buffer.reserved)) }
+        ensures reserved { IfOk result (λ made. made.own.buffer.reserved ≡ B.reserved_for capacity) }
         ensures fault { IfErr result (λ fault. fault ≡ Fault.NoMemory) }
     {
         let fields = ChannelFields::with_capacity(alloc, capacity)?;
@@ -155,6 +160,18 @@ impl<T: Drop, B: RingBuf<Item = T>, W: Drop> ChannelState<T, B, W> {
         ensures all_stay { AllStay self.old self.new }
     {
         self.fields.close()
+    }
+
+    /// Closes the channel as `close` does, and takes out what is buffered, in one call: nothing can be received any more.
+    ///
+    /// The values come back in their buffer, so that the caller chooses when they are dropped; an empty one of the same capacity is
+    /// left. It takes no memory; its cost is that of `close`. (Futures-intrusive closes and clears in two steps, when its last
+    /// receiver is dropped.)
+    pub fn close_and_clear(&mut self) -> B
+        ensures cleared { ClosesAndClears B.bounded self.old result self.new }
+        ensures no_send_waits { NoSendWaits self.new }
+    {
+        self.fields.close_and_clear()
     }
 
     /// Returns `true` if the channel was closed.
@@ -481,19 +498,5 @@ impl<T: Drop, B: RingBuf<Item = T>, W: Drop> ChannelReceiveAccess for ChannelSta
         ensures others { OtherReceivesStay slot.0 self.old self.new }
     {
         self.fields.leave_receive(slot)
-    }
-}
-
-impl<T: Drop, B: RingBuf<Item = T>, W: Drop> ChannelState<T, Clearable<B>, W> {
-    /// Closes the channel as `close` does, and takes out what is buffered, in one call: nothing can be received any more.
-    ///
-    /// The values come back in their buffer, so that the caller chooses when they are dropped. None if the channel was cleared
-    /// before. It takes no memory; its cost is that of `close`. (Futures-intrusive closes and clears in two steps, when its last
-    /// receiver is dropped.)
-    pub fn close_and_clear(&mut self) -> Option<B>
-        ensures cleared { ClosesAndClears B.bounded self.old result self.new }
-        ensures no_send_waits { NoSendWaits self.new }
-    {
-        self.fields.close_and_clear()
     }
 }

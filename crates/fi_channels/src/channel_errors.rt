@@ -1,7 +1,7 @@
 //! Why a call on a channel was refused.
 ghost use Rattle.std.specs.Prelude.{◌≡◌};
 
-use fi_parts::Fault;
+use fi_parts::{Fault, NoRoom};
 use std::error::Error;
 use std::fmt;
 use std::io::{self, ErrorKind};
@@ -11,12 +11,15 @@ use std::io::{self, ErrorKind};
 /// # Examples
 ///
 /// ```
-/// let sent = match answer {
-///     Poll::Pending => return Ok(false),
-///     Poll::Ready(Err(SendFault::Fault(fault))) => return Err(fault),     // the send keeps its value, and may be polled again
-///     Poll::Ready(Err(SendFault::Closed(_))) => Err(Fault::Closed),
-///     Poll::Ready(Ok(())) => Ok(true),
-/// };
+/// use futures::task::Poll;
+/// use futures_intrusive::channel::{LocalChannel, SendFault};
+///
+/// let mut channel: LocalChannel<u64, 1, u64> = LocalChannel::new(rt.alloc());
+/// let mut send = channel.send(6).ok().expect(&rt, "memory");
+/// channel.close();
+/// let answer = send.poll_if_live(&mut channel, 1);
+/// send.leave(&mut channel);
+/// assert!(rt; answer == Some(Poll::Ready(Err(SendFault::Closed(6))))); // the value comes back
 /// ```
 #[derive(Debug, PartialEq, Drop)]
 pub enum SendFault<T> {
@@ -70,11 +73,12 @@ impl<T: Drop> From<SendFault<T>> for Fault {
 /// # Examples
 ///
 /// ```
-/// if !matches!(channel.try_send(9), Err(TrySendError::Full(9))) {
-///     return false;
-/// }
-/// let is_closed = channel.close().is_newly_closed() && !channel.close().is_newly_closed();
-/// is_closed && channel.is_closed() && matches!(channel.try_send(8), Err(TrySendError::Closed(8)))
+/// use futures_intrusive::channel::{Channel, TrySendError};
+///
+/// let channel = Channel::<u64, 1, HostRuntime>::new(rt.alloc(), rt); // room for one
+/// assert!(rt; channel.try_send(7) == Ok(()) && channel.try_send(8) == Err(TrySendError::Full(8)));
+/// channel.close();
+/// assert!(rt; channel.try_send(9) == Err(TrySendError::Closed(9))); // the value comes back
 /// ```
 #[derive(Debug, PartialEq, Drop)]
 pub enum TrySendError<T> {
@@ -83,7 +87,7 @@ pub enum TrySendError<T> {
     /// The channel is closed.
     Closed(T),
     /// There was no memory: the buffer could not grow, or a call that blocks could make no future or no executor.
-    NoMemory(T),
+    NoMemory(NoRoom<T>),
 }
 
 impl<T> fmt::Display for TrySendError<T> {
@@ -120,7 +124,7 @@ impl<T: Drop> From<TrySendError<T>> for Fault {
         match refused {
             TrySendError::Full(_) => Fault::Full,
             TrySendError::Closed(_) => Fault::Closed,
-            TrySendError::NoMemory(_) => Fault::NoMemory,
+            TrySendError::NoMemory(refused) => Fault::from(refused),
         }
     }
 }
@@ -135,7 +139,7 @@ impl<T: Drop> TrySendError<T> {
         match self {
             TrySendError::Full(value) => value,
             TrySendError::Closed(value) => value,
-            TrySendError::NoMemory(value) => value,
+            TrySendError::NoMemory(refused) => refused.into_parts().0,
         }
     }
 
@@ -180,6 +184,8 @@ impl<T: Drop> TrySendError<T> {
 /// # Examples
 ///
 /// ```
+/// use futures_intrusive::channel::{Channel, TryReceiveError};
+///
 /// let channel = Channel::<u64, 2, HostRuntime>::new(rt.alloc(), rt);
 /// assert!(rt; channel.try_send(1).is_ok() && channel.try_send(2).is_ok());
 /// assert!(rt; channel.try_send(3).is_err());

@@ -10,12 +10,10 @@ ghost use Rattle.fi_channels.specs.Channel.{PollsSend, displaced_by_send, Cancel
 ghost use Rattle.fi_channels.specs.Channel.{CancelsReceive, TriesSend, TriesReceive, Closes, Wakes};
 ghost use Rattle.fi_channels.specs.Channel.{IsSound, has_room, displaced_send, displaced_receive, next_of};
 ghost use Rattle.fi_channels.specs.ChannelFields.{machine_of, phase_given, Takes};
-ghost use Rattle.fi_channels.specs.Clearable.{bounded_of};
 ghost use Rattle.fi_channels.specs.Cleared.{ClosesAndClears};
 
 use crate::access::Sent;
 use crate::channel_errors::{SendFault, TryReceiveError, TrySendError};
-use crate::clearable::Clearable;
 use crate::two_sides::{Receives, Sends, TwoSides};
 use fi_parts::buffer::RingBuf;
 use fi_parts::{CloseStatus, Fault, Future, Leftover, NoRoom, Notice, Phase, Slot, last_waker};
@@ -65,6 +63,7 @@ impl<T: Drop, B: RingBuf<Item = T>, W: Drop> ChannelFields<T, B, W> {
     pub fn with_capacity(alloc: Global, capacity: usize) -> Result<Self, Fault>
         ensures opened { IfOk result (λ made. machine_of B.bounded made ≡ opened
             (empty (B.capacity_for capacity) (B.bounded made.buffer).reserved)) }
+        ensures reserved { IfOk result (λ made. (B.bounded made.buffer).reserved ≡ B.reserved_for capacity) }
         ensures fits { IfOk result (λ made. Fits (B.bounded made.buffer)) }
         ensures fault { IfErr result (λ fault. fault ≡ Fault.NoMemory) }
     {
@@ -176,11 +175,12 @@ impl<T: Drop, B: RingBuf<Item = T>, W: Drop> ChannelFields<T, B, W> {
         ensures refused { OnErr result (machine_of B.bounded self.new ≡ machine_of B.bounded self.old) }
         ensures handed_back { IfErr result (λ failed. failed.0 ≡ value) }
     {
-        let back = match self.waiters.insert::<Sends>(Some(value)) {
+        let failed = match self.waiters.insert::<Sends>(Some(value)) {
             Ok(slot) => return Ok(slot),
-            Err(NoRoom(back)) => back,
+            Err(failed) => failed,
         };
-        Err(NoRoom(back.unwrap()))
+        let (back, refused) = failed.into_parts();
+        Err(NoRoom::of(back.unwrap(), refused))
     }
 
     /// A fresh receive, or stream. Refused only with `NoMemory`; then nothing has changed.
@@ -192,7 +192,7 @@ impl<T: Drop, B: RingBuf<Item = T>, W: Drop> ChannelFields<T, B, W> {
     {
         match self.waiters.insert::<Receives>(kind) {
             Ok(slot) => Ok(slot),
-            Err(_) => Err(Fault::NoMemory),
+            Err(failed) => Err(Fault::from(failed)),
         }
     }
 
@@ -382,8 +382,8 @@ impl<T: Drop, B: RingBuf<Item = T>, W: Drop> ChannelFields<T, B, W> {
         if !self.buffer.can_push() {
             return Err(TrySendError::Full(value));
         }
-        if let Err(NoRoom(value)) = self.buffer.push(value) {
-            return Err(TrySendError::NoMemory(value));
+        if let Err(failed) = self.buffer.push(value) {
+            return Err(TrySendError::NoMemory(failed));
         }
         self.waiters.tell_oldest::<Receives>();
         Ok(())
@@ -468,10 +468,11 @@ impl<T: Drop, B: RingBuf<Item = T>, W: Drop> ChannelFields<T, B, W> {
             return (Poll::Pending, Leftover::of(named, None));
         }
         let value = self.waiters.exchange::<Sends>(slot, None).unwrap();
-        if let Err(NoRoom(value)) = self.buffer.push(value) {
+        if let Err(failed) = self.buffer.push(value) {
+            let (value, refused) = failed.into_parts();
             self.waiters.exchange::<Sends>(slot, Some(value));
             return (
-                Poll::Ready(Err(SendFault::Fault(Fault::NoMemory))),
+                Poll::Ready(Err(SendFault::Fault(Fault::from(refused)))),
                 Leftover::of(None, Some(waker)),
             );
         }
@@ -556,22 +557,19 @@ impl<T: Drop, B: RingBuf<Item = T>, W: Drop> ChannelFields<T, B, W> {
         self.waiters.next_wake()
     }
 
+    /// Closes the channel, if it is open, and takes its buffer out with the values in it.
+    pub fn close_and_clear(&mut self) -> B
+        requires { IsSound (machine_of B.bounded self.old) }
+        ensures { ClosesAndClears B.bounded (machine_of B.bounded self.old) result (machine_of B.bounded self.new) }
+    {
+        self.close();
+        self.buffer.take()
+    }
+
     /// How many wakers are to be woken.
     pub fn wake_count(&self) -> usize
         ensures { result ≡ length self.now.waiters.out }
     {
         self.waiters.wake_count()
-    }
-}
-
-impl<T: Drop, B: RingBuf<Item = T>, W: Drop> ChannelFields<T, Clearable<B>, W> {
-    /// Closes the channel, if it is open, and takes its buffer out with the values in it.
-    pub fn close_and_clear(&mut self) -> Option<B>
-        requires { IsSound (machine_of (bounded_of B.bounded) self.old) }
-        ensures { ClosesAndClears B.bounded (machine_of (bounded_of B.bounded) self.old) result
-            (machine_of (bounded_of B.bounded) self.new) }
-    {
-        self.close();
-        self.buffer.clear()
     }
 }

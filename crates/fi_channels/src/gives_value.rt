@@ -4,6 +4,7 @@ ghost use Rattle.fi_channels.specs.Oneshot.{Giving, GivesFrom, MayLackFor};
 
 use crate::content::Content;
 use fi_parts::Fault;
+use fi_parts::memory::clone_of;
 use std::mem;
 
 /// How a full channel of one value gives it to a receive: `TakesValue` or `ClonesValue`.
@@ -53,9 +54,9 @@ impl<T: Clone> GivesValue<T> for ClonesValue {
             Content::Full(value) => value,
             Content::Empty | Content::Spent => return Ok(None),
         };
-        match value.clone() {
+        match clone_of(value) {
             Ok(copy) => Ok(Some(copy)),
-            Err(_) => Err(Fault::NoMemory),
+            Err(refused) => Err(Fault::from(refused)),
         }
     }
 }

@@ -30,14 +30,17 @@ use std::marker::Model;
 /// # Examples
 ///
 /// ```
-/// let mut mutex = MutexState::new(rt.alloc(), 7, false);
-/// assert_eq!(rt; mutex.try_take(), Some(7));
-/// let a = mutex.claim_lock().expect(&rt, "room");
-/// let b = mutex.claim_lock().expect(&rt, "room");
-/// assert_eq!(rt; poll(&mut mutex, a, 1), Some(Poll::Pending));        // `mutex.try_wait(a, 1)`, if `mutex.can_poll(a)`
-/// assert_eq!(rt; poll(&mut mutex, b, 2), Some(Poll::Pending));
-/// assert_eq!(rt; mutex.unlock(8), Ok(()));
-/// assert_eq!(rt; woken(&mut mutex), (Some(1), None));                 // the next two wakers
+/// use futures::task::Poll;
+/// use futures_intrusive::sync::MutexState;
+///
+/// let mut mutex: MutexState<u64, u64> = MutexState::new(rt.alloc(), 7, true); // a fair one
+/// let is_taken = mutex.try_take() == Some(7); // the value is lent out: the mutex is locked
+/// let slot = mutex.claim_lock()?;
+/// let waits = matches!(mutex.poll_checked(slot, 1), Ok((Poll::Pending, _)));
+/// let is_woken = mutex.unlock(8) == Ok(()) && mutex.next_wake() == Some(1);
+/// let is_locked = matches!(mutex.poll_checked(slot, 2), Ok((Poll::Ready(8), _)));
+/// mutex.leave(slot);
+/// assert!(rt; is_taken && waits && is_woken && is_locked);
 /// ```
 #[derive(Drop)]
 pub struct MutexState<T, W> {
@@ -51,9 +54,13 @@ pub struct MutexState<T, W> {
 /// # Examples
 ///
 /// ```
+/// use futures::task::Poll;
+/// use futures_intrusive::sync::LocalMutex;
+///
 /// let mut mutex: LocalMutex<u64, u64> = LocalMutex::new(rt.alloc(), 7, true);
 /// let mut future = mutex.lock().expect(&rt, "room");
 /// // ..
+/// let mut read = 0;
 /// if let Poll::Ready(mut guard) = future.poll(&mut mutex, 1) {
 ///     read = *guard;
 ///     *guard += 1;
@@ -240,7 +247,7 @@ impl<T: Drop, W: Drop> MutexState<T, W> {
     {
         match self.locks.insert(()) {
             Ok(slot) => Ok(slot),
-            Err(_) => Err(Fault::NoMemory),
+            Err(failed) => Err(Fault::from(failed)),
         }
     }
 

@@ -50,15 +50,16 @@ struct Fields<W> {
 /// # Examples
 ///
 /// ```
-/// let permits = LocalSemaphore::new(alloc, true, limit);      // a `SemaphoreState`
-/// // ..
-/// self.permits.claim_acquire(1)
-/// // ..
-/// let Ok((Poll::Ready(used), _leftover)) = self.permits.poll_checked(request, task) else {
-///     return false;
-/// };
-/// self.permits.disarm(used);
-/// self.permits.leave(request);
+/// use futures::task::Poll;
+/// use futures_intrusive::sync::SemaphoreState;
+///
+/// let mut permits: SemaphoreState<u64> = SemaphoreState::new(rt.alloc(), true, 1); // fair, with one permit
+/// let slot = permits.claim_acquire(2)?;
+/// let waits = matches!(permits.poll_checked(slot, 1), Ok((Poll::Pending, _)));
+/// let is_woken = permits.release(1) == Ok(()) && permits.next_wake() == Some(1);
+/// let is_granted = matches!(permits.poll_checked(slot, 2), Ok((Poll::Ready(2), _)));
+/// permits.leave(slot);
+/// assert!(rt; waits && is_woken && is_granted && permits.held() == 2);
 /// ```
 #[derive(Drop)]
 pub struct SemaphoreState<W> {
@@ -71,13 +72,16 @@ pub struct SemaphoreState<W> {
 /// # Examples
 ///
 /// ```
+/// use futures::task::Poll;
+/// use futures_intrusive::sync::LocalSemaphore;
+///
 /// let mut semaphore: LocalSemaphore<u64> = LocalSemaphore::new(rt.alloc(), true, 3);
 /// let mut future = semaphore.acquire(2).expect(&rt, "room");
 /// let was_ended = future.is_terminated();
 /// let answer = future.poll(&mut semaphore, 1);
 /// let is_ended = future.is_terminated();
 /// future.cancel(&mut semaphore);
-/// // ..
+/// let mut count = usize::MAX;
 /// if let Poll::Ready(releaser) = answer {
 ///     count = releaser.permits();
 ///     releaser.give_back(&mut semaphore);
@@ -359,7 +363,7 @@ impl<W: Drop> Fields<W> {
                 self.asked = self.asked.after(permits);
                 Ok(slot)
             }
-            Err(_) => Err(Fault::NoMemory),
+            Err(failed) => Err(Fault::from(failed)),
         }
     }
 

@@ -27,15 +27,17 @@ use std::time::Duration;
 /// # Examples
 ///
 /// ```
-/// let mut timer = TimerState::new(rt.alloc());
-/// for (expiry, waker) in [(50_u64, 5_u64), (20, 2), (40, 4), (10, 1), (30, 3), (60, 6)] {
-///     let slot = timer.claim_deadline(expiry).expect(&rt, "room");
-///     assert_eq!(rt; poll(&mut timer, slot, 0, waker), Some(Poll::Pending));  // `timer.try_wait(slot, 0, waker)`
-/// }
-/// timer.check_expirations(50);
-/// for waker in 1..=5_u64 {
-///     assert_eq!(rt; timer.next_wake(), Some(waker));
-/// }
+/// use futures::task::Poll;
+/// use futures_intrusive::timer::TimerState;
+///
+/// let mut timer: TimerState<u64> = TimerState::new(rt.alloc());
+/// let slot = timer.claim_deadline(10)?;
+/// let waits = matches!(timer.poll_checked(slot, 9, 1), Ok((Poll::Pending, _))); // at the moment 9
+/// timer.check_expirations(10);
+/// let is_woken = timer.next_wake() == Some(1);
+/// let is_over = matches!(timer.poll_checked(slot, 10, 2), Ok((Poll::Ready(()), _)));
+/// timer.leave(slot);
+/// assert!(rt; waits && is_woken && is_over);
 /// ```
 #[derive(Drop)]
 pub struct TimerState<W> {
@@ -48,6 +50,9 @@ pub struct TimerState<W> {
 /// # Examples
 ///
 /// ```
+/// use futures::task::Poll;
+/// use futures_intrusive::timer::LocalTimerService;
+///
 /// let mut timer: LocalTimerService<u64> = LocalTimerService::new(rt.alloc());
 /// let mut deadline = timer.deadline(5).expect(&rt, "memory");
 /// let waits = deadline.poll_at_if_live(&mut timer, 4, 1);
@@ -166,7 +171,10 @@ impl<W: Drop> TimerState<W> {
         ensures apart { IfOk result (λ slot. IsApart slot.0 self.old) }
         ensures all_stay { AllStay can_be_polled self.old self.new }
     {
-        self.deadlines.insert(expiry)
+        match self.deadlines.insert(expiry) {
+            Ok(slot) => Ok(slot),
+            Err(refused) => Err(Fault::from(refused)),
+        }
     }
 
     /// Makes a future whose expiry is so long after this moment, under a slot that was not live. The delay counts in whole

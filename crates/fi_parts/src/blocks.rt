@@ -16,7 +16,9 @@ mod owner;
 mod places;
 
 use crate::errors::NoRoom;
+use crate::memory::reserve_places;
 use block::BlockPtr;
+pub(crate) use chunk::Chunk;
 use linked::LinkedBlocks;
 use slab::Slab;
 use std::alloc::Global;
@@ -170,8 +172,8 @@ impl<T> Blocks<T> {
         ensures refused { OnErr result (self.new ≡ self.old) }
         ensures handed_back { IfErr result (λ failed. failed.0 ≡ value) }
     {
-        if self.slab.reserve(1).is_err() {
-            return Err(NoRoom(value));
+        if let Err(refused) = reserve_places(&mut self.slab, 1) {
+            return Err(NoRoom::of(value, refused));
         }
         let slot = self.slab.vacant_key();
         match self.linked.claim(value, slot, self.slab.capacity()) {

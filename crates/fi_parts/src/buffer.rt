@@ -1,9 +1,9 @@
 //! Bounded buffers, first in first out.
 ghost use Rattle.std.specs.Prelude.{◌≡◌, ℕ, ◌<◌, ◌≤◌, ◌==◌, ◌∷◌, length, nat_lt, IfErr, IfOk, OnOk};
 ghost use Rattle.fi_parts.specs.Buffer.{Bounded, Fits, empty, pushed, popped};
-ghost use Rattle.fi_parts.specs.declared.errors.Fault.TheVariants.{NoMemory};
 
-use crate::errors::{Fault, NoRoom};
+use crate::errors::NoRoom;
+use crate::memory::Refused;
 use std::alloc::Global;
 
 mod array;
@@ -27,6 +27,9 @@ pub use growing::GrowingHeapBuf;
 /// # Examples
 ///
 /// ```
+/// use futures_intrusive::NoRoom;
+/// use futures_intrusive::buffer::RingBuf;
+///
 /// fn refill<B: RingBuf>(buffer: &mut B, item: B::Item) -> Result<Option<B::Item>, NoRoom<B::Item>>
 /// // ..
 ///     if buffer.is_empty() {
@@ -45,6 +48,9 @@ pub trait RingBuf: Drop {
     /// The capacity of a buffer that was made for so many items.
     ghost capacity_for: { ℕ → ℕ };
 
+    /// How many items fit the memory that such a buffer has taken by then.
+    ghost reserved_for: { ℕ → ℕ };
+
     /// Returns an empty buffer, which has taken no memory. Its capacity is that of `with_capacity(alloc, 0)`.
     ///
     /// Keeps `RingBuf::new`.
@@ -53,11 +59,11 @@ pub trait RingBuf: Drop {
 
     /// Returns an empty buffer for `capacity` items. An implementation may ignore the number and use a capacity of its own.
     ///
-    /// Keeps `RingBuf::with_capacity`. The error is `NoMemory`.
-    fn with_capacity(alloc: Global, capacity: usize) -> Result<Self, Fault>
+    /// Keeps `RingBuf::with_capacity`. An error says that a request for its memory was refused.
+    fn with_capacity(alloc: Global, capacity: usize) -> Result<Self, Refused>
         ensures ok { IfOk result (λ made. bounded made ≡ empty (capacity_for capacity) (bounded made).reserved) }
-        ensures fits { IfOk result (λ made. Fits (bounded made)) }
-        ensures err { IfErr result (λ fault. fault ≡ NoMemory) };
+        ensures reserved { IfOk result (λ made. (bounded made).reserved ≡ reserved_for capacity) }
+        ensures fits { IfOk result (λ made. Fits (bounded made)) };
 
     /// Returns the most items that the buffer can hold.
     ///
@@ -114,4 +120,11 @@ pub trait RingBuf: Drop {
         ensures item { (bounded self.old).items ≡ result ∷ (bounded self.new).items }
         ensures left { bounded self.new ≡ popped (bounded self.old) (bounded self.new).items }
         ensures fits { Fits (bounded self.new) };
+
+    /// Takes the whole buffer out, with its items and its memory. An empty one of the same capacity is left, which has no memory.
+    ///
+    /// So the caller chooses when the items are dropped. It takes no memory, and its cost does not depend on the number of items.
+    fn take(&mut self) -> Self
+        ensures taken { bounded result ≡ bounded self.old }
+        ensures left { bounded self.new ≡ empty (bounded self.old).capacity 0 };
 }

@@ -15,6 +15,15 @@ use std::{io, time};
 /// # Examples
 ///
 /// ```
+/// use futures_intrusive::timer::Clock;
+/// use std::sync::atomic::{AtomicU64, Ordering};
+///
+/// // A clock that shows what stands in a cell.
+/// #[derive(Drop)]
+/// pub(crate) struct Shown<'a> {
+///     pub(crate) time: &'a AtomicU64,
+/// }
+///
 /// impl Clock for Shown<'_> {
 ///     fn now(&self) -> u64 {
 ///         self.time.load(Ordering::SeqCst)
@@ -35,11 +44,13 @@ pub trait Clock {
 /// # Examples
 ///
 /// ```
+/// use futures_intrusive::timer::{Clock, MockClock};
+/// use std::sync::Arc;
+///
 /// let clock = Arc::new(rt.alloc(), MockClock::new())?;
 /// let other = Arc::try_clone(&clock)?;
-/// assert_eq!(rt; read(&other), 0);                // `other.now()`
 /// clock.set_time(3);
-/// assert_eq!(rt; read(&other), 3);
+/// assert!(rt; other.now() == 3);
 /// ```
 #[derive(Drop)]
 pub struct MockClock {
@@ -79,12 +90,13 @@ impl Clock for Arc<MockClock> {
 /// # Examples
 ///
 /// ```
-/// let start = Instant::now(&rt).ok().expect(&rt, "a clock");
-/// let clock = StdClock::new(rt).ok().expect(&rt, "a clock");
-/// thread::sleep(&rt, Duration::from_millis(50));
-/// let shown = clock.now();
-/// let passed = start.elapsed(&rt).ok().expect(&rt, "a clock");
-/// assert!(rt; shown >= 50 && shown <= whole_millis(passed));
+/// use futures_intrusive::timer::{Clock, StdClock};
+/// use std::thread;
+/// use std::time::Duration;
+///
+/// let clock = StdClock::new(rt)?;
+/// thread::sleep(&rt, Duration::from_millis(2));
+/// assert!(rt; clock.now() >= 2); // milliseconds since it was made
 /// ```
 #[derive(Drop)]
 pub struct StdClock<H> {

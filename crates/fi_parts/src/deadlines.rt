@@ -1,6 +1,6 @@
 //! Futures that wait for a moment, and those that are registered in a heap by expiry.
 ghost use Rattle.fi_parts.specs.Polled.{LeavesWhere};
-ghost use Rattle.std.specs.Prelude.{◌≡◌, ◌≢◌, ℕ, [], Some, None, true, false, IfOk, IfErr, OnErr, length, drop};
+ghost use Rattle.std.specs.Prelude.{◌≡◌, ◌≢◌, ℕ, [], Some, None, true, false, IfOk, OnErr, length, drop};
 ghost use Rattle.std.specs.Prelude.{option_copied, MatchOption, MatchBool, ◌<◌, is_some};
 ghost use Rattle.std.specs.Option.{option_map};
 ghost use Rattle.std.specs.FinMap as map;
@@ -12,8 +12,9 @@ ghost use Rattle.fi_parts.specs.Waiting.{insert_fresh, stays, without_future, di
 ghost use Rattle.fi_parts.specs.Deadlines.{told_due, IsLeastDue, NoneDue, TellsExpired, NoneHasPair, IsNextExpiry, is_fresh};
 ghost use Rattle.fi_parts.specs.Seats.{unseated, deadlines_of, AreSeated, IsFirst};
 
-use crate::errors::{Fault, Slot};
+use crate::errors::Slot;
 use crate::heap::PairingHeap;
+use crate::memory::Refused;
 use crate::phase::{Future, Phase};
 use crate::waits::Waits;
 use std::alloc::Global;
@@ -149,17 +150,16 @@ impl<W: Drop> Deadlines<W> {
 
     /// Makes a fresh future with this expiry under a name that was not live.
     ///
-    /// Refused with `NoMemory` if there is no memory for it, its seat or its ticket; then nothing has changed.
+    /// Refused if there is no memory for it, its seat or its ticket; then nothing has changed.
     #[inline(always)]
-    pub fn insert(&mut self, expiry: u64) -> Result<Slot, Fault>
+    pub fn insert(&mut self, expiry: u64) -> Result<Slot, Refused>
         ensures was_free { IfOk result (λ slot. phase_of self.old.side slot.0 ≡ None) }
         ensures made { IfOk result (λ slot. self.new ≡ record self.old { side = insert_fresh self.old.side slot.0 expiry }) }
         ensures refused { OnErr result (self.new ≡ self.old) }
-        ensures fault { IfErr result (λ fault. fault ≡ Fault.NoMemory) }
     {
         let seat = match self.heap.claim(Due { expiry, name: 0 }) {
             Ok(seat) => seat,
-            Err(_) => return Err(Fault::NoMemory),
+            Err(failed) => return Err(failed.into_parts().1),
         };
         match self.waits.insert(Timed { expiry, seat }) {
             Ok(slot) => {
@@ -167,9 +167,9 @@ impl<W: Drop> Deadlines<W> {
                 name_seat(&mut self.heap, seat, Due { expiry, name });
                 Ok(slot)
             }
-            Err(_) => {
+            Err(failed) => {
                 self.heap.free(seat);
-                Err(Fault::NoMemory)
+                Err(failed.into_parts().1)
             }
         }
     }

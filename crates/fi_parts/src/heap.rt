@@ -22,6 +22,8 @@ use std::marker::Model;
 /// # Examples
 ///
 /// ```
+/// use futures_intrusive::heap::PairingHeap;
+///
 /// let mut heap = PairingHeap::new(rt.alloc());
 /// let other = heap.claim(6).expect(&rt, "no memory");
 /// heap.insert(other);

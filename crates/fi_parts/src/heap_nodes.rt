@@ -7,8 +7,9 @@ ghost use Rattle.fi_parts.specs.HeapNodes.{values_of, links_of, IsLinked, Relink
 
 use crate::errors::NoRoom;
 use crate::heap_links::{Link, NodeLinks};
+use crate::memory::insert_in;
 use slab::Slab;
-use std::alloc::{AllocFailed, Global};
+use std::alloc::Global;
 
 /// The link that leads to a node.
 #[derive(Clone, Copy)]
@@ -121,13 +122,11 @@ impl<T> HeapNodes<T> {
             value,
             links: NodeLinks::none(),
         };
-        match self.store.insert(node) {
+        match insert_in(&mut self.store, node) {
             Ok(slot) => Ok(slot),
-            Err(failed) => {
-                let AllocFailed {
-                    value: HeapNode { value, links: _ },
-                } = failed;
-                Err(NoRoom(value))
+            Err((node, refused)) => {
+                let HeapNode { value, links: _ } = node;
+                Err(NoRoom::of(value, refused))
             }
         }
     }

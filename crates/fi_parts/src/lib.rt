@@ -6,7 +6,8 @@
 //! - `Waits` keeps futures with what they ask for and their `Phase`, those that wait in a queue (a `Line` and an `Outbox`);
 //!   `Deadlines` those that wait for a moment (`Waits` and a heap).
 //! - `buffer` has what a channel keeps its values in. `Clock` says which moment it is.
-//! - `Fault`, `NoRoom`, `ChannelSendError`, `CloseStatus` and `StateId` are what calls answer everywhere.
+//! - `Fault`, `NoRoom`, `ChannelSendError`, `CloseStatus` and `StateId` are what calls answer everywhere. `Refused` shows that a
+//!   request for memory failed: without one nothing answers that there is no memory.
 #![tactic(auto)]
 
 mod blocks;
@@ -24,6 +25,7 @@ mod heap_trees;
 mod line;
 mod list;
 mod local_future;
+pub mod memory;
 mod outbox;
 mod phase;
 mod visits;
@@ -38,6 +40,7 @@ pub use heap::PairingHeap;
 pub use line::{Entry, Line, last_waker, release, waker_from};
 pub use list::LinkedList;
 pub use local_future::LocalFuture;
+pub use memory::Refused;
 pub use outbox::{Outbox, Ticket};
 pub use phase::{Future, Leftover, Notice, Phase};
 pub use waits::Waits;

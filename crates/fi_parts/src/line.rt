@@ -225,7 +225,7 @@ impl<D: Drop, W: Drop> Line<D, W> {
     {
         let ticket = match outbox.claim() {
             Ok(ticket) => ticket,
-            Err(_) => return Err(NoRoom(asks)),
+            Err(refused) => return Err(NoRoom::of(asks, refused)),
         };
         let entry = Entry {
             ticket,
@@ -234,12 +234,13 @@ impl<D: Drop, W: Drop> Line<D, W> {
                 phase: Phase::Fresh,
             },
         };
-        let entry = match self.list.claim(entry) {
+        let failed = match self.list.claim(entry) {
             Ok(slot) => return Ok(slot),
-            Err(NoRoom(entry)) => entry,
+            Err(failed) => failed,
         };
         outbox.free(ticket);
-        Err(NoRoom(entry.future.asks))
+        let (entry, refused) = failed.into_parts();
+        Err(NoRoom::of(entry.future.asks, refused))
     }
 
     /// Registers a future that is not in the queue: it goes to the queue's end.

@@ -22,11 +22,13 @@ use std::marker::Model;
 /// # Examples
 ///
 /// ```
-/// let (mut list, oldest, _) = three(rt.alloc()).expect(&rt, "room");  // 31, 7 and 5 were put in front, in this order
-/// assert!(rt; !list.is_empty());
-/// assert_eq!(rt; list.last_slot(), Some(oldest));
-/// assert_eq!(rt; list.peek_first().copied(), Some(5));
-/// assert_eq!(rt; list.peek_last().copied(), Some(31));
+/// use futures_intrusive::list::LinkedList;
+///
+/// let mut list = LinkedList::new(rt.alloc());
+/// let slot = list.claim(7u64).ok().expect(&rt, "memory");
+/// list.add_front(slot);
+/// assert!(rt; list.peek_last() == Some(&7) && list.remove(slot));
+/// assert!(rt; list.free(slot) == 7);
 /// ```
 #[derive(Drop)]
 pub struct LinkedList<T> {

@@ -72,7 +72,7 @@ module _ {T W : Type 0} where
   Step old (TrySend value) Done new = TriesSend old value (Ok tt) new
   Step old (TrySend value) (Back given Closed) new = TriesSend old value (Err (not_sent.Closed given)) new
   Step old (TrySend value) (Back given Full) new = TriesSend old value (Err (not_sent.Full given)) new
-  Step old (TrySend value) (Back given NoMemory) new = TriesSend old value (Err (not_sent.NoMemory given)) new
+  Step old (TrySend value) (Back given NoMemory) new = (given ≡ value) × IsGrowing old.own × (new ≡ old)
   Step old TryReceive (Item value) new = TriesReceive old (Ok value) new
   Step old Close Newly new = Closes old NewlyClosed new
   Step old Close Already new = Closes old AlreadyClosed new

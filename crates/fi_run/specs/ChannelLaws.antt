@@ -80,7 +80,7 @@ module _ {T W : Type 0} where
   goes old (TrySend value) (Back given Closed) new was did = laws.tries_send old new value (Err (not_sent.Closed given)) did was
   goes old (TrySend value) (Back given Full) new was did = laws.tries_send old new value (Err (not_sent.Full given)) did was
   goes old (TrySend value) (Back given NoMemory) new was did = laws.tries_send old new value
-      (Err (not_sent.NoMemory given)) did was
+      (Err (not_sent.NoMemory (record { 0 = given; 1 = record { request = tt } }))) did was
   goes old TryReceive (Item value) new was did = laws.tries_receive old new (Ok value) did was
   goes old Close Newly new was did = laws.closes old new NewlyClosed did was
   goes old Close Already new was did = laws.closes old new AlreadyClosed did was

@@ -28,15 +28,14 @@ use std::alloc::Global;
 /// # Examples
 ///
 /// ```
-/// let lines = [
-///     // ..
-///     (ChannelCall::Receive, Answer::Made(A)),
-///     (ChannelCall::PollNext(A, 1), Answer::Refused(Fault::NoSlot)),
-///     (ChannelCall::TrySend(4), Answer::Done),
-///     (ChannelCall::PollReceive(A, 1), Answer::Item(4)),
-///     // ..
-/// ];
-/// assert!(rt; holds_over_each::<1>(rt.alloc(), &lines)?);
+/// use futures_intrusive::Fault;
+/// use futures_intrusive::channel::LocalChannel;
+/// use futures_intrusive::run::{Answer, ChannelCall, Primitive};
+///
+/// let mut channel: LocalChannel<u64, 1, u64> = LocalChannel::open(rt.alloc(), 1)?; // room for one
+/// assert!(rt; channel.apply(ChannelCall::TrySend(5)) == Answer::Done);
+/// assert!(rt; channel.apply(ChannelCall::TrySend(6)) == Answer::Back(6, Fault::Full));
+/// assert!(rt; channel.apply(ChannelCall::TryReceive) == Answer::Item(5));
 /// ```
 #[derive(Clone, Copy, Debug, PartialEq, Eq, Drop)]
 pub enum ChannelCall<T, W> {
@@ -127,7 +126,7 @@ impl<T: Drop, B: RingBuf<Item = T>, W: Drop> Primitive for ChannelState<T, B, W>
         match call {
             ChannelCall::Send(value) => match self.claim_send(value) {
                 Ok(slot) => Answer::Made(slot),
-                Err(refused) => Answer::Back(refused.0, Fault::NoMemory),
+                Err(failed) => Answer::without_room(failed),
             },
             ChannelCall::Receive => match self.claim_receive() {
                 Ok(slot) => Answer::Made(slot),
@@ -146,7 +145,7 @@ impl<T: Drop, B: RingBuf<Item = T>, W: Drop> Primitive for ChannelState<T, B, W>
                 Ok(()) => Answer::Done,
                 Err(TrySendError::Closed(value)) => Answer::Back(value, Fault::Closed),
                 Err(TrySendError::Full(value)) => Answer::Back(value, Fault::Full),
-                Err(TrySendError::NoMemory(value)) => Answer::Back(value, Fault::NoMemory),
+                Err(TrySendError::NoMemory(failed)) => Answer::without_room(failed),
             },
             ChannelCall::TryReceive => match self.try_receive() {
                 Ok(value) => Answer::Item(value),

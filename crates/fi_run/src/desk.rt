@@ -10,6 +10,7 @@ use crate::exact::ExactEq;
 use crate::journal::{Entry, Journal, Receipt, Settled};
 use crate::runs::Primitive;
 use fi_parts::Fault;
+use fi_parts::memory::reserve;
 use std::alloc::Global;
 use std::error::Error;
 use std::fmt;
@@ -23,12 +24,33 @@ use std::sync::{Mutex, Wait};
 /// # Examples
 ///
 /// ```
-/// let desk: Desk<EventState<u64>, R, L> = Desk::new(rt.alloc(), rt, blank, false, 2)?;
-/// let mut seats = Vec::new(rt.alloc());
-/// seats.push(desk.seat()?)?;
-/// let mut second = desk.seat()?;
-/// desk.call(&mut second, EventCall::Set)?;
-/// Ok(desk.settle(seats).err())                    // it lacks the second: `Some(Mismatch::Seats)`
+/// ghost use Rattle.std.specs.Prelude.{◌≡◌};
+///
+/// use futures_intrusive::run::{Desk, EventCall, Mismatch};
+/// use futures_intrusive::sync::EventState;
+/// use std::alloc::AllocGlobal;
+/// use std::marker::Brand;
+/// use std::sync::Wait;
+/// use std::sync::ledger::{Blank, Ledger};
+/// use std::test::Fail;
+///
+/// // Settles a desk of one seat without it. `blank` begins the ledger `L`, which counts the seats.
+/// fn loses<R: Wait + Copy + AllocGlobal, L: Ledger>(
+///     rt: R,
+///     blank: Blank,
+/// ) -> Result<Option<Mismatch>, Fail>
+///     requires name { blank.name ≡ L.name }
+///     requires parts { blank.parts ≡ L.parts }
+///     requires count { blank.parts ≡ 1 }
+/// {
+///     let desk: Desk<EventState<u64>, R, L> = Desk::new(rt.alloc(), rt, blank, false, 1)?;
+///     let mut seat = desk.seat()?;
+///     desk.call(&mut seat, EventCall::Set)?;
+///     drop(seat);
+///     Ok(desk.settle(Vec::new(rt.alloc())).err()) // Some(Mismatch::Seats)
+/// }
+/// // ..
+/// assert!(rt; loses::<HostRuntime, Brand>(rt, Blank::new(1))? == Some(Mismatch::Seats));
 /// ```
 #[derive(Clone, Copy, Debug, PartialEq, Eq, Drop)]
 pub enum Mismatch {
@@ -61,13 +83,32 @@ impl From<Mismatch> for io::Error {
 /// # Examples
 ///
 /// ```
-/// for _ in 0..3 {
-///     let next = match desk.call(&mut seat, SemaphoreCall::TryAcquire(1))?.answer() {
-///         Answer::Done => SemaphoreCall::GiveBack(1),
-///         _ => SemaphoreCall::Permits,
-///     };
-///     desk.call(&mut seat, next)?;
+/// ghost use Rattle.std.specs.Prelude.{◌≡◌};
+///
+/// use futures_intrusive::run::{Desk, EventCall};
+/// use futures_intrusive::sync::EventState;
+/// use std::alloc::AllocGlobal;
+/// use std::marker::Brand;
+/// use std::sync::Wait;
+/// use std::sync::ledger::{Blank, Ledger};
+/// use std::test::Fail;
+///
+/// // Two seats share an event. Answers how many calls they made. `R` is the runtime, which waits for the lock; `L` is the ledger that
+/// // counts the seats, and `blank` begins it.
+/// fn share<R: Wait + Copy + AllocGlobal, L: Ledger>(rt: R, blank: Blank) -> Result<usize, Fail>
+///     requires name { blank.name ≡ L.name }
+///     requires parts { blank.parts ≡ L.parts }
+///     requires count { blank.parts ≡ 2 }
+/// {
+///     let desk: Desk<EventState<u64>, R, L> = Desk::new(rt.alloc(), rt, blank, false, 2)?;
+///     let (mut first, mut second) = (desk.seat()?, desk.seat()?);
+///     desk.call(&mut first, EventCall::Set)?;
+///     desk.call(&mut second, EventCall::IsSet)?;
+///     let settled = desk.settle(vec![in rt.alloc(); first, second]?)?;
+///     Ok(settled.history.len())
 /// }
+/// // ..
+/// assert!(rt; share::<HostRuntime, Brand>(rt, Blank::new(2))? == 2);
 /// ```
 #[derive(Drop)]
 pub struct Seat<P: Primitive, L: Ledger> {
@@ -377,14 +418,32 @@ where
 /// # Examples
 ///
 /// ```
-/// let desk: Desk<SemaphoreState<u64>, R, L> = Desk::new(rt.alloc(), rt, blank, (2, false), 3)?;
-/// let (mut a, mut b, mut c) = (desk.seat()?, desk.seat()?, desk.seat()?);
-/// let shared = &desk;
-/// let others = || thread::join(&rt, || tries(shared, &mut b), || tries(shared, &mut c));
-/// let (first, (second, third)) = thread::join(&rt, || tries(shared, &mut a), others);
+/// ghost use Rattle.std.specs.Prelude.{◌≡◌};
+///
+/// use futures_intrusive::run::{Desk, EventCall};
+/// use futures_intrusive::sync::EventState;
+/// use std::alloc::AllocGlobal;
+/// use std::marker::Brand;
+/// use std::sync::Wait;
+/// use std::sync::ledger::{Blank, Ledger};
+/// use std::test::Fail;
+///
+/// // Two seats share an event. Answers how many calls they made. `R` is the runtime, which waits for the lock; `L` is the ledger that
+/// // counts the seats, and `blank` begins it.
+/// fn share<R: Wait + Copy + AllocGlobal, L: Ledger>(rt: R, blank: Blank) -> Result<usize, Fail>
+///     requires name { blank.name ≡ L.name }
+///     requires parts { blank.parts ≡ L.parts }
+///     requires count { blank.parts ≡ 2 }
+/// {
+///     let desk: Desk<EventState<u64>, R, L> = Desk::new(rt.alloc(), rt, blank, false, 2)?;
+///     let (mut first, mut second) = (desk.seat()?, desk.seat()?);
+///     desk.call(&mut first, EventCall::Set)?;
+///     desk.call(&mut second, EventCall::IsSet)?;
+///     let settled = desk.settle(vec![in rt.alloc(); first, second]?)?;
+///     Ok(settled.history.len())
+/// }
 /// // ..
-/// let settled = desk.settle(seats)?;
-/// assert!(rt; settled.history.len() == calls);
+/// assert!(rt; share::<HostRuntime, Brand>(rt, Blank::new(2))? == 2);
 /// ```
 #[derive(Drop)]
 pub struct Desk<P: Primitive, R, L: Ledger> {
@@ -470,9 +529,7 @@ where
         ensures unchanged { OnErr result (seat.new ≡ seat.old) }
         ensures fault { IfErr result (λ fault. fault ≡ Fault.NoMemory) }
     {
-        if seat.receipts.reserve(1).is_err() {
-            return Err(Fault::NoMemory);
-        }
+        reserve(&mut seat.receipts, 1)?;
         let receipt = self
             .ruled
             .lock(&self.rt)

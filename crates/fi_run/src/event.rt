@@ -21,6 +21,9 @@ use std::alloc::Global;
 /// # Examples
 ///
 /// ```
+/// use futures_intrusive::run::{Answer, EventCall, Primitive, run};
+/// use futures_intrusive::sync::EventState;
+///
 /// let mut event: EventState<u64> = EventState::open(rt.alloc(), false)?;
 /// let calls = vec![in rt.alloc(); EventCall::Set, EventCall::IsSet]?;
 /// let mut answers = Vec::new(rt.alloc());

@@ -18,14 +18,17 @@ use fi_parts::{Fault, Slot, StateId};
 /// # Examples
 ///
 /// ```
-/// fn records<P: Primitive + Drop>(
-/// // ..
+/// use futures_intrusive::run::{Entry, ExactEq, Primitive, Receipt};
+///
+/// // Whether the receipt is of the call that this entry records.
+/// fn is_of<P: Primitive>(entry: &Entry<P::Call, P::Answer>, receipt: &Receipt<P>) -> bool
 /// where
 ///     P::Opening: ExactEq,
 ///     P::Call: ExactEq,
 ///     P::Answer: ExactEq,
-/// // ..
-///     let mut journal: Journal<P> = Journal::new(alloc, opening)?;
+/// {
+///     entry.call == receipt.call() && entry.answer == receipt.answer()
+/// }
 /// ```
 pub trait ExactEq: Copy + Eq + Drop {
     /// Equal values are identical.

@@ -5,6 +5,7 @@ ghost use Rattle.fi_run.specs.Journal.{next_receipt, receipt_of, Records, Replay
 use crate::exact::ExactEq;
 use crate::runs::Primitive;
 use fi_parts::Fault;
+use fi_parts::memory::reserve;
 use std::alloc::Global;
 use std::marker::Model;
 
@@ -13,10 +14,17 @@ use std::marker::Model;
 /// # Examples
 ///
 /// ```
-/// let is_entry = match settled.history.first() {
-///     Some(entry) => entry.seat == 3 && entry.call == call && entry.answer == answer,
-///     None => false,
+/// use futures_intrusive::run::{Answer, EventCall, Journal};
+/// use futures_intrusive::sync::EventState;
+///
+/// let mut journal = Journal::<EventState<u64>>::new(rt.alloc(), false)?;
+/// let receipt = journal.record(3, EventCall::Set)?; // by whoever has the seat 3
+/// assert!(rt; receipt.number() == 0 && receipt.answer() == Answer::Done);
+/// let settled = journal.settle();
+/// let Some(entry) = settled.history.first() else {
+///     return Err("no entry".into());
 /// };
+/// assert!(rt; entry.seat == 3 && entry.call == EventCall::Set && entry.answer == Answer::Done);
 /// ```
 #[derive(Clone, Copy, Debug, PartialEq, Eq, Drop)]
 pub struct Entry<C, A> {
@@ -30,9 +38,12 @@ pub struct Entry<C, A> {
 /// # Examples
 ///
 /// ```
-/// let receipt = desk.call(&mut second, EventCall::IsSet)?;
-/// assert!(rt; receipt.answer() == Answer::Flag(true));
-/// assert!(rt; receipt.number() == 1);
+/// use futures_intrusive::run::{Answer, EventCall, Journal};
+/// use futures_intrusive::sync::EventState;
+///
+/// let mut journal = Journal::<EventState<u64>>::new(rt.alloc(), false)?;
+/// let receipt = journal.record(3, EventCall::Set)?; // by whoever has the seat 3
+/// assert!(rt; receipt.number() == 0 && receipt.answer() == Answer::Done);
 /// ```
 #[derive(Drop)]
 pub struct Receipt<P: Primitive> {
@@ -126,13 +137,14 @@ where
 /// # Examples
 ///
 /// ```
-/// let mut journal: Journal<P> = Journal::new(alloc, opening)?;
-/// let receipt = journal.record(3, call)?;
+/// use futures_intrusive::run::{Answer, EventCall, Journal};
+/// use futures_intrusive::sync::EventState;
+///
+/// let mut journal = Journal::<EventState<u64>>::new(rt.alloc(), false)?; // an event that is not set
+/// let receipt = journal.record(0, EventCall::Set)?; // by whoever has the seat 0
+/// assert!(rt; receipt.answer() == Answer::Done);
 /// let settled = journal.settle();
-/// let is_receipt = receipt.opening() == opening
-///     && receipt.number() == 0
-///     && receipt.call() == call
-///     && receipt.answer() == answer;
+/// assert!(rt; settled.history.len() == 1 && settled.state.is_set());
 /// ```
 #[derive(Drop)]
 pub struct Journal<P: Primitive> {
@@ -157,12 +169,14 @@ impl<P: Primitive> Model for Journal<P> {
 /// # Examples
 ///
 /// ```
-/// let mut fresh: SemaphoreState<u64> = SemaphoreState::open(rt.alloc(), settled.opening)?;
-/// for entry in &settled.history {
-///     if fresh.apply(entry.call) != entry.answer {
-///         return Ok(false);
-///     }
-/// }
+/// use futures_intrusive::run::{Answer, EventCall, Journal};
+/// use futures_intrusive::sync::EventState;
+///
+/// let mut journal = Journal::<EventState<u64>>::new(rt.alloc(), false)?; // an event that is not set
+/// let receipt = journal.record(0, EventCall::Set)?; // by whoever has the seat 0
+/// assert!(rt; receipt.answer() == Answer::Done);
+/// let settled = journal.settle();
+/// assert!(rt; settled.history.len() == 1 && settled.state.is_set());
 /// ```
 #[derive(Drop)]
 pub struct Settled<P: Primitive> {
@@ -202,9 +216,7 @@ where
         ensures unchanged { OnErr result (self.new ≡ self.old) }
         ensures fault { IfErr result (λ fault. fault ≡ Fault.NoMemory) }
     {
-        if self.history.reserve(1).is_err() {
-            return Err(Fault::NoMemory);
-        }
+        reserve(&mut self.history, 1)?;
         let number = self.history.len();
         let answer = self.state.apply(call);
         let _ = self.history.push(Entry { seat, call, answer });

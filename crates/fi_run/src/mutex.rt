@@ -21,16 +21,13 @@ use std::alloc::Global;
 /// # Examples
 ///
 /// ```
-/// let rows = [
-///     // ..
-///     (MutexCall::Lock, Answer::Made(A)),
-///     (MutexCall::Poll(A, 1), Answer::Item(7)),
-///     (MutexCall::Poll(A, 1), Answer::Refused(Fault::NoSlot)),
-///     (MutexCall::Cancel(A), Answer::Done),
-///     (MutexCall::Unlock(9), Answer::Done),
-///     (MutexCall::IsLocked, Answer::Flag(false)),
-/// ];
-/// assert!(rt; answers::<MutexState<u64, u64>>(rt.alloc(), (7, true), rows.as_slice())?);
+/// use futures_intrusive::run::{Answer, MutexCall, Primitive};
+/// use futures_intrusive::sync::MutexState;
+///
+/// let mut mutex: MutexState<u64, u64> = MutexState::open(rt.alloc(), (7, true))?; // the value, and whether it is fair
+/// assert!(rt; mutex.apply(MutexCall::TryLock) == Answer::Item(7));
+/// assert!(rt; mutex.apply(MutexCall::TryLock) == Answer::Nothing);
+/// assert!(rt; mutex.apply(MutexCall::Unlock(8)) == Answer::Done);
 /// ```
 #[derive(Clone, Copy, Debug, PartialEq, Eq, Drop)]
 pub enum MutexCall<T, W> {

@@ -28,16 +28,13 @@ use std::alloc::Global;
 /// # Examples
 ///
 /// ```
-/// let lines = [
-///     (OneshotCall::Receive, Answer::Made(Slot(0))),
-///     (OneshotCall::Poll(Slot(0), 1), Answer::Pending),
-///     (OneshotCall::Send(5), Answer::Done),
-///     (OneshotCall::Send(6), Answer::Back(6, Fault::Closed)),
-///     (OneshotCall::NextWake, Answer::Woken(Some(1))),
-///     (OneshotCall::Poll(Slot(0), 2), Answer::Item(5)),
-///     // ..
-/// ];
-/// assert!(rt; answers::<OneshotState<u32, u64>>(rt.alloc(), (), lines.as_slice())?);
+/// use futures_intrusive::Fault;
+/// use futures_intrusive::channel::OneshotState;
+/// use futures_intrusive::run::{Answer, OneshotCall, Primitive};
+///
+/// let mut channel: OneshotState<u64, u64> = OneshotState::open(rt.alloc(), ())?;
+/// assert!(rt; channel.apply(OneshotCall::Send(5)) == Answer::Done);
+/// assert!(rt; channel.apply(OneshotCall::Send(6)) == Answer::Back(6, Fault::Closed));
 /// ```
 #[derive(Clone, Copy, Debug, PartialEq, Eq, Drop)]
 pub enum OneshotCall<T, W> {

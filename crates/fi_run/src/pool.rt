@@ -17,16 +17,13 @@ use std::alloc::Global;
 /// # Examples
 ///
 /// ```
-/// let rows = [
-///     // ..
-///     (PoolCall::Submit(5), Answer::Done),
-///     (PoolCall::Submit(6), Answer::Back(6, Fault::Full)),
-///     (PoolCall::Start, Answer::Item(5)),
-///     (PoolCall::Submit(6), Answer::Done),
-///     (PoolCall::Start, Answer::Nothing),
-///     // ..
-/// ];
-/// assert!(rt; answers::<PoolState<u64>>(rt.alloc(), (1, 1), rows.as_slice())?);
+/// use futures_intrusive::Fault;
+/// use futures_intrusive::run::{Answer, PoolCall, PoolState, Primitive};
+///
+/// let mut pool: PoolState<u64> = PoolState::open(rt.alloc(), (1, 1))?; // one job at a time, one in the queue
+/// assert!(rt; pool.apply(PoolCall::Submit(5)) == Answer::Done);
+/// assert!(rt; pool.apply(PoolCall::Submit(6)) == Answer::Back(6, Fault::Full));
+/// assert!(rt; pool.apply(PoolCall::Start) == Answer::Item(5));
 /// ```
 #[derive(Clone, Copy, Debug, PartialEq, Eq, Drop)]
 pub enum PoolCall<W> {

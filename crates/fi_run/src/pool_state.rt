@@ -40,14 +40,12 @@ struct Fields<W> {
 /// # Examples
 ///
 /// ```
-/// match receipt.answer() {                        // of a `PoolCall::Start`
-///     Answer::Item(_) => {
-///         if desk.call(seat, PoolCall::Finish).is_err() {
-///             return false;
-///         }
-///     }
-///     answer => return answer == Answer::Refused(Fault::Closed),
-/// }
+/// use futures_intrusive::run::{Answer, PoolState};
+///
+/// let mut pool = PoolState::<u64>::new(rt.alloc(), 2, 10)?; // two jobs at a time, ten in the queue; wakers are numbers
+/// assert!(rt; pool.submit(5) == Answer::Done);
+/// assert!(rt; pool.start() == Answer::Item(5));
+/// assert!(rt; pool.finish() == Answer::Done);
 /// ```
 #[derive(Drop)]
 pub struct PoolState<W> {
@@ -199,7 +197,7 @@ impl<W: Drop> Fields<W> {
             }
             Err(TrySendError::Closed(back)) => Answer::Back(back, Fault::Closed),
             Err(TrySendError::Full(back)) => Answer::Back(back, Fault::Full),
-            Err(TrySendError::NoMemory(back)) => Answer::Back(back, Fault::NoMemory),
+            Err(TrySendError::NoMemory(failed)) => Answer::without_room(failed),
         }
     }
 

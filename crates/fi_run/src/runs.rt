@@ -4,6 +4,7 @@ ghost use Rattle.fi_run.specs.Outgoing.{Outgoing, TakesOldest};
 ghost use Rattle.fi_run.specs.Run.{AfterEveryRun, Answers, AnswersFront};
 
 use fi_parts::Fault;
+use fi_parts::memory::reserve;
 use std::alloc::Global;
 
 /// A machine that answers calls, whatever they are.
@@ -17,15 +18,13 @@ use std::alloc::Global;
 /// # Examples
 ///
 /// ```
-/// let mut primitive = P::open(alloc, opening)?;
-/// let mut calls = Vec::new(alloc);
-/// let mut wanted = Vec::new(alloc);
-/// for (call, answer) in lines {
-///     calls.push(*call)?;
-///     wanted.push(*answer)?;
-/// }
-/// let mut out = Vec::new(alloc);
-/// run(&mut primitive, calls, &mut out)?;
+/// use futures_intrusive::run::{Answer, Primitive, SemaphoreCall};
+/// use futures_intrusive::sync::SemaphoreState;
+///
+/// let mut permits: SemaphoreState<u64> = SemaphoreState::open(rt.alloc(), (1, true))?; // one permit, fair
+/// assert!(rt; permits.apply(SemaphoreCall::TryAcquire(1)) == Answer::Done);
+/// assert!(rt; permits.apply(SemaphoreCall::TryAcquire(1)) == Answer::Nothing);
+/// assert!(rt; permits.apply(SemaphoreCall::GiveBack(1)) == Answer::Done);
 /// ```
 pub trait Primitive {
     /// What a machine is opened with, such as an event's flag.
@@ -111,9 +110,14 @@ pub trait Primitive {
 /// # Examples
 ///
 /// ```
-/// let mut permits = Permits::open(alloc, record.opening)?;
-/// let mut answers = Vec::new(alloc);
-/// run(&mut permits, calls, &mut answers)?;
+/// use futures_intrusive::run::{Answer, EventCall, Primitive, run};
+/// use futures_intrusive::sync::EventState;
+///
+/// let mut event: EventState<u64> = EventState::open(rt.alloc(), false)?;
+/// let calls = vec![in rt.alloc(); EventCall::Set, EventCall::IsSet]?;
+/// let mut answers = Vec::new(rt.alloc());
+/// run(&mut event, calls, &mut answers)?;
+/// assert!(rt; answers.as_slice() == [Answer::Done, Answer::Flag(true)].as_slice());
 /// ```
 pub fn run<P: Primitive>(
     primitive: &mut P,
@@ -131,8 +135,8 @@ pub fn run<P: Primitive>(
 {
     primitive.show();
     for call in calls {
-        if out.reserve(1).is_err() {
-            return Err(Fault::NoMemory);
+        if let Err(refused) = reserve(out, 1) {
+            return Err(Fault::from(refused));
         }
         let answer = primitive.apply(call);
         let _ = out.push(answer);

@@ -28,10 +28,12 @@ const MOST_PLACES: usize = 65536;
 /// # Examples
 ///
 /// ```
+/// use futures_intrusive::run::{Journal, PoolState, ScriptError};
+///
+/// let journal = Journal::<PoolState<u64>>::new(rt.alloc(), (1, 65_537))?; // a script's queue has 65,536 places at most
+/// let mut script = String::new(rt.alloc());
 /// let refused = journal.settle().write_script(&mut script).err();
-/// if script.as_str() != "before" {
-///     return Err("something was written".into());
-/// }
+/// assert!(rt; refused == Some(ScriptError::Opening) && script.is_empty());
 /// ```
 #[derive(Clone, Copy, Debug, PartialEq, Eq, Drop)]
 pub enum ScriptError {
@@ -86,11 +88,14 @@ impl From<AllocError> for ScriptError {
 /// # Examples
 ///
 /// ```
-/// let mut script = String::from_str(alloc, "before")?;
+/// use futures_intrusive::run::{EventCall, Journal};
+/// use futures_intrusive::sync::EventState;
+///
+/// let mut journal = Journal::<EventState<u64>>::new(rt.alloc(), false)?;
+/// journal.record(0, EventCall::Set)?;
+/// let mut script = String::new(rt.alloc());
 /// journal.settle().write_script(&mut script)?;
-/// let mut wanted = String::from_str(alloc, "before")?;
-/// wanted.push_str(script_of(alloc, row)?.as_str())?;
-/// assert_eq!(rt; script.as_str(), wanted.as_str());
+/// assert!(rt; script.as_str() == "event reset\nhold set\n");
 /// ```
 pub trait ScriptLines: Primitive<Answer = Answer<u64, u64>, Waker = u64> {
     /// Writes the first line but for its end: the primitive's name, and the words of the opening. Refused with `Opening` if no
@@ -178,7 +183,8 @@ fn is_left_out(answer: &Answer<u64, u64>) -> bool
 {
     matches!(
         answer,
-        Answer::Refused(Fault::NoMemory | Fault::NoSlot) | Answer::Back(_, Fault::NoMemory)
+        Answer::Refused(Fault::NoMemory { .. } | Fault::NoSlot)
+            | Answer::Back(_, Fault::NoMemory { .. })
     )
 }
 

@@ -22,15 +22,13 @@ use std::alloc::Global;
 /// # Examples
 ///
 /// ```
-/// let rows = [
-///     // ..
-///     (SemaphoreCall::Acquire(1), Answer::Made(A)),
-///     (SemaphoreCall::Poll(A, 1), Answer::Ready),
-///     (SemaphoreCall::Poll(A, 1), Answer::Refused(Fault::NoSlot)),
-///     (SemaphoreCall::Cancel(A), Answer::Done),
-///     // ..
-/// ];
-/// assert!(rt; answers::<SemaphoreState<u64>>(rt.alloc(), (1, true), rows.as_slice())?);
+/// use futures_intrusive::run::{Answer, Primitive, SemaphoreCall};
+/// use futures_intrusive::sync::SemaphoreState;
+///
+/// let mut permits: SemaphoreState<u64> = SemaphoreState::open(rt.alloc(), (1, true))?; // one permit, fair
+/// assert!(rt; permits.apply(SemaphoreCall::TryAcquire(1)) == Answer::Done);
+/// assert!(rt; permits.apply(SemaphoreCall::TryAcquire(1)) == Answer::Nothing);
+/// assert!(rt; permits.apply(SemaphoreCall::GiveBack(1)) == Answer::Done);
 /// ```
 #[derive(Clone, Copy, Debug, PartialEq, Eq, Drop)]
 pub enum SemaphoreCall<W> {

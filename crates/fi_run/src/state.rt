@@ -22,14 +22,13 @@ use std::alloc::Global;
 /// # Examples
 ///
 /// ```
-/// let newest = Answer::State(StateId::from_value(2), 6);
-/// let lines = [
-///     (StateCall::Send(5), Answer::Done),
-///     (StateCall::Send(6), Answer::Done),
-///     (StateCall::TryReceive(StateId::new()), newest),
-///     // ..
-/// ];
-/// assert!(rt; answers::<StateBroadcastState<u32, u64>>(rt.alloc(), (), lines.as_slice())?);
+/// use futures_intrusive::channel::{StateBroadcastState, StateId};
+/// use futures_intrusive::run::{Answer, Primitive, StateCall};
+///
+/// let mut channel: StateBroadcastState<u64, u64> = StateBroadcastState::open(rt.alloc(), ())?;
+/// let newest = Answer::State(StateId::from_value(1), 5);
+/// assert!(rt; channel.apply(StateCall::Send(5)) == Answer::Done);
+/// assert!(rt; channel.apply(StateCall::TryReceive(StateId::new())) == newest);
 /// ```
 #[derive(Clone, Copy, Debug, PartialEq, Eq, Drop)]
 pub enum StateCall<T, W> {

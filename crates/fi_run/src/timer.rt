@@ -22,15 +22,16 @@ use std::time::Duration;
 /// # Examples
 ///
 /// ```
-/// let rows = [
-///     (
-///         TimerCall::Delay(5, Duration::from_micros(1_999)),
-///         Answer::Made(A),
-///     ),
-///     (TimerCall::Poll(A, 5, 1), Answer::Pending),
-///     (TimerCall::Next, Answer::Moment(Some(6))),
-/// ];
-/// assert!(rt; answers::<TimerState<u64>>(rt.alloc(), (), rows.as_slice())?);
+/// use futures_intrusive::Slot;
+/// use futures_intrusive::run::{Answer, Primitive, TimerCall};
+/// use futures_intrusive::timer::TimerState;
+/// use std::time::Duration;
+///
+/// let mut timer: TimerState<u64> = TimerState::open(rt.alloc(), ())?;
+/// let delay = TimerCall::Delay(5, Duration::from_micros(1_999)); // from the moment 5 on, in whole milliseconds
+/// assert!(rt; timer.apply(delay) == Answer::Made(Slot(0)));
+/// assert!(rt; timer.apply(TimerCall::Poll(Slot(0), 5, 1)) == Answer::Pending);
+/// assert!(rt; timer.apply(TimerCall::Next) == Answer::Moment(Some(6)));
 /// ```
 #[derive(Clone, Copy, Debug, PartialEq, Eq, Drop)]
 pub enum TimerCall<W> {

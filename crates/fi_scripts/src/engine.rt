@@ -31,6 +31,7 @@ use fi_channels::{
 };
 use fi_locks::{MutexState, SemaphoreState, TimerState};
 use fi_parts::buffer::{ArrayBuf, FixedHeapBuf, GrowingHeapBuf, RingBuf};
+use fi_parts::memory::items_for;
 use fi_run::{Answer, PoolState};
 use std::alloc::Global;
 use std::io::{Read, Write};
@@ -60,8 +61,9 @@ pub fn run_script<R: Read, W: Write>(
         (Turns (R.remaining reader.old) (W.contents writer.old) (W.contents writer.new) StopsScript)) }
 {
     let script = read_whole(alloc, reader)?;
-    let Ok(mut collected) = Vec::with_capacity(alloc, COLLECTED + LINE) else {
-        return Err(ScriptFault::NoMemory);
+    let mut collected = match items_for(alloc, COLLECTED + LINE) {
+        Ok(collected) => collected,
+        Err(refused) => return Err(ScriptFault::from(refused)),
     };
     let mut output = Output::new(writer, &mut collected);
     let answered = answer_script(alloc, script.as_slice(), &mut output);
@@ -199,11 +201,13 @@ fn answer_lines<P: Scripted, W: Write>(
     ensures { AnswersLeft (spoken P.opens P.step P.outgoing P.Scripted.language) (λ asked. asked ≡ opening)
         (lines_left lines.entry) W.contents output.old output.new result }
 {
-    let Ok(primitive) = P::open(alloc, opening) else {
-        return Err(ScriptFault::NoMemory);
+    let primitive = match P::open(alloc, opening) {
+        Ok(primitive) => primitive,
+        Err(fault) => return Err(ScriptFault::of(fault)),
     };
-    let Ok(futures) = Labelled::new(alloc, lines.len() / BYTES_PER_SHELF) else {
-        return Err(ScriptFault::NoMemory);
+    let futures = match Labelled::new(alloc, lines.len() / BYTES_PER_SHELF) {
+        Ok(futures) => futures,
+        Err(refused) => return Err(ScriptFault::from(refused)),
     };
     let mut session = Session { primitive, futures };
     let mut number = 1;
@@ -368,7 +372,7 @@ impl<P: Scripted> Session<P> {
             (Row::Make(verb, _), Answer::Made(slot)) => {
                 match self.futures.insert(label, MadeFuture { verb, slot: *slot }) {
                     Ok(()) => Ok(()),
-                    Err(_) => Err(ScriptFault::NoMemory),
+                    Err(refused) => Err(ScriptFault::from(refused)),
                 }
             }
             (Row::Cancel(..), _) => {

@@ -5,6 +5,7 @@ ghost use Rattle.fi_scripts.specs.Begun.{Begins, fault_line};
 ghost use Rattle.fi_scripts.specs.Statuses.{status_of};
 
 use crate::output::write_whole;
+use fi_parts::{Fault, Refused};
 use itoa::Buffer;
 use std::io::Write;
 
@@ -19,6 +20,33 @@ pub enum ScriptFault {
     BadLine(usize),
     /// Memory was refused.
     NoMemory,
+}
+
+/// So that `?` serves where a `ScriptFault` is answered: `NoMemory`.
+impl From<Refused> for ScriptFault {
+    ghost use Rattle.fi_scripts.specs.declared.fault.ScriptFault.TheVariants.{NoMemory};
+
+    ghost from_gives = { λ _ fault. fault ≡ NoMemory };
+
+    fn from(_refused: Refused) -> ScriptFault {
+        ScriptFault::NoMemory
+    }
+}
+
+impl ScriptFault {
+    ghost use Rattle.fi_parts.specs.declared.errors.Fault.TheVariants as faults;
+    ghost use Rattle.fi_scripts.specs.declared.fault.ScriptFault.TheVariants.{NoMemory};
+
+    /// What ends a script whose call was refused memory.
+    pub fn of(fault: Fault) -> Self
+        requires { fault ≡ faults.NoMemory }
+        ensures { result ≡ NoMemory }
+    {
+        match Refused::of(fault) {
+            Some(refused) => ScriptFault::from(refused),
+            None => unreachable!(),
+        }
+    }
 }
 
 /// The status that a program ends with.

@@ -3,6 +3,7 @@
 ghost use Rattle.std.specs.Prelude.{◌≡◌, ◌⊎◌, ◌+◌, ◌≤◌, ◌<◌, OnOk, IfOk, IfErr, IfSome, take, vec_len};
 
 use crate::fault::ScriptFault;
+use fi_parts::memory::fill_up;
 use std::alloc::Global;
 use std::io::Read;
 
@@ -40,8 +41,9 @@ fn make_room(bytes: &mut Vec<u8>) -> Result<(), ScriptFault>
     ensures fault { IfErr result (λ fault. fault ≡ ScriptFault.NoMemory) }
 {
     let more = (bytes.len() / 4).max(LEAST_ROOM);
-    match bytes.resize(bytes.len() + more, 0) {
+    let count = bytes.len() + more;
+    match fill_up(bytes, count, 0) {
         Ok(()) => Ok(()),
-        Err(_) => Err(ScriptFault::NoMemory),
+        Err(refused) => Err(ScriptFault::from(refused)),
     }
 }

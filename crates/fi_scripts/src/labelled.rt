@@ -3,7 +3,9 @@ ghost use Rattle.std.specs.Prelude.{◌≡◌, ◌<◌, ◌%◌, ℕ, Some, None
 ghost use Rattle.fi_scripts.specs.Stored.{shelf_of, Stores};
 
 use crate::label::Label;
-use std::alloc::{AllocError, Global};
+use fi_parts::Refused;
+use fi_parts::memory::{insert_under, items_for, push};
+use std::alloc::Global;
 use std::collections::BTreeMap;
 
 /// The most shelves.
@@ -30,16 +32,16 @@ impl<V: Copy> Labelled<V> {
     ghost use Rattle.fi_scripts.specs.Standing.{standing};
 
     /// An empty one with about so many shelves of each kind.
-    pub fn new(alloc: Global, shelf_count: usize) -> Result<Self, AllocError>
+    pub fn new(alloc: Global, shelf_count: usize) -> Result<Self, Refused>
         ensures empty { IfOk result (λ labelled. (code : ℕ) → standing labelled code ≡ None) }
     {
         // An odd number, since labels are numbers in base 256.
         let count = shelf_count.min(MOST_SHELVES) / 2 * 2 + 1;
-        let mut short = Vec::with_capacity(alloc, count)?;
-        let mut long = Vec::with_capacity(alloc, count)?;
+        let mut short = items_for(alloc, count)?;
+        let mut long = items_for(alloc, count)?;
         for _ in 0..count {
-            short.push(BTreeMap::new(alloc))?;
-            long.push(BTreeMap::new(alloc))?;
+            push(&mut short, BTreeMap::new(alloc))?;
+            push(&mut long, BTreeMap::new(alloc))?;
         }
         Ok(Labelled { short, long })
     }
@@ -65,21 +67,15 @@ impl<V: Copy> Labelled<V> {
     }
 
     /// Puts a value under a label, in the place of what stood there.
-    pub fn insert(&mut self, label: Label, value: V) -> Result<(), AllocError>
+    pub fn insert(&mut self, label: Label, value: V) -> Result<(), Refused>
         ensures stored { OnOk result (Stores label.code (Some value) (standing self.old)
             (standing self.new)) }
     {
         let at = self.shelf_number(label);
         let Some(code) = label.short_code() else {
-            return match self.long[at].insert(label.code(), value) {
-                Ok(_) => Ok(()),
-                Err(_) => Err(AllocError),
-            };
+            return insert_under(&mut self.long[at], label.code(), value);
         };
-        match self.short[at].insert(code, value) {
-            Ok(_) => Ok(()),
-            Err(_) => Err(AllocError),
-        }
+        insert_under(&mut self.short[at], code, value)
     }
 
     /// Takes out what stands under a label.

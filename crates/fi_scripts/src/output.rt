@@ -7,6 +7,7 @@ ghost use Rattle.fi_scripts.specs.Outputs.{GoesOn, Collects, SameWriter};
 ghost use Rattle.std.specs.Fmt.{decimal};
 
 use crate::fault::ScriptFault;
+use fi_parts::memory::{extend, push};
 use itoa::Buffer;
 use std::io::Write;
 
@@ -69,9 +70,9 @@ impl<'a, W: Write> Output<'a, W> {
         ensures collects { Collects self.old self.new }
         ensures fault { IfErr result (λ fault. fault ≡ ScriptFault.NoMemory) }
     {
-        match self.collected.extend_from_slice(text) {
+        match extend(self.collected, text) {
             Ok(()) => Ok(()),
-            Err(_) => Err(ScriptFault::NoMemory),
+            Err(refused) => Err(ScriptFault::from(refused)),
         }
     }
 
@@ -81,9 +82,9 @@ impl<'a, W: Write> Output<'a, W> {
         ensures collects { Collects self.old self.new }
         ensures fault { IfErr result (λ fault. fault ≡ ScriptFault.NoMemory) }
     {
-        match self.collected.push(byte) {
+        match push(self.collected, byte) {
             Ok(()) => Ok(()),
-            Err(_) => Err(ScriptFault::NoMemory),
+            Err(refused) => Err(ScriptFault::from(refused)),
         }
     }
 

@@ -77,7 +77,7 @@ fn put_fault<W: Write>(fault: Fault, output: &mut Output<'_, W>) -> Result<(), S
     ensures fault { IfErr result (λ fault. fault ≡ ScriptFault.NoMemory) }
 {
     match fault {
-        Fault::NoMemory => Err(ScriptFault::NoMemory),
+        Fault::NoMemory { .. } => Err(ScriptFault::of(fault)),
         Fault::NoSlot => output.put(b"no-slot"),
         Fault::Closed => output.put(b"closed"),
         Fault::Full => output.put(b"full"),

@@ -1,12 +1,17 @@
--- What a receive from a channel of many values answers, among threads.
+-- What a receive from a channel answers, among threads.
 use Rattle.std.specs.Prelude.{ℕ, Option, Some, None, Result, Ok, Err}
 use Rattle.futures.specs.declared.task.Poll.{Poll}
 use Rattle.futures.specs.declared.task.waker.Waker.{Waker}
 use Rattle.fi_channels.specs.Channel as channel
 use Rattle.fi_channels.specs.Channel.{ChannelMachine, TriesReceive}
+use Rattle.fi_channels.specs.Oneshot as oneshot
+use Rattle.fi_channels.specs.Oneshot.{Giving, OneshotMachine}
 use Rattle.fi_channels.specs.Polled.{Answered}
+use Rattle.fi_channels.specs.StateBroadcast as state
+use Rattle.fi_channels.specs.StateBroadcast.{StateMachine}
 use Rattle.fi_channels.specs.declared.channel_errors.TryReceiveError.TheVariants as not_received
 use Rattle.fi_channels.specs.declared.channel_errors.TryReceiveError.{TryReceiveError}
+use Rattle.fi_parts.specs.Machine.{phase_at}
 use Rattle.fi_parts.specs.declared.errors.Fault.{Fault}
 use Rattle.fi_sync.specs.Waiting.{InSomeHold, PollsOrRefuses}
 
@@ -25,3 +30,17 @@ module _ {T : Type 0} where
       → ChannelMachine T (Option Waker) → Type 0
   PollsReceive = PollsOrRefuses (λ state name. channel.can_receive (channel.kind_of state name) (channel.receive_phase state name))
       (λ old name waker answer new. Answered (channel.PollsReceive old name waker) (λ fault state. ⊥) answer new) (Err Fault.NoSlot)
+
+  -- The same of a channel that takes one value, and gives it so.
+  abbrev pub PollsOneValue : Giving T → OneshotMachine T (Option Waker) → ℕ → Option Waker → Poll (Result (Option T) Fault)
+      → OneshotMachine T (Option Waker) → Type 0
+  PollsOneValue giving = PollsOrRefuses (λ state name. oneshot.can_receive (phase_at state name))
+      (λ old name waker answer new. Answered (oneshot.Polls giving old name waker) (oneshot.Lacks giving old name) answer new)
+      (Err Fault.NoSlot)
+
+  -- The same of a broadcast of states, whose clones are these and fail or not.
+  abbrev pub PollsState : (T → T → Type 0) → (T → Type 0) → StateMachine T (Option Waker) → ℕ → Option Waker
+      → Poll (Result (Option (ℕ × T)) Fault) → StateMachine T (Option Waker) → Type 0
+  PollsState is_clone is_infallible = PollsOrRefuses (λ state name. oneshot.can_receive (phase_at state name))
+      (λ old name waker answer new. Answered (state.Polls is_clone old name waker) (state.LacksClone is_infallible old name) answer new)
+      (Err Fault.NoSlot)

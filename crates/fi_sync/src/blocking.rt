@@ -3,8 +3,8 @@ ghost use Rattle.std.specs.Prelude.{◌≡◌, IfOk, IfErr};
 ghost use Rattle.fi_parts.specs.declared.errors.Fault.{Fault};
 
 use fi_parts::Fault;
+use fi_parts::memory::block_until;
 use futures::Future;
-use futures::executor::block_on;
 use std::alloc::AllocGlobal;
 use std::random::RandomSource;
 use std::sync::Wait;
@@ -14,6 +14,9 @@ use std::sync::Wait;
 /// # Examples
 ///
 /// ```
+/// use futures_intrusive::blocking::Blocking;
+/// use futures_intrusive::channel::UnbufferedChannel;
+///
 /// fn send_and_close<R: Blocking>(channel: &UnbufferedChannel<u64, R>) {
 ///     let _ = channel.send_blocking(1);
 ///     channel.close();
@@ -31,8 +34,8 @@ pub fn wait_for<R: Blocking, F: Future>(rt: &R, future: F) -> Result<F::Output, 
     ensures given { IfOk result (F.gives future) }
     ensures fault { IfErr result (λ fault. fault ≡ Fault.NoMemory) }
 {
-    match block_on(rt, future) {
+    match block_until(rt, future) {
         Ok(output) => Ok(output),
-        Err(_) => Err(Fault::NoMemory),
+        Err(refused) => Err(Fault::from(refused)),
     }
 }

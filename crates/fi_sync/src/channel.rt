@@ -1,10 +1,9 @@
 //! The channel of many values that threads share.
-ghost use Rattle.std.specs.Prelude.{◌≡◌, Option, IfOk, IfErr, false};
+ghost use Rattle.std.specs.Prelude.{◌≡◌, ◌==◌, not, length, Option, IfOk, IfErr, true, false};
 ghost use Rattle.futures.specs.declared.task.waker.Waker.{Waker};
 ghost use Rattle.fi_parts.specs.declared.errors.Fault.{Fault};
-ghost use Rattle.fi_channels.specs.Channel.{Closes, TriesReceive, TriesSend};
-ghost use Rattle.fi_channels.specs.ChannelErrors.{value_in, is_full};
-ghost use Rattle.fi_channels.specs.declared.channel_errors.TrySendError.{TrySendError};
+ghost use Rattle.fi_channels.specs.Channel.{ChannelMachine, Closes, TriesReceive, TriesSend, has_room};
+ghost use Rattle.fi_channels.specs.ChannelErrors.{value_in, is_full, is_memory};
 ghost use Rattle.fi_sync.specs.Received.{PollsReceive, ReceivesAtOnce};
 ghost use Rattle.fi_sync.specs.Waiting.{InSomeHold, IsNew, WaitedFor};
 
@@ -30,9 +29,13 @@ use std::sync::Wait;
 /// # Examples
 ///
 /// ```
+/// use futures_intrusive::buffer::GrowingHeapBuf;
+/// use futures_intrusive::channel::GenericChannel;
+///
 /// let growing: GenericChannel<u64, GrowingHeapBuf<u64>, HostRuntime> =
 ///     GenericChannel::with_capacity(rt.alloc(), rt, 300).expect(&rt, "memory");
-/// assert!(rt; holds(&growing, 300));              // it takes 300 values, and no more
+/// assert!(rt; growing.capacity() == 300 && growing.try_send(7).is_ok());
+/// assert!(rt; growing.try_receive() == Ok(7));
 /// ```
 #[derive(Drop)]
 pub struct GenericChannel<T: Drop, B: RingBuf<Item = T>, R> {
@@ -44,6 +47,10 @@ pub struct GenericChannel<T: Drop, B: RingBuf<Item = T>, R> {
 /// # Examples
 ///
 /// ```
+/// use futures::test::MockTask;
+/// use futures_intrusive::channel::Channel;
+///
+/// let task = MockTask::new(&rt).expect(&rt, "memory");
 /// let channel = Channel::<u64, 1, HostRuntime>::new(rt.alloc(), rt);
 /// assert!(rt; channel.try_send(1).is_ok());
 /// let mut first = channel.send(2).ok().expect(&rt, "memory");
@@ -61,9 +68,14 @@ pub type Channel<T, const N: usize, R> = GenericChannel<T, ArrayBuf<T, N>, R>;
 /// # Examples
 ///
 /// ```
-/// let channel = UnbufferedChannel::new(rt.alloc(), rt);
-/// assert!(rt; receives_all(&rt, &channel));       // a one, which another thread sends before it closes the channel
-/// assert!(rt; channel.send_blocking(2) == Err(TrySendError::Closed(2)));
+/// use futures::executor::block_on;
+/// use futures::future::join;
+/// use futures_intrusive::channel::UnbufferedChannel;
+///
+/// let channel = UnbufferedChannel::<u64, HostRuntime>::new(rt.alloc(), rt);
+/// let send = channel.send(7).ok().expect(&rt, "memory");
+/// let (sent, received) = block_on(&rt, join(send, channel.receive()?))?;
+/// assert!(rt; sent == Ok(()) && received == Ok(Some(7)));
 /// ```
 pub type UnbufferedChannel<T, R> = Channel<T, 0, R>;
 
@@ -126,27 +138,37 @@ impl<T: Drop, B: RingBuf<Item = T>, R: Wait> GenericChannel<T, B, R> {
     }
 
     /// Returns `true` if the channel was closed when it was looked at.
-    pub fn is_closed(&self) -> bool {
+    pub fn is_closed(&self) -> bool
+        ensures shown { (held : ChannelMachine T (Option Waker)) × (result ≡ not held.own.is_open) }
+    {
         self.monitor.call((), |channel, ()| channel.is_closed())
     }
 
     /// Returns the number of values that were buffered when it was looked at. Those of sends that wait are not counted.
-    pub fn len(&self) -> usize {
+    pub fn len(&self) -> usize
+        ensures shown { (held : ChannelMachine T (Option Waker)) × (result ≡ length held.own.buffer.items) }
+    {
         self.monitor.call((), |channel, ()| channel.len())
     }
 
     /// Returns `true` if no value was buffered when it was looked at.
-    pub fn is_empty(&self) -> bool {
+    pub fn is_empty(&self) -> bool
+        ensures shown { (held : ChannelMachine T (Option Waker)) × (result ≡ (length held.own.buffer.items == 0)) }
+    {
         self.monitor.call((), |channel, ()| channel.is_empty())
     }
 
     /// Returns `true` if the buffer had no room for one more value when it was looked at; with capacity 0 always.
-    pub fn is_full(&self) -> bool {
+    pub fn is_full(&self) -> bool
+        ensures shown { (held : ChannelMachine T (Option Waker)) × (result ≡ not (has_room held.own)) }
+    {
         self.monitor.call((), |channel, ()| channel.is_full())
     }
 
     /// Returns the most values that the buffer can hold.
-    pub fn capacity(&self) -> usize {
+    pub fn capacity(&self) -> usize
+        ensures shown { (held : ChannelMachine T (Option Waker)) × (result ≡ held.own.buffer.capacity) }
+    {
         self.monitor.call((), |channel, ()| channel.capacity())
     }
 
@@ -214,11 +236,11 @@ impl<T: Drop, B: RingBuf<Item = T>, R: Blocking> GenericChannel<T, B, R> {
         &self,
         value: T,
     ) -> Result<ChannelSendFuture<'_, ChannelState<T, B, PollWaker>, R>, TrySendError<T>>
-        ensures handed_back { IfErr result (λ refused. refused ≡ TrySendError.NoMemory value) }
+        ensures handed_back { IfErr result (λ refused. (value_in refused ≡ value) × (is_memory refused ≡ true)) }
     {
         match self.send(value) {
             Ok(send) => Ok(send),
-            Err(NoRoom(value)) => Err(TrySendError::NoMemory(value)),
+            Err(failed) => Err(TrySendError::NoMemory(failed)),
         }
     }
 

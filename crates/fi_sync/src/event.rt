@@ -23,15 +23,14 @@ use std::sync::Wait;
 /// # Examples
 ///
 /// ```
-/// let event = ManualResetEvent::new(rt.alloc(), rt, true);
-/// let mut waiting = event.wait().expect(&rt, "memory");
-/// let mut ended = event.wait().expect(&rt, "memory");
-/// assert!(rt; other.poll(&mut ended) == Poll::Ready(Ok(())));
-/// event.reset();
-/// assert!(rt; own.poll(&mut waiting).is_pending());
-/// assert!(rt; other.poll(&mut ended).is_pending() && !own.is_woken());
-/// event.set();
-/// assert!(rt; own.is_woken() && own.poll(&mut waiting) == Poll::Ready(Ok(())));
+/// use futures_intrusive::sync::ManualResetEvent;
+/// use std::thread;
+///
+/// let is_loaded = ManualResetEvent::new(rt.alloc(), rt, false);
+/// let serve = || is_loaded.wait_blocking() == Ok(()); // blocks until another thread sets the event
+/// let load = || is_loaded.set();
+/// let (is_served, ()) = thread::join(&rt, serve, load);
+/// assert!(rt; is_served && is_loaded.is_set());
 /// ```
 #[derive(Drop)]
 pub struct ManualResetEvent<R> {

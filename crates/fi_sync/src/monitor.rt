@@ -1,5 +1,5 @@
 //! A state whose calls are made one at a time, each in one hold of a lock.
-ghost use Rattle.std.specs.Prelude.{◌≡◌, ℕ, true, Ok, Err, IfOk, IfErr, IfSome, IfNone};
+ghost use Rattle.std.specs.Prelude.{◌≡◌, ℕ, true, Ok, Err, IfOk, IfErr, IfSome, IfNone, is_some};
 ghost use Rattle.std.specs.Borrow.{MutBor};
 ghost use Rattle.futures.specs.Poll.{OnPending};
 ghost use Rattle.futures.specs.Task.{Covers, Keeps};
@@ -11,7 +11,7 @@ mod taken_apart;
 use crate::claim::{Cancel, Claim, Fate};
 use crate::slot_future::{PollSlot, SlotPolled};
 use crate::wakes::{Guarded, HasOutbox};
-use fi_parts::Slot;
+use fi_parts::{Refused, Slot};
 use futures::task::{Context, Source, Waker};
 use std::alloc::Global;
 use std::marker::Model;
@@ -99,6 +99,7 @@ impl<S: HasOutbox, R: Wait> Monitor<S, R> {
         claim: Claim<K>,
         cx: &mut Context<'_>,
         spare: &mut Option<Waker>,
+        refused: &mut Option<Refused>,
     ) -> (SlotPolled<S::Output>, Fate<K, S::Left>)
     where
         S: PollSlot<K>,
@@ -106,9 +107,12 @@ impl<S: HasOutbox, R: Wait> Monitor<S, R> {
         ensures registered { IfSome result.0 (λ polled. OnPending polled.0 (Covers cx.new (λ s. s ≡ self.now))) }
         ensures lacks { IfNone result.0 (cx.new.lacks_waker ≡ true) }
         ensures put_off { IfNone result.0 (HadToWait S.would_wait claim) }
+        ensures refused { IfNone result.0 (is_some refused.new ≡ true) }
         ensures kept { Keeps cx.old cx.new }
     {
-        let (polled, fate, owed) = self.state.poll(&self.rt, claim, cx, &self.source, spare);
+        let (polled, fate, owed) = self
+            .state
+            .poll(&self.rt, claim, cx, &self.source, spare, refused);
         owed.pay(&self.rt);
         (polled, fate)
     }

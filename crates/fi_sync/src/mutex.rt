@@ -1,12 +1,14 @@
 //! The mutex that threads share, its guard and its future.
-ghost use Rattle.std.specs.Prelude.{◌≡◌, [], ℕ, Result, true, IfOk, IfErr, is_ok, ⊤};
+ghost use Rattle.std.specs.Prelude.{◌≡◌, [], ℕ, Option, Some, Result, Err, true, not, IfOk, IfErr, is_ok, ⊤};
 ghost use Rattle.std.specs.Borrow.{Lends, sem};
 ghost use Rattle.futures.specs.declared.task.Poll.{Poll};
 ghost use Rattle.futures.specs.Poll.{OnPending, IfReady};
 ghost use Rattle.futures.specs.Task.{Covers, Keeps};
+ghost use Rattle.futures.specs.declared.task.waker.Waker.{Waker};
+ghost use Rattle.fi_locks.specs.Mutex.{MutexMachine, TriesLock, is_free};
 ghost use Rattle.fi_parts.specs.declared.errors.Fault.{Fault};
-ghost use Rattle.fi_sync.specs.Locked.{IsLockAnswer};
-ghost use Rattle.fi_sync.specs.Waiting.{IsNew, polled};
+ghost use Rattle.fi_sync.specs.Locked.{IsLockAnswer, PollsLock};
+ghost use Rattle.fi_sync.specs.Waiting.{InSomeHold, IsGiven, IsNew, WaitedFor, polled};
 ghost use Rattle.fi_sync.specs.Blanks.{IsLockBlank};
 
 use crate::blocking::{Blocking, wait_for};
@@ -32,15 +34,32 @@ use std::sync::ledger::{Blank, Ledger};
 /// # Examples
 ///
 /// ```
-/// for _ in 0..ROUNDS {
-///     if let Ok(mut guard) = mutex.lock_blocking() {
-///         *guard = guard.saturating_add(1);
-///     }
+/// ghost use Rattle.futures_intrusive.specs.Blanks.{IsLockBlank};
+///
+/// use futures_intrusive::blocking::Blocking;
+/// use futures_intrusive::sync::Mutex;
+/// use std::marker::Brand;
+/// use std::sync::ledger::{Blank, Ledger};
+/// use std::thread;
+/// use std::thread::Threads;
+///
+/// // `R` is the runtime, which waits for the lock; `L` is the ledger that counts the mutex's guards, and `blank` begins it.
+/// fn add_up<R, L: Ledger + Send + Sync>(rt: R, blank: Blank) -> Option<u64>
+/// where
+///     R: Blocking + Threads + Copy + Drop + Send + Sync,
+///     requires blank { IsLockBlank L.Ledger blank }
+/// {
+///     let sum = Mutex::<u64, R, L>::new(rt.alloc(), rt, blank, 0, true); // a fair one
+///     let add = |part: u64| {
+///         if let Ok(mut guard) = sum.lock_blocking() {
+///             *guard = guard.wrapping_add(part);
+///         }
+///     };
+///     thread::join(&rt, || add(3), || add(4));
+///     sum.into_inner()
 /// }
 /// // ..
-/// let mutex = Mutex::<u64, R, L>::new(rt.alloc(), rt, blank, 0, is_fair);
-/// add_all(&rt, &mutex);                           // the loop, in four threads
-/// assert!(rt; *mutex.try_lock().expect(&rt, "free") == 4 * ROUNDS);
+/// assert!(rt; add_up::<HostRuntime, Brand>(rt, Blank::new(1)) == Some(7));
 /// ```
 #[derive(Drop)]
 pub struct Mutex<T, R, L: Ledger> {
@@ -103,7 +122,9 @@ impl<T: Drop, R: Wait, L: Ledger> Mutex<T, R, L> {
     /// Locks the mutex at once: its guard. None where it is locked, or is fair and a future is queued for it. Keeps
     /// `GenericMutex::try_lock`.
     #[inline(always)]
-    pub fn try_lock(&self) -> Option<MutexGuard<'_, T, R, L>> {
+    pub fn try_lock(&self) -> Option<MutexGuard<'_, T, R, L>>
+        ensures tried { InSomeHold (λ old. TriesLock {W = Option Waker} old result) }
+    {
         let Locked { value, hold } = self.monitor.call((), |mutex, ()| mutex.try_lock())?;
         Some(MutexGuard {
             monitor: &self.monitor,
@@ -113,7 +134,9 @@ impl<T: Drop, R: Wait, L: Ledger> Mutex<T, R, L> {
     }
 
     /// Returns `true` if somebody held the mutex when it was looked at. Keeps `GenericMutex::is_locked`.
-    pub fn is_locked(&self) -> bool {
+    pub fn is_locked(&self) -> bool
+        ensures shown { (held : MutexMachine T (Option Waker)) × (result ≡ not (is_free held)) }
+    {
         self.monitor.call((), |mutex, ()| mutex.is_locked())
     }
 }
@@ -121,7 +144,9 @@ impl<T: Drop, R: Wait, L: Ledger> Mutex<T, R, L> {
 impl<T: Drop, R: Blocking, L: Ledger> Mutex<T, R, L> {
     /// Blocks this thread until the mutex is free for it, and locks it: its guard. Refused with `NoMemory` where no future or no
     /// executor can be made.
-    pub fn lock_blocking(&self) -> Result<MutexGuard<'_, T, R, L>, Fault> {
+    pub fn lock_blocking(&self) -> Result<MutexGuard<'_, T, R, L>, Fault>
+        ensures waited { WaitedFor (λ value. InSomeHold (λ old. TriesLock {W = Option Waker} old (Some value))) PollsLock result }
+    {
         if let Some(guard) = self.try_lock() {
             return Ok(guard);
         }
@@ -231,11 +256,14 @@ impl<'a, T: Drop, R: Wait, L: Ledger> Future for MutexLockFuture<'a, T, R, L> {
 
     ghost needs = { λ lock source. source ≡ lock.source };
 
+    ghost gives = { λ lock. IsGiven PollsLock (Err Fault.NoMemory) };
+
     #[inline(always)]
     fn poll(&mut self, cx: &mut Context<'_>) -> Poll<Result<MutexGuard<'a, T, R, L>, Fault>>
-        ensures value { IfReady result (λ _. ⊤) }
+        ensures value { IfReady result (IsGiven PollsLock (Err Fault.NoMemory)) }
         ensures again { OnPending result ⊤ }
-        ensures same { OnPending result ((output : Result T Fault) → ⊤ → ⊤) }
+        ensures same { OnPending result ((output : Result T Fault) → IsGiven PollsLock (Err Fault.NoMemory) output
+            → IsGiven PollsLock (Err Fault.NoMemory) output) }
         ensures registered { OnPending result (Covers cx.new (λ source. source ≡ self.new.source)) }
         ensures kept { Keeps cx.old cx.new }
         ensures stands { self.new ≡ polled is_ok self.old result }

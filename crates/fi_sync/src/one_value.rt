@@ -1,7 +1,10 @@
 //! The channels for one value that threads share.
-ghost use Rattle.std.specs.Prelude.{◌≡◌, IfOk, IfErr};
+ghost use Rattle.std.specs.Prelude.{◌≡◌, Option, IfOk, IfErr};
+ghost use Rattle.futures.specs.declared.task.waker.Waker.{Waker};
+ghost use Rattle.fi_channels.specs.Oneshot.{OneshotMachine, Closes, Sends, has_closed};
 ghost use Rattle.fi_parts.specs.declared.errors.Fault.{Fault};
-ghost use Rattle.fi_sync.specs.Waiting.{IsNew};
+ghost use Rattle.fi_sync.specs.Received.{PollsOneValue};
+ghost use Rattle.fi_sync.specs.Waiting.{InSomeHold, IsNew, WaitedFor};
 
 use crate::blocking::{Blocking, wait_for};
 use crate::monitor::Monitor;
@@ -28,17 +31,15 @@ pub struct OneValueChannel<T: Drop, G: GivesValue<T>, R> {
 /// # Examples
 ///
 /// ```
-/// let channel = sends(OneshotChannel::<u64, R>::new(rt.alloc(), rt));
-/// let channel = shares(&channel);
-/// assert!(rt; !channel.is_closed());
-/// let receive = sends(channel.receive().expect(&rt, "memory"));
-/// let rt = &rt;
-/// let (received, is_sent) = thread::join(
-///     rt,
-///     move || block_on(rt, receive).ok(),
-///     move || channel.send(7).is_ok(),
-/// );
-/// assert!(*rt; is_sent && received == Some(Ok(Some(7))) && channel.is_closed());
+/// use futures_intrusive::channel::OneshotChannel;
+/// use std::thread;
+///
+/// let answer = OneshotChannel::<u64, HostRuntime>::new(rt.alloc(), rt);
+/// let ask = || answer.receive_blocking() == Ok(Some(42));
+/// let tell = || answer.send(42).is_ok();
+/// let (is_right, is_sent) = thread::join(&rt, ask, tell);
+/// assert!(rt; is_right && is_sent);
+/// assert!(rt; answer.send(43).is_err()); // it takes one value
 /// ```
 pub type OneshotChannel<T, R> = OneValueChannel<T, TakesValue, R>;
 
@@ -48,6 +49,11 @@ pub type OneshotChannel<T, R> = OneValueChannel<T, TakesValue, R>;
 /// # Examples
 ///
 /// ```
+/// use futures::task::Poll;
+/// use futures::test::MockTask;
+/// use futures_intrusive::channel::OneshotBroadcastChannel;
+///
+/// let task = MockTask::new(&rt).expect(&rt, "memory");
 /// let channel = OneshotBroadcastChannel::<u64, HostRuntime>::new(rt.alloc(), rt);
 /// let mut unpolled = channel.receive().expect(&rt, "memory");
 /// let mut ended = channel.receive().expect(&rt, "memory");
@@ -79,19 +85,24 @@ impl<T: Drop, G: GivesValue<T>, R: Wait> OneValueChannel<T, G, R> {
     /// Sends the one value, and wakes all receives that wait, the oldest first. Refused, with the value, where one was sent before or the
     /// channel is closed. Keeps `OneshotChannel::send`.
     pub fn send(&self, value: T) -> Result<(), ChannelSendError<T>>
-        ensures { IfErr result (λ refused. refused.0 ≡ value) }
+        ensures sent { InSomeHold (λ old. Sends {W = Option Waker} old value result) }
+        ensures handed_back { IfErr result (λ refused. refused.0 ≡ value) }
     {
         self.monitor.call(value, OneValueState::send)
     }
 
     /// Closes the channel and wakes all receives that wait, the oldest first. `AlreadyClosed` where it took no value any more;
     /// then nothing has changed. Keeps `OneshotChannel::close`.
-    pub fn close(&self) -> CloseStatus {
+    pub fn close(&self) -> CloseStatus
+        ensures closed { InSomeHold (λ old. Closes {T = T} {W = Option Waker} old result) }
+    {
         self.monitor.call((), |channel, ()| channel.close())
     }
 
     /// Returns `true` if the channel took no value any more when it was looked at: one was sent, or it was closed.
-    pub fn is_closed(&self) -> bool {
+    pub fn is_closed(&self) -> bool
+        ensures shown { (held : OneshotMachine T (Option Waker)) × (result ≡ has_closed held.own) }
+    {
         self.monitor.call((), |channel, ()| channel.is_closed())
     }
 
@@ -114,7 +125,9 @@ impl<T: Drop, G: GivesValue<T>, R: Wait> OneValueChannel<T, G, R> {
 impl<T: Drop, G: GivesValue<T>, R: Blocking> OneValueChannel<T, G, R> {
     /// Blocks this thread until the value comes, and receives it as `receive`: None if none will come. Refused with `NoMemory`
     /// where no future or no executor can be made, or there is no memory to clone the value into; then it took nothing.
-    pub fn receive_blocking(&self) -> Result<Option<T>, Fault> {
+    pub fn receive_blocking(&self) -> Result<Option<T>, Fault>
+        ensures waited { WaitedFor (λ _. ⊥) (PollsOneValue G.giving) result }
+    {
         let receive = self.receive()?;
         wait_for(self.monitor.runtime(), receive)?
     }

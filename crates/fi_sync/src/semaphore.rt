@@ -1,7 +1,10 @@
 //! The semaphore that threads share by reference.
-ghost use Rattle.std.specs.Prelude.{◌≡◌, IfOk, IfErr, IfSome};
+ghost use Rattle.std.specs.Prelude.{◌≡◌, ◌≤◌, ◌+◌, ◌^◌, Option, true, IfOk, IfErr, IfSome, is_some};
+ghost use Rattle.futures.specs.declared.task.waker.Waker.{Waker};
+ghost use Rattle.fi_locks.specs.Semaphore.{SemaphoreMachine, Releases, TriesAcquire};
 ghost use Rattle.fi_parts.specs.declared.errors.Fault.{Fault};
-ghost use Rattle.fi_sync.specs.Waiting.{IsNew};
+ghost use Rattle.fi_sync.specs.Granted.{PollsAcquire};
+ghost use Rattle.fi_sync.specs.Waiting.{InSomeHold, IsNew, WaitedFor};
 ghost use Rattle.fi_sync.specs.Blanks.{IsPermitBlank};
 
 use crate::blocking::{Blocking, wait_for};
@@ -25,16 +28,28 @@ use std::sync::ledger::{Blank, Ledger};
 /// # Examples
 ///
 /// ```
-/// for _ in 0..ROUNDS {
-///     if semaphore.acquire_blocking(2).is_ok() {
-///         granted.fetch_add(1, Ordering::SeqCst);
-///     }
+/// ghost use Rattle.futures_intrusive.specs.Blanks.{IsPermitBlank};
+///
+/// use futures_intrusive::blocking::Blocking;
+/// use futures_intrusive::sync::Semaphore;
+/// use std::marker::Brand;
+/// use std::sync::ledger::{Blank, Ledger};
+///
+/// // `R` is the runtime, which waits for the lock; `L` is the ledger that counts the permits held, and `blank` begins it.
+/// fn connect<R: Blocking + Copy, L: Ledger>(rt: R, blank: Blank) -> bool
+/// where
+///     requires blank { IsPermitBlank L.Ledger blank }
+/// {
+///     let connections = Semaphore::<R, L>::new(rt.alloc(), rt, blank, true, 2); // fair, at most two at a time
+///     let Ok(permit) = connections.acquire_blocking(2) else {
+///         return false;
+///     };
+///     let are_all_taken = connections.try_acquire(1).is_none();
+///     drop(permit); // gives them back, and wakes who waits for them
+///     are_all_taken && connections.permits() == 2
 /// }
 /// // ..
-/// let semaphore = Semaphore::<R, L>::new(rt.alloc(), rt, blank, true, 3);
-/// let granted = AtomicU64::new(0);
-/// take_all(&rt, &semaphore, &granted);            // the loop, in four threads
-/// assert!(rt; granted.load(Ordering::SeqCst) == 4 * ROUNDS && semaphore.permits() == 3);
+/// assert!(rt; connect::<HostRuntime, Brand>(rt, Blank::new(u64::MAX)));
 /// ```
 #[derive(Drop)]
 pub struct Semaphore<R, L: Ledger> {
@@ -89,7 +104,8 @@ impl<R: Wait, L: Ledger> Semaphore<R, L> {
     /// None if they are not granted. Keeps `GenericSemaphore::try_acquire`.
     #[inline(always)]
     pub fn try_acquire(&self, permits: usize) -> Option<SemaphoreReleaser<'_, R, L>>
-        ensures { IfSome result (λ releaser. releaser ≡ permits) }
+        ensures tried { InSomeHold (λ old. TriesAcquire {W = Option Waker} old permits (is_some result)) }
+        ensures granted { IfSome result (λ releaser. releaser ≡ permits) }
     {
         let grant = self.monitor.call(permits, CountedSemaphore::try_acquire)?;
         Some(SemaphoreReleaserOf::of(&self.monitor, grant))
@@ -100,18 +116,24 @@ impl<R: Wait, L: Ledger> Semaphore<R, L> {
     /// Refused with `Overflow` if the permits, free and held, would be more than `usize::MAX`; then nothing has changed.
     /// Keeps `GenericSemaphore::release`, which does not check.
     pub fn release(&self, permits: usize) -> Result<(), Fault>
-        ensures { IfErr result (λ fault. fault ≡ Fault.Overflow) }
+        ensures released { IfOk result (λ _. InSomeHold (λ old. Releases {W = Option Waker} old permits)) }
+        ensures refused { IfErr result (λ fault. (fault ≡ Fault.Overflow)
+            × (held : SemaphoreMachine (Option Waker)) × (2 ^ 64 ≤ held.own.free + held.own.held + permits)) }
     {
         self.monitor.call(permits, CountedSemaphore::release)
     }
 
     /// How many permits were free when it was looked at. Keeps `GenericSemaphore::permits`.
-    pub fn permits(&self) -> usize {
+    pub fn permits(&self) -> usize
+        ensures shown { (held : SemaphoreMachine (Option Waker)) × (result ≡ held.own.free) }
+    {
         self.monitor.call((), |semaphore, ()| semaphore.permits())
     }
 
     /// How many permits were held when it was looked at. The Rust crate does not count them.
-    pub fn held(&self) -> usize {
+    pub fn held(&self) -> usize
+        ensures shown { (held : SemaphoreMachine (Option Waker)) × (result ≡ held.own.held) }
+    {
         self.monitor.call((), |semaphore, ()| semaphore.held())
     }
 }
@@ -119,7 +141,10 @@ impl<R: Wait, L: Ledger> Semaphore<R, L> {
 impl<R: Blocking, L: Ledger> Semaphore<R, L> {
     /// Blocks this thread until this many permits are granted: their releaser. Refused with `NoMemory` where no future or no
     /// executor can be made.
-    pub fn acquire_blocking(&self, permits: usize) -> Result<SemaphoreReleaser<'_, R, L>, Fault> {
+    pub fn acquire_blocking(&self, permits: usize) -> Result<SemaphoreReleaser<'_, R, L>, Fault>
+        ensures waited { WaitedFor (λ granted. (granted ≡ permits)
+            × InSomeHold (λ old. TriesAcquire {W = Option Waker} old permits true)) PollsAcquire result }
+    {
         if let Some(releaser) = self.try_acquire(permits) {
             return Ok(releaser);
         }

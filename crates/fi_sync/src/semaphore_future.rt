@@ -1,11 +1,11 @@
 //! The future that acquires permits of a semaphore that threads share.
-ghost use Rattle.std.specs.Prelude.{◌≡◌, ℕ, Result, Some, true, false, is_ok, ⊤};
+ghost use Rattle.std.specs.Prelude.{◌≡◌, ℕ, Some, Result, Err, true, false, is_ok, ⊤};
 ghost use Rattle.futures.specs.declared.task.Poll.{Poll};
 ghost use Rattle.futures.specs.Poll.{OnPending, IfReady};
 ghost use Rattle.futures.specs.Task.{Covers, Keeps};
 ghost use Rattle.fi_parts.specs.declared.errors.Fault.{Fault};
-ghost use Rattle.fi_sync.specs.Granted.{IsAcquireAnswer};
-ghost use Rattle.fi_sync.specs.Waiting.{polled};
+ghost use Rattle.fi_sync.specs.Granted.{IsAcquireAnswer, PollsAcquire};
+ghost use Rattle.fi_sync.specs.Waiting.{IsGiven, polled};
 
 use crate::claim::Claim;
 use crate::counted_semaphore::CountedSemaphore;
@@ -68,11 +68,14 @@ impl<M: HasMonitor<State = CountedSemaphore<L>>, L: Ledger> Future
 
     ghost needs = { λ acquire source. source ≡ acquire.source };
 
+    ghost gives = { λ acquire. IsGiven PollsAcquire (Err Fault.NoMemory) };
+
     #[inline(always)]
     fn poll(&mut self, cx: &mut Context<'_>) -> Poll<Result<SemaphoreReleaserOf<M, L>, Fault>>
-        ensures value { IfReady result (λ _. ⊤) }
+        ensures value { IfReady result (IsGiven PollsAcquire (Err Fault.NoMemory)) }
         ensures again { OnPending result ⊤ }
-        ensures same { OnPending result ((output : Result ℕ Fault) → ⊤ → ⊤) }
+        ensures same { OnPending result ((output : Result ℕ Fault) → IsGiven PollsAcquire (Err Fault.NoMemory) output
+            → IsGiven PollsAcquire (Err Fault.NoMemory) output) }
         ensures registered { OnPending result (Covers cx.new (λ source. source ≡ self.new.source)) }
         ensures kept { Keeps cx.old cx.new }
         ensures stands { self.new ≡ polled is_ok self.old result }

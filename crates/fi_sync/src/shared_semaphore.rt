@@ -1,8 +1,11 @@
 //! The semaphore that its owners share: it lives while one of them, a future or a releaser of theirs does.
 ghost use Rattle.std.specs.Arc.{arc_value};
-ghost use Rattle.std.specs.Prelude.{◌≡◌, IfOk, IfErr, IfSome};
+ghost use Rattle.std.specs.Prelude.{◌≡◌, ◌≤◌, ◌+◌, ◌^◌, Option, true, IfOk, IfErr, IfSome, is_some};
+ghost use Rattle.futures.specs.declared.task.waker.Waker.{Waker};
+ghost use Rattle.fi_locks.specs.Semaphore.{SemaphoreMachine, Releases, TriesAcquire};
 ghost use Rattle.fi_parts.specs.declared.errors.Fault.{Fault};
-ghost use Rattle.fi_sync.specs.Waiting.{IsNew};
+ghost use Rattle.fi_sync.specs.Granted.{PollsAcquire};
+ghost use Rattle.fi_sync.specs.Waiting.{InSomeHold, IsNew, WaitedFor};
 ghost use Rattle.fi_sync.specs.Blanks.{IsPermitBlank};
 
 use crate::blocking::{Blocking, wait_for};
@@ -10,7 +13,8 @@ use crate::counted_semaphore::CountedSemaphore;
 use crate::monitor::Monitor;
 use crate::semaphore_future::SemaphoreAcquireFutureOf;
 use crate::semaphore_releaser::SemaphoreReleaserOf;
-use fi_parts::Fault;
+use fi_parts::memory::{share, shared};
+use fi_parts::{Fault, Refused};
 use std::alloc::Global;
 use std::marker::Model;
 use std::sync::ledger::{Blank, Ledger};
@@ -24,14 +28,28 @@ use std::sync::{Arc, Wait};
 /// # Examples
 ///
 /// ```
-/// let mut acquire = semaphore.acquire(1).expect(rt, "memory");
-/// drop(semaphore);
-/// let is_pending = task.poll(&mut acquire).is_pending();
-/// drop(both);                                     // a releaser of all permits
-/// let is_woken = task.is_woken();
-/// let Poll::Ready(Ok(releaser)) = task.poll(&mut acquire) else {
-///     panic!(*rt; "ready");
-/// };
+/// ghost use Rattle.futures_intrusive.specs.Blanks.{IsPermitBlank};
+///
+/// use futures_intrusive::blocking::Blocking;
+/// use futures_intrusive::sync::SharedSemaphore;
+/// use std::marker::Brand;
+/// use std::sync::ledger::{Blank, Ledger};
+///
+/// // `R` is the runtime, which waits for the lock; `L` is the ledger that counts the permits held, and `blank` begins it.
+/// fn outlives<R: Blocking + Copy + Drop, L: Ledger>(rt: R, blank: Blank) -> Option<usize>
+/// where
+///     requires blank { IsPermitBlank L.Ledger blank }
+/// {
+///     let permits = SharedSemaphore::<R, L>::new(rt.alloc(), rt, blank, true, 2).ok()?; // fair, two permits
+///     let other = permits.clone().ok()?;
+///     let permit = permits.try_acquire(1).ok()??;
+///     drop(permits); // `permit` and `other` share the semaphore still
+///     let free = other.permits();
+///     drop(permit); // gives it back
+///     Some(free)
+/// }
+/// // ..
+/// assert!(rt; outlives::<HostRuntime, Brand>(rt, Blank::new(u64::MAX)) == Some(1));
 /// ```
 #[derive(Drop)]
 pub struct SharedSemaphore<R: Wait + Drop, L: Ledger> {
@@ -74,10 +92,8 @@ impl<R: Wait + Drop, L: Ledger> SharedSemaphore<R, L> {
         ensures { IfErr result (λ fault. fault ≡ Fault.NoMemory) }
     {
         let counted = CountedSemaphore::new(alloc, blank, is_fair, permits);
-        match Arc::new(alloc, Monitor::new(rt, counted)) {
-            Ok(monitor) => Ok(SharedSemaphore { monitor }),
-            Err(_) => Err(Fault::NoMemory),
-        }
+        let monitor = shared(alloc, Monitor::new(rt, counted))?;
+        Ok(SharedSemaphore { monitor })
     }
 
     /// One more owner of the same semaphore. Refused with `NoMemory` only where 2^63 - 1 are counted. Keeps the `Clone` of
@@ -114,6 +130,7 @@ impl<R: Wait + Drop, L: Ledger> SharedSemaphore<R, L> {
         &self,
         permits: usize,
     ) -> Result<Option<SharedSemaphoreReleaser<R, L>>, Fault>
+        ensures tried { IfOk result (λ granted. InSomeHold (λ old. TriesAcquire {W = Option Waker} old permits (is_some granted))) }
         ensures granted { IfOk result (λ granted. IfSome granted (λ releaser. releaser ≡ permits)) }
         ensures fault { IfErr result (λ fault. fault ≡ Fault.NoMemory) }
     {
@@ -127,18 +144,24 @@ impl<R: Wait + Drop, L: Ledger> SharedSemaphore<R, L> {
     /// Adds free permits, as `Semaphore::release`, and is refused with `Overflow` as there. Keeps
     /// `GenericSharedSemaphore::release`, which does not check.
     pub fn release(&self, permits: usize) -> Result<(), Fault>
-        ensures { IfErr result (λ fault. fault ≡ Fault.Overflow) }
+        ensures released { IfOk result (λ _. InSomeHold (λ old. Releases {W = Option Waker} old permits)) }
+        ensures refused { IfErr result (λ fault. (fault ≡ Fault.Overflow)
+            × (held : SemaphoreMachine (Option Waker)) × (2 ^ 64 ≤ held.own.free + held.own.held + permits)) }
     {
         self.monitor.call(permits, CountedSemaphore::release)
     }
 
     /// How many permits were free when it was looked at. Keeps `GenericSharedSemaphore::permits`.
-    pub fn permits(&self) -> usize {
+    pub fn permits(&self) -> usize
+        ensures shown { (held : SemaphoreMachine (Option Waker)) × (result ≡ held.own.free) }
+    {
         self.monitor.call((), |semaphore, ()| semaphore.permits())
     }
 
     /// How many permits were held when it was looked at. The Rust crate does not count them.
-    pub fn held(&self) -> usize {
+    pub fn held(&self) -> usize
+        ensures shown { (held : SemaphoreMachine (Option Waker)) × (result ≡ held.own.held) }
+    {
         self.monitor.call((), |semaphore, ()| semaphore.held())
     }
 
@@ -147,6 +170,8 @@ impl<R: Wait + Drop, L: Ledger> SharedSemaphore<R, L> {
     pub fn acquire_blocking(&self, permits: usize) -> Result<SharedSemaphoreReleaser<R, L>, Fault>
     where
         R: Blocking,
+        ensures waited { WaitedFor (λ granted. (granted ≡ permits)
+            × InSomeHold (λ old. TriesAcquire {W = Option Waker} old permits true)) PollsAcquire result }
     {
         if let Some(releaser) = self.try_acquire(permits)? {
             return Ok(releaser);
@@ -155,13 +180,9 @@ impl<R: Wait + Drop, L: Ledger> SharedSemaphore<R, L> {
         wait_for(self.monitor.runtime(), acquire)?
     }
 
-    fn share(&self) -> Result<Arc<Monitor<CountedSemaphore<L>, R>, Global>, Fault>
-        ensures same { IfOk result (λ shared. arc_value shared ≡ self.now) }
-        ensures fault { IfErr result (λ fault. fault ≡ Fault.NoMemory) }
+    fn share(&self) -> Result<Arc<Monitor<CountedSemaphore<L>, R>, Global>, Refused>
+        ensures { IfOk result (λ shared. arc_value shared ≡ self.now) }
     {
-        match Arc::try_clone(&self.monitor) {
-            Ok(shared) => Ok(shared),
-            Err(_) => Err(Fault::NoMemory),
-        }
+        share(&self.monitor)
     }
 }

@@ -11,7 +11,7 @@ ghost use Rattle.fi_sync.specs.Waiting.{ends, polled, IsAnswer, IsGiven, IsLeftB
 use crate::claim::{Cancel, Claim};
 use crate::monitor::HasMonitor;
 use crate::wakes::PollWaker;
-use fi_parts::{Fault, Leftover, Slot};
+use fi_parts::{Fault, Leftover, Refused, Slot};
 use futures::Future;
 use futures::task::{Context, Poll, Waker};
 use std::marker::Model;
@@ -57,6 +57,17 @@ pub(crate) fn no_slot<T>(waker: PollWaker) -> SlotPolled<Result<T, Fault>>
 {
     let answer = Poll::Ready(Err(Fault::NoSlot));
     Some((answer, Leftover::of(None, Some(waker))))
+}
+
+// Why a poll was refused that could make no waker.
+fn no_waker(refused: Option<Refused>) -> Fault
+    requires { is_some refused ≡ true }
+    ensures { result ≡ Fault.NoMemory }
+{
+    match refused {
+        Some(refused) => Fault::from(refused),
+        None => unreachable!(),
+    }
 }
 
 /// A state whose futures of the kind `K` are polled under their slots.
@@ -182,10 +193,11 @@ where
         let Some(claim) = self.claim.take() else {
             return cx.register(monitor.source(), &mut self.spare);
         };
-        let (polled, fate) = monitor.poll(claim, cx, &mut self.spare);
+        let mut refused = None;
+        let (polled, fate) = monitor.poll(claim, cx, &mut self.spare, &mut refused);
         fate.settle(&mut self.claim);
         let Some((answer, leftover)) = polled else {
-            return Poll::Ready(<M::State as PollSlot<K>>::Output::refused(Fault::NoMemory));
+            return Poll::Ready(<M::State as PollSlot<K>>::Output::refused(no_waker(refused)));
         };
         let back = leftover.displaced.flatten().or(leftover.unused.flatten());
         if back.is_some() {

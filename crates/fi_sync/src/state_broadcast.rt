@@ -1,9 +1,10 @@
 //! The state broadcast that threads share.
-ghost use Rattle.std.specs.Prelude.{◌≡◌, Option, IfOk, IfErr, OnErr};
+ghost use Rattle.std.specs.Prelude.{◌≡◌, not, Option, IfOk, IfErr, OnErr};
 ghost use Rattle.futures.specs.declared.task.waker.Waker.{Waker};
-ghost use Rattle.fi_channels.specs.StateBroadcast.{StateMachine, MayLackNewer, newer_than};
+ghost use Rattle.fi_channels.specs.StateBroadcast.{StateMachine, Closes, MayLackNewer, Sends, TriesReceive, newer_than};
 ghost use Rattle.fi_parts.specs.declared.errors.Fault.{Fault};
-ghost use Rattle.fi_sync.specs.Waiting.{IsNew};
+ghost use Rattle.fi_sync.specs.Received.{PollsState};
+ghost use Rattle.fi_sync.specs.Waiting.{InSomeHold, IsNew, WaitedFor};
 
 use crate::blocking::{Blocking, wait_for};
 use crate::monitor::Monitor;
@@ -23,14 +24,14 @@ use std::sync::Wait;
 /// # Examples
 ///
 /// ```
-/// let (mut seen, mut last) = (StateId::new(), 0);
-/// for _ in 0..ROUNDS + 1 {
-///     match states.receive_blocking(seen) {
-///         Ok(Some((id, value))) if id > seen && value > last => (seen, last) = (id, value),
-///         Ok(None) => return last == ROUNDS,
-///         _ => return false,
-///     }
-/// }
+/// use futures_intrusive::channel::{StateBroadcastChannel, StateId};
+/// use std::thread;
+///
+/// let port = StateBroadcastChannel::<u64, HostRuntime>::new(rt.alloc(), rt);
+/// let follow = || port.receive_blocking(StateId::new()); // the newest state after none
+/// let change = || port.send(8080).is_ok();
+/// let (newest, is_sent) = thread::join(&rt, follow, change);
+/// assert!(rt; is_sent && matches!(newest, Ok(Some((_, 8080)))));
 /// ```
 #[derive(Drop)]
 pub struct StateBroadcastChannel<T: Clone, R> {
@@ -69,7 +70,8 @@ impl<T: Clone, R: Wait> StateBroadcastChannel<T, R> {
     ///
     /// Refused, with the value, on a closed channel and after `u64::MAX` states. Keeps `StateBroadcastChannel::send`.
     pub fn send(&self, value: T) -> Result<(), ChannelSendError<T>>
-        ensures { IfErr result (λ refused. refused.0 ≡ value) }
+        ensures sent { InSomeHold (λ old. Sends {W = Option Waker} old value result) }
+        ensures handed_back { IfErr result (λ refused. refused.0 ≡ value) }
     {
         match self.monitor.call(value, StateBroadcastState::replace) {
             Ok(_replaced) => Ok(()),
@@ -79,12 +81,16 @@ impl<T: Clone, R: Wait> StateBroadcastChannel<T, R> {
 
     /// Closes the channel and wakes all receives that wait, the oldest first. `AlreadyClosed` where it was closed; then nothing has
     /// changed. Keeps `StateBroadcastChannel::close`.
-    pub fn close(&self) -> CloseStatus {
+    pub fn close(&self) -> CloseStatus
+        ensures closed { InSomeHold (λ old. Closes {T = T} {W = Option Waker} old result) }
+    {
         self.monitor.call((), |channel, ()| channel.close())
     }
 
     /// Returns `true` if the channel was closed when it was looked at.
-    pub fn is_closed(&self) -> bool {
+    pub fn is_closed(&self) -> bool
+        ensures shown { (held : StateMachine T (Option Waker)) × (result ≡ not held.own.is_open) }
+    {
         self.monitor.call((), |channel, ()| channel.is_closed())
     }
 
@@ -92,6 +98,7 @@ impl<T: Clone, R: Wait> StateBroadcastChannel<T, R> {
     /// not be allocated. Keeps `StateBroadcastChannel::try_receive`.
     #[inline(always)]
     pub fn try_receive(&self, seen: StateId) -> Result<Option<(StateId, T)>, Fault>
+        ensures tried { IfOk result (λ state. (held : StateMachine T (Option Waker)) × TriesReceive T.is_clone held seen state) }
         ensures fault { IfErr result (λ fault. fault ≡ Fault.NoMemory) }
         // In some hold of the lock there was a newer state, whose clone can fail.
         ensures lacks { OnErr result ((state : StateMachine T (Option Waker)) × MayLackNewer T.is_infallible (newer_than state.own seen)) }
@@ -118,7 +125,10 @@ impl<T: Clone, R: Blocking> StateBroadcastChannel<T, R> {
     /// Blocks this thread until there is a state whose number is greater than `seen`, and receives the newest; None once the
     /// channel is closed and has no such state. Refused with `NoMemory` where no future or no executor can be made, or there is
     /// no memory to clone the state into.
-    pub fn receive_blocking(&self, seen: StateId) -> Result<Option<(StateId, T)>, Fault> {
+    pub fn receive_blocking(&self, seen: StateId) -> Result<Option<(StateId, T)>, Fault>
+        ensures waited { WaitedFor (λ state. (held : StateMachine T (Option Waker)) × TriesReceive T.is_clone held seen state)
+            (PollsState T.is_clone T.is_infallible) result }
+    {
         if let Some(state) = self.try_receive(seen)? {
             return Ok(Some(state));
         }

@@ -13,10 +13,12 @@ use crate::claim::Cancel;
 use crate::slot_future::{PollSlot, SlotPolled, no_slot};
 use crate::wakes::{HasOutbox, PollWaker};
 use fi_locks::TimerState;
-use fi_parts::{Clock, Fault, Slot};
+use fi_parts::memory::{share, shared};
+use fi_parts::{Clock, Fault, Refused, Slot};
 use futures::task::Poll;
 use std::alloc::Global;
-use std::sync::Arc;
+use std::marker::Model;
+use std::sync::{Arc, Wait};
 use std::thread::Parker;
 use std::time::Duration;
 
@@ -29,10 +31,56 @@ pub struct Timed<C> {
     runner: Option<Runner>,
 }
 
-/// The thread that runs a timer: it sleeps until its next check, unless it is roused.
+/// How many milliseconds the thread that runs a timer may sleep: until its next check. Only a check makes one, and only a sleep takes it,
+/// so no such thread sleeps past the next expiry.
+#[derive(Drop)]
+pub(crate) struct Nap {
+    millis: u64,
+}
+
+impl Model for Nap {
+    ghost use Rattle.std.specs.Prelude.{ℕ};
+
+    ghost Value = { ℕ };
+
+    ghost view = { λ nap. nap.millis };
+}
+
+/// Where the thread that runs a timer sleeps, unless it is roused.
+#[derive(Drop)]
+pub(crate) struct Sleeper {
+    parker: Arc<Parker, Global>,
+}
+
+impl Sleeper {
+    /// Where nobody sleeps yet.
+    pub(crate) fn new(alloc: Global) -> Result<Self, Refused> {
+        let parker = shared(alloc, Parker::new())?;
+        Ok(Sleeper { parker })
+    }
+
+    /// One more owner of the same.
+    pub(crate) fn share(&self) -> Result<Self, Refused> {
+        let parker = share(&self.parker)?;
+        Ok(Sleeper { parker })
+    }
+
+    /// Sleeps until the nap is over, or until it is roused.
+    pub(crate) fn sleep<R: Wait>(&self, rt: &R, nap: Nap) {
+        let Nap { millis } = nap;
+        self.parker.park_timeout(rt, Duration::from_millis(millis));
+    }
+
+    /// Ends the sleep, or the next one.
+    pub(crate) fn rouse(&self) {
+        self.parker.unpark();
+    }
+}
+
+/// The thread that runs a timer, and the moment of its next check.
 #[derive(Drop)]
 struct Runner {
-    parker: Arc<Parker, Global>,
+    sleeper: Sleeper,
     next_check: u64,
 }
 
@@ -90,12 +138,12 @@ impl<C: Clock> Timed<C> {
         self.timer.check_expirations(now);
     }
 
-    /// Rouses whoever sleeps at this parker, once a future waits for an earlier moment than the next check's.
-    pub(crate) fn run_by(&mut self, parker: Arc<Parker, Global>)
-        ensures { self.new ≡ record self.old { runner = Some (record { parker = parker; next_check = 0 }) } }
+    /// Rouses whoever sleeps there, once a future waits for an earlier moment than the next check's.
+    pub(crate) fn run_by(&mut self, sleeper: Sleeper)
+        ensures { self.new ≡ record self.old { runner = Some (record { sleeper = sleeper; next_check = 0 }) } }
     {
         self.runner = Some(Runner {
-            parker,
+            sleeper,
             next_check: 0,
         });
     }
@@ -110,8 +158,8 @@ impl<C: Clock> Timed<C> {
     }
 
     /// Tells those whose expiry is not after the clock's time now, and plans the runner's next check for the next expiry, or for this
-    /// many milliseconds from now if that is earlier. Answers how many milliseconds are left until then.
-    pub(crate) fn check_and_plan(&mut self, at_most: u64) -> u64
+    /// many milliseconds from now if that is earlier. Answers the nap until then.
+    pub(crate) fn check_and_plan(&mut self, at_most: u64) -> Nap
         // At some moment: that it is the clock's is not said.
         ensures planned { ChecksAndPlans self.old.timer self.old.runner at_most result self.new.timer self.new.runner }
         ensures bounded { result ≤ at_most }
@@ -122,7 +170,7 @@ impl<C: Clock> Timed<C> {
         let next = self.timer.next_expiration().unwrap_or(u64::MAX);
         let left = next.saturating_sub(moment).min(at_most);
         self.plan(moment.saturating_add(left));
-        left
+        Nap { millis: left }
     }
 
     // Plans the runner's next check for this moment.
@@ -139,7 +187,7 @@ impl<C: Clock> Timed<C> {
         let next = self.timer.next_expiration().unwrap_or(u64::MAX);
         if let Some(runner) = &self.runner {
             if next < runner.next_check {
-                runner.parker.unpark();
+                runner.sleeper.rouse();
             }
         }
     }

@@ -7,16 +7,17 @@ use crate::blocking::{Blocking, wait_for};
 use crate::event::ManualResetEvent;
 use crate::monitor::Monitor;
 use crate::slot_future::SlotFuture;
-use crate::timed::{Timed, TimerWait};
-use fi_parts::{Clock, Fault};
+use crate::timed::{Sleeper, Timed, TimerWait};
+use fi_parts::memory::start_thread;
+use fi_parts::{Clock, Fault, Refused};
 use futures::Future;
 use futures::future::{Either, select};
 use std::alloc::Global;
 use std::marker::Model;
+use std::sync::Wait;
 use std::sync::atomic::{AtomicBool, Ordering};
-use std::sync::{Arc, Wait};
 use std::thread;
-use std::thread::{Parker, Threads};
+use std::thread::Threads;
 use std::time::Duration;
 
 /// How long `TimerService::run` sleeps at most before it looks at its event again, in milliseconds.
@@ -32,6 +33,12 @@ const LONGEST_SLEEP: u64 = 10;
 /// # Examples
 ///
 /// ```
+/// use futures::task::Poll;
+/// use futures::test::MockTask;
+/// use futures_intrusive::timer::{MockClock, TimerService};
+/// use std::sync::Arc;
+///
+/// let task = MockTask::new(&rt)?;
 /// let clock = Arc::new(rt.alloc(), MockClock::new())?;
 /// let timer = TimerService::new(rt.alloc(), rt, Arc::try_clone(&clock)?);
 /// let mut wait = timer.deadline(5)?;
@@ -116,18 +123,8 @@ impl<C: Clock + Drop, R: Blocking> TimerService<C, R> {
     pub fn run(&self, until: &ManualResetEvent<R>) -> Result<Option<u64>, Fault>
         ensures fault { IfErr result (λ fault. fault ≡ Fault.NoMemory) }
     {
-        let parker = self.parker()?;
-        let shared = share(&parker)?;
-        self.monitor.call(shared, Timed::run_by);
-        let rt = self.monitor.runtime();
-        for _ in rt.forever() {
-            let left = self.monitor.call(LONGEST_SLEEP, Timed::check_and_plan);
-            if until.is_set() {
-                break;
-            }
-            parker.park_timeout(rt, Duration::from_millis(left));
-        }
-        Ok(self.monitor.call((), |timed, ()| timed.end_running()))
+        let sleeper = self.begin_running()?;
+        Ok(self.run_until(&sleeper, || until.is_set()))
     }
 
     /// Makes the call while a thread of its own runs the timer. That thread ends once the call has returned, whatever it answers; who
@@ -142,37 +139,35 @@ impl<C: Clock + Drop, R: Blocking> TimerService<C, R> {
         requires { F.IsAlwaysCallable call }
         ensures fault { IfErr result (λ fault. fault ≡ Fault.NoMemory) }
     {
-        let parker = self.parker()?;
+        let sleeper = self.begin_running()?;
         let is_over = AtomicBool::new(false);
-        let shared = share(&parker)?;
-        self.monitor.call(shared, Timed::run_by);
-        match beside(rt, self, &parker, &is_over, call) {
-            Some(answer) => Ok(answer),
-            None => Err(Fault::NoMemory),
+        match beside(rt, self, &sleeper, &is_over, call) {
+            Ok(answer) => Ok(answer),
+            Err(refused) => Err(Fault::from(refused)),
         }
     }
 
-    // Runs the timer until the flag is set; whoever sets it unparks this thread.
-    fn run_while(&self, parker: &Arc<Parker, Global>, is_over: &AtomicBool) {
+    // Where the thread that is to run the timer will sleep, and be roused if a future comes to wait for an earlier moment.
+    fn begin_running(&self) -> Result<Sleeper, Refused> {
+        let sleeper = Sleeper::new(self.monitor.runtime().alloc())?;
+        self.monitor.call(sleeper.share()?, Timed::run_by);
+        Ok(sleeper)
+    }
+
+    // Runs the timer on this thread until the call, which is made after each check, answers `true`. Answers the least expiry of those that
+    // wait then.
+    fn run_until<F: Fn() -> bool>(&self, sleeper: &Sleeper, is_over: F) -> Option<u64>
+        requires { F.IsAlwaysCallable is_over }
+    {
         let rt = self.monitor.runtime();
         for _ in rt.forever() {
-            let left = self.monitor.call(LONGEST_SLEEP, Timed::check_and_plan);
-            if is_over.load(Ordering::SeqCst) {
+            let nap = self.monitor.call(LONGEST_SLEEP, Timed::check_and_plan);
+            if is_over() {
                 break;
             }
-            parker.park_timeout(rt, Duration::from_millis(left));
+            sleeper.sleep(rt, nap);
         }
-        self.monitor.call((), |timed, ()| timed.end_running());
-    }
-
-    // What the thread that runs the timer sleeps at.
-    fn parker(&self) -> Result<Arc<Parker, Global>, Fault>
-        ensures fault { IfErr result (λ fault. fault ≡ Fault.NoMemory) }
-    {
-        match Arc::new(self.monitor.runtime().alloc(), Parker::new()) {
-            Ok(parker) => Ok(parker),
-            Err(_) => Err(Fault::NoMemory),
-        }
+        self.monitor.call((), |timed, ()| timed.end_running())
     }
 
     /// Blocks this thread until the future is ready, but at most so long: its output, or None once the time is over. Then the future
@@ -198,23 +193,14 @@ impl<C: Clock + Drop, R: Blocking> TimerService<C, R> {
     }
 }
 
-fn share(parker: &Arc<Parker, Global>) -> Result<Arc<Parker, Global>, Fault>
-    ensures fault { IfErr result (λ fault. fault ≡ Fault.NoMemory) }
-{
-    match Arc::try_clone(parker) {
-        Ok(shared) => Ok(shared),
-        Err(_) => Err(Fault::NoMemory),
-    }
-}
-
-// Makes the call beside a thread that runs the timer; None where that can't be started, and then the call was not made.
+// Makes the call beside a thread that runs the timer. Refused where that can't be started; then the call was not made.
 fn beside<'a, C, R, A, F>(
     rt: &'a R,
     timer: &'a TimerService<C, R>,
-    parker: &'a Arc<Parker, Global>,
+    sleeper: &'a Sleeper,
     is_over: &'a AtomicBool,
     call: F,
-) -> Option<A>
+) -> Result<A, Refused>
 where
     C: Clock + Drop + Send,
     R: Blocking + Threads + Send + Sync,
@@ -222,16 +208,16 @@ where
     requires { F.IsAlwaysCallable call }
 {
     thread::scope(thread::scope_env(), rt, |scope| {
-        if scope
-            .spawn(move || timer.run_while(parker, is_over))
-            .is_err()
-        {
+        let started = start_thread(scope, move || {
+            let _left = timer.run_until(sleeper, || is_over.load(Ordering::SeqCst));
+        });
+        if let Err(refused) = started {
             timer.monitor.call((), |timed, ()| timed.end_running());
-            return None;
+            return Err(refused);
         }
         let answer = call(timer);
         is_over.store(true, Ordering::SeqCst);
-        parker.unpark();
-        Some(answer)
+        sleeper.rouse();
+        Ok(answer)
     })
 }

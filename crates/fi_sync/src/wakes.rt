@@ -12,7 +12,8 @@ mod taken_apart;
 
 use crate::claim::{Claim, Fate};
 use crate::slot_future::{PollOutput, PollSlot, SlotPolled};
-use fi_parts::Slot;
+use fi_parts::memory::waker_for;
+use fi_parts::{Refused, Slot};
 use futures::task::{Context, Poll, Source, Waker};
 pub use owed::Owed;
 use std::marker::Model;
@@ -77,8 +78,8 @@ impl<S: HasOutbox> Guarded<S> {
     /// Polls the future that has this claim, as `lend` makes a call. (The borrow checker doesn't cover a closure that does it.)
     ///
     /// A waker is made if the poll has to wait and there is no spare one, in the same hold of the lock, or before it if the spare
-    /// one is another task's. If the poll has to wait and there is none then, the answer is None and nothing has changed. If the
-    /// poll ends the future, that is cancelled too, in the same hold.
+    /// one is another task's. If the poll has to wait and there is none then, the answer is None, nothing has changed, and `refused`
+    /// shows that a waker could not be made. If the poll ends the future, that is cancelled too, in the same hold.
     #[inline(always)]
     pub fn poll<K, R: Wait>(
         &self,
@@ -87,6 +88,7 @@ impl<S: HasOutbox> Guarded<S> {
         cx: &mut Context<'_>,
         source: &Source,
         spare: &mut Option<Waker>,
+        refused: &mut Option<Refused>,
     ) -> (SlotPolled<S::Output>, Fate<K, S::Left>, Owed<'_, S>)
     where
         S: PollSlot<K>,
@@ -95,6 +97,7 @@ impl<S: HasOutbox> Guarded<S> {
         ensures registered { IfSome result.0 (λ polled. OnPending polled.0 (Covers cx.new (λ s. s ≡ source.now.id))) }
         ensures lacks { IfNone result.0 (cx.new.lacks_waker ≡ true) }
         ensures put_off { IfNone result.0 (HadToWait S.would_wait claim) }
+        ensures refused { IfNone result.0 (is_some refused.new ≡ true) }
         ensures kept { Keeps cx.old cx.new }
     {
         if spare.is_some() {
@@ -102,7 +105,7 @@ impl<S: HasOutbox> Guarded<S> {
             let _: Poll<()> = cx.register(source, spare);
         }
         let state = &mut *self.state.lock(rt);
-        let (polled, fate) = poll_or_end(state, claim, cx, source, spare);
+        let (polled, fate) = poll_or_end(state, claim, cx, source, spare, refused);
         (polled, fate, Owed::of(self, state))
     }
 
@@ -142,15 +145,17 @@ fn poll_or_end<K, S: PollSlot<K>>(
     cx: &mut Context<'_>,
     source: &Source,
     spare: &mut Option<Waker>,
+    refused: &mut Option<Refused>,
 ) -> (SlotPolled<S::Output>, Fate<K, S::Left>)
     requires registered { is_some spare.old ≡ true → Covers cx.old (λ s. s ≡ source.now.id) }
     ensures settled { IsSettled S.polls S.cancels S.Output.is_last claim result.0 result.1 state.old state.new }
     ensures registered { IfSome result.0 (λ polled. OnPending polled.0 (Covers cx.new (λ s. s ≡ source.now.id))) }
     ensures lacks { IfNone result.0 (cx.new.lacks_waker ≡ true) }
     ensures put_off { IfNone result.0 (S.would_wait state.old claim) }
+    ensures refused { IfNone result.0 (is_some refused.new ≡ true) }
     ensures kept { Keeps cx.old cx.new }
 {
-    let polled = poll_or_register(state, claim.slot(), cx, source, spare);
+    let polled = poll_or_register(state, claim.slot(), cx, source, spare, refused);
     if has_ended(&polled) {
         let left = claim.cancel(state);
         return (polled, Fate::Ended(left));
@@ -176,20 +181,26 @@ fn poll_or_register<K, S: PollSlot<K>>(
     cx: &mut Context<'_>,
     source: &Source,
     spare: &mut Option<Waker>,
+    refused: &mut Option<Refused>,
 ) -> SlotPolled<S::Output>
     requires registered { is_some spare.old ≡ true → Covers cx.old (λ s. s ≡ source.now.id) }
     ensures polled { MatchOption result (state.new ≡ state.old) (λ polled. IsPolled S.polls slot.0 polled.0 state.old state.new) }
     ensures registered { IfSome result (λ polled. OnPending polled.0 (Covers cx.new (λ s. s ≡ source.now.id))) }
     ensures lacks { IfNone result (cx.new.lacks_waker ≡ true) }
     ensures put_off { IfNone result (S.would_wait state.old slot.0) }
+    ensures refused { IfNone result (is_some refused.new ≡ true) }
     ensures kept { Keeps cx.old cx.new }
 {
     if let Some(polled) = state.poll_slot(slot, spare.take()) {
         return Some(polled);
     }
-    let _pending: Poll<()> = cx.register(source, spare);
-    let waker = spare.take()?;
-    state.poll_slot(slot, Some(waker))
+    match waker_for(cx, source) {
+        Ok(waker) => state.poll_slot(slot, Some(waker)),
+        Err(lack) => {
+            *refused = Some(lack);
+            None
+        }
+    }
 }
 
 // Makes a call on a state, and counts the wakers that are named after it.

@@ -5,6 +5,8 @@
 //! does the same for any future, and `TimerService::wait_at_most` for at most so long.
 //!
 //! ```
+//! use futures_intrusive::channel::shared::channel;
+//!
 //! let (sender, receiver) = channel::<u64, HostRuntime>(rt.alloc(), rt, 1).expect(&rt, "memory");
 //! assert!(rt; sender.send_blocking(7) == Ok(()));
 //! assert!(rt; receiver.receive_blocking() == Ok(Some(7)));

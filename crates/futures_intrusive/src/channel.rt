@@ -6,6 +6,8 @@
 //! shared by reference; `shared` has the same channels with ends that are owned and counted.
 //!
 //! ```
+//! use futures_intrusive::channel::{Channel, TryReceiveError};
+//!
 //! let channel = Channel::<u64, 2, HostRuntime>::new(rt.alloc(), rt);
 //! assert!(rt; channel.try_send(1).is_ok() && channel.try_send(2).is_ok());
 //! assert!(rt; channel.try_send(3).is_err());                       // full: `send(3)` would wait

@@ -8,19 +8,19 @@ ghost use Rattle.futures_intrusive.specs.Ends.{OnState};
 use crate::counted_ends::{
     ClosesByEnds, CountedEnds, ManyReceivers, ManySenders, ReceivesClosed, SendsClosed,
 };
-use fi_channels::{ChannelReceiveAccess, ChannelState, Clearable, TryReceiveError, TrySendError};
+use fi_channels::{ChannelReceiveAccess, ChannelState, TryReceiveError, TrySendError};
 use fi_parts::buffer::RingBuf;
 use fi_parts::{CloseStatus, Fault, NoRoom, Slot};
 use fi_sync::{Cancel, ChannelStreaming, PollSlot, PollWaker, SlotPolled};
 
-impl<T: Drop, B: RingBuf<Item = T>> ClosesByEnds for ChannelState<T, Clearable<B>, PollWaker> {
+impl<T: Drop, B: RingBuf<Item = T>> ClosesByEnds for ChannelState<T, B, PollWaker> {
     ghost use Rattle.fi_channels.specs.Channel.{Closes};
     ghost use Rattle.fi_channels.specs.Cleared.{ClosesAndClears};
     ghost use Rattle.fi_parts.specs.declared.errors.CloseStatus.{CloseStatus};
     ghost use Rattle.futures_intrusive.specs.KindLaws.{wakes};
     ghost use Rattle.futures_intrusive.specs.Kinds.{closing_channel};
 
-    type Cleared = Option<B>;
+    type Cleared = B;
 
     ghost closing = { closing_channel };
 
@@ -38,16 +38,16 @@ impl<T: Drop, B: RingBuf<Item = T>> ClosesByEnds for ChannelState<T, Clearable<B
         self.close();
     }
 
-    fn close_after_receivers(&mut self) -> Option<B> {
+    fn close_after_receivers(&mut self) -> B {
         self.close_and_clear()
     }
 }
 
-impl<T: Drop, B: RingBuf<Item = T>> ManySenders for ChannelState<T, Clearable<B>, PollWaker> {}
+impl<T: Drop, B: RingBuf<Item = T>> ManySenders for ChannelState<T, B, PollWaker> {}
 
-impl<T: Drop, B: RingBuf<Item = T>> ManyReceivers for ChannelState<T, Clearable<B>, PollWaker> {}
+impl<T: Drop, B: RingBuf<Item = T>> ManyReceivers for ChannelState<T, B, PollWaker> {}
 
-impl<T: Drop, B: RingBuf<Item = T>> SendsClosed for ChannelState<T, Clearable<B>, PollWaker> {
+impl<T: Drop, B: RingBuf<Item = T>> SendsClosed for ChannelState<T, B, PollWaker> {
     ghost use Rattle.futures_intrusive.specs.KindLaws.{sends, send_cancels};
 
     ghost sends_stay_closed = { sends };
@@ -55,7 +55,7 @@ impl<T: Drop, B: RingBuf<Item = T>> SendsClosed for ChannelState<T, Clearable<B>
     ghost withdraws_stay_closed = { send_cancels };
 }
 
-impl<T: Drop, B: RingBuf<Item = T>> ReceivesClosed for ChannelState<T, Clearable<B>, PollWaker> {
+impl<T: Drop, B: RingBuf<Item = T>> ReceivesClosed for ChannelState<T, B, PollWaker> {
     ghost use Rattle.futures_intrusive.specs.KindLaws.{receives, receive_cancels};
 
     ghost receives_stay_closed = { receives };
@@ -64,7 +64,7 @@ impl<T: Drop, B: RingBuf<Item = T>> ReceivesClosed for ChannelState<T, Clearable
 }
 
 impl<T: Drop, B: RingBuf<Item = T>> Cancel<ChannelStreaming>
-    for CountedEnds<ChannelState<T, Clearable<B>, PollWaker>> {
+    for CountedEnds<ChannelState<T, B, PollWaker>> {
     ghost use Rattle.std.specs.Prelude.{is_some};
     ghost use Rattle.fi_channels.specs.Channel.{receive_phase, CancelsReceive, displaced_receive};
     ghost use Rattle.fi_parts.specs.Polled.{LeavesWhere};
@@ -81,7 +81,7 @@ impl<T: Drop, B: RingBuf<Item = T>> Cancel<ChannelStreaming>
 }
 
 impl<T: Drop, B: RingBuf<Item = T>> PollSlot<ChannelStreaming>
-    for CountedEnds<ChannelState<T, Clearable<B>, PollWaker>> {
+    for CountedEnds<ChannelState<T, B, PollWaker>> {
     ghost use Rattle.fi_channels.specs.Channel.{displaced_receive};
     ghost use Rattle.fi_sync.specs.Streams.{leftover_of_next};
     ghost use Rattle.fi_sync.specs.Waiting.{WouldWait};
@@ -100,8 +100,50 @@ impl<T: Drop, B: RingBuf<Item = T>> PollSlot<ChannelStreaming>
     }
 }
 
+/// What a channel of many values has buffered. (The ends of both sides ask by it: of a side of a channel over any buffer the prover
+/// can't state a bound.)
+pub trait Buffered {
+    /// How many values are buffered.
+    fn len(&self) -> usize;
+
+    /// Returns `true` if no value is buffered.
+    fn is_empty(&self) -> bool;
+
+    /// Returns `true` if the buffer has no room for one more value.
+    fn is_full(&self) -> bool;
+
+    /// The most values that the buffer can hold.
+    fn capacity(&self) -> usize;
+}
+
+impl<T: Drop, B: RingBuf<Item = T>> Buffered for CountedEnds<ChannelState<T, B, PollWaker>> {
+    fn len(&self) -> usize
+        ensures { result ≡ length self.now.state.own.buffer.items }
+    {
+        self.state.len()
+    }
+
+    fn is_empty(&self) -> bool
+        ensures { result ≡ (length self.now.state.own.buffer.items == 0) }
+    {
+        self.state.is_empty()
+    }
+
+    fn is_full(&self) -> bool
+        ensures { result ≡ not (has_room self.now.state.own) }
+    {
+        self.state.is_full()
+    }
+
+    fn capacity(&self) -> usize
+        ensures { result ≡ self.now.state.own.buffer.capacity }
+    {
+        self.state.capacity()
+    }
+}
+
 /// The calls of `ChannelState`, which leave the counts as they are.
-impl<T: Drop, B: RingBuf<Item = T>> CountedEnds<ChannelState<T, Clearable<B>, PollWaker>> {
+impl<T: Drop, B: RingBuf<Item = T>> CountedEnds<ChannelState<T, B, PollWaker>> {
     /// Sends a value at once. Refused, with the value, if the channel is closed or full, or could not grow; then nothing has
     /// changed.
     pub fn try_send(&mut self, value: T) -> Result<(), TrySendError<T>>
@@ -122,34 +164,6 @@ impl<T: Drop, B: RingBuf<Item = T>> CountedEnds<ChannelState<T, Clearable<B>, Po
         ensures { OnState (λ old new. Closes old result new) self.old self.new }
     {
         self.state.close()
-    }
-
-    /// How many values are buffered.
-    pub fn len(&self) -> usize
-        ensures { result ≡ length self.now.state.own.buffer.items }
-    {
-        self.state.len()
-    }
-
-    /// Returns `true` if no value is buffered.
-    pub fn is_empty(&self) -> bool
-        ensures { result ≡ (length self.now.state.own.buffer.items == 0) }
-    {
-        self.state.is_empty()
-    }
-
-    /// Returns `true` if the buffer has no room for one more value.
-    pub fn is_full(&self) -> bool
-        ensures { result ≡ not (has_room self.now.state.own) }
-    {
-        self.state.is_full()
-    }
-
-    /// The most values that the buffer can hold.
-    pub fn capacity(&self) -> usize
-        ensures { result ≡ self.now.state.own.buffer.capacity }
-    {
-        self.state.capacity()
     }
 
     /// Makes a send of this value. Refused, with the value, only for want of memory; then nothing has changed.

@@ -2,9 +2,7 @@
 use crate::counted_ends::{ClosesByEnds, CountedEnds};
 use crate::ends::{End, Receivers, Senders};
 use crate::shared_stream::SharedStream;
-use fi_channels::{
-    ChannelState, Clearable, ClonesValue, OneValueState, StateBroadcastState, TakesValue,
-};
+use fi_channels::{ChannelState, ClonesValue, OneValueState, StateBroadcastState, TakesValue};
 use fi_parts::buffer::RingBuf;
 use fi_sync::PollWaker;
 use std::fmt;
@@ -19,7 +17,7 @@ pub trait EndNames {
     fn receiver() -> &'static str;
 }
 
-impl<T: Drop, B: RingBuf<Item = T>> EndNames for ChannelState<T, Clearable<B>, PollWaker> {
+impl<T: Drop, B: RingBuf<Item = T>> EndNames for ChannelState<T, B, PollWaker> {
     fn sender() -> &'static str {
         "Sender"
     }

@@ -5,7 +5,8 @@ ghost use Rattle.fi_parts.specs.declared.errors.Fault.{Fault};
 ghost use Rattle.futures_intrusive.specs.Ends.{Counted, AddsSender, AddsReceiver, LeavesSender, DropsReceiver};
 
 use crate::counted_ends::{ClosesByEnds, CountedEnds, ManyReceivers, ManySenders};
-use fi_parts::Fault;
+use fi_parts::memory::{share, shared};
+use fi_parts::{Fault, Refused};
 use fi_sync::{Monitor, SlotFuture};
 use std::alloc::Global;
 use std::marker::{Model, PhantomData};
@@ -133,12 +134,11 @@ impl<S: ClosesByEnds + Drop, R: Wait + Drop, K: Side<S>> End<S, R, K> {
         &*self.channel
     }
 
-    /// One more owner of the channel. Refused with `NoMemory` only if there are 2^63 - 1.
-    pub(crate) fn share(&self) -> Result<SharedChannel<S, R>, Fault>
-        ensures same { IfOk result (λ shared. arc_value shared ≡ self.now) }
-        ensures fault { IfErr result (λ fault. fault ≡ Fault.NoMemory) }
+    /// One more owner of the channel. Refused only if there are 2^63 - 1.
+    pub(crate) fn share(&self) -> Result<SharedChannel<S, R>, Refused>
+        ensures { IfOk result (λ shared. arc_value shared ≡ self.now) }
     {
-        Arc::try_clone(&self.channel).map_err(|_| Fault::NoMemory)
+        share(&self.channel)
     }
 }
 
@@ -201,11 +201,8 @@ pub(crate) fn two_ends<S: ClosesByEnds + Drop, R: Wait + Drop>(
     ensures same { IfOk result (λ ends. ends.0 ≡ ends.1) }
     ensures fault { IfErr result (λ fault. fault ≡ Fault.NoMemory) }
 {
-    let first = match Arc::new(alloc, Monitor::new(rt, CountedEnds::new(state))) {
-        Ok(channel) => channel,
-        Err(_) => return Err(Fault::NoMemory),
-    };
-    let second = Arc::try_clone(&first).map_err(|_| Fault::NoMemory)?;
+    let first = shared(alloc, Monitor::new(rt, CountedEnds::new(state)))?;
+    let second = share(&first)?;
     let sender = End {
         channel: first,
         membership: Membership { side: PhantomData },

@@ -29,4 +29,4 @@ mod state_ends;
 pub mod sync;
 pub mod timer;
 
-pub use fi_parts::{Fault, Leftover, NoRoom, Slot};
+pub use fi_parts::{Fault, Leftover, NoRoom, Refused, Slot, memory};

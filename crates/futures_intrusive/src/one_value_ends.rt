@@ -1,8 +1,10 @@
 //! The ends of the channels of one value.
-ghost use Rattle.std.specs.Prelude.{◌≡◌, IfOk, IfErr, OnErr};
+ghost use Rattle.std.specs.Prelude.{◌≡◌, Option, IfOk, IfErr, OnErr};
+ghost use Rattle.futures.specs.declared.task.waker.Waker.{Waker};
 ghost use Rattle.fi_parts.specs.declared.errors.Fault.{Fault};
 ghost use Rattle.fi_channels.specs.Oneshot.{Makes, Sends};
-ghost use Rattle.fi_sync.specs.Waiting.{IsNew};
+ghost use Rattle.fi_sync.specs.Received.{PollsOneValue};
+ghost use Rattle.fi_sync.specs.Waiting.{InSomeHold, IsNew, WaitedFor};
 ghost use Rattle.futures_intrusive.specs.Ends.{OnState};
 
 use crate::channel_ends::ChannelReceiveFuture;
@@ -25,6 +27,8 @@ pub type OneValueReceiver<T, G, R> = End<OneValueState<T, PollWaker, G>, R, Rece
 /// # Examples
 ///
 /// ```
+/// use futures_intrusive::channel::shared::oneshot_channel;
+///
 /// let ends = oneshot_channel::<u64, HostRuntime>(rt.alloc(), rt);
 /// let (sender, receiver) = ends.expect(&rt, "memory");
 /// assert!(rt; !sender.is_closed() && !receiver.is_closed());
@@ -37,6 +41,14 @@ pub type OneshotSender<T, R> = OneValueSender<T, TakesValue, R>;
 /// # Examples
 ///
 /// ```
+/// use futures::task::Poll;
+/// use futures::test::MockTask;
+/// use futures_intrusive::channel::shared::oneshot_channel;
+///
+/// let task = MockTask::new(&rt).expect(&rt, "memory");
+/// let (sender, receiver) = oneshot_channel::<u64, HostRuntime>(rt.alloc(), rt).expect(
+///     &rt, "memory",
+/// );
 /// let mut receive = receiver.receive().expect(&rt, "memory");
 /// assert!(rt; task.poll(&mut receive).is_pending() && !task.is_woken());
 /// drop(sender);
@@ -50,6 +62,10 @@ pub type OneshotReceiver<T, R> = OneValueReceiver<T, TakesValue, R>;
 /// # Examples
 ///
 /// ```
+/// use futures_intrusive::channel::ChannelSendError;
+/// use futures_intrusive::channel::shared::oneshot_broadcast_channel;
+///
+/// let ends = oneshot_broadcast_channel::<u64, HostRuntime>(rt.alloc(), rt);
 /// let (sender, receiver) = ends.expect(&rt, "memory");
 /// drop(receiver.clone().expect(&rt, "memory"));
 /// drop(receiver);
@@ -63,6 +79,11 @@ pub type OneshotBroadcastSender<T, R> = OneValueSender<T, ClonesValue, R>;
 /// # Examples
 ///
 /// ```
+/// use futures::task::Poll;
+/// use futures::test::MockTask;
+/// use futures_intrusive::channel::shared::oneshot_broadcast_channel;
+///
+/// let task = MockTask::new(&rt).expect(&rt, "memory");
 /// let ends = oneshot_broadcast_channel::<u64, HostRuntime>(rt.alloc(), rt);
 /// let (sender, receiver) = ends.expect(&rt, "memory");
 /// drop(receiver.clone().expect(&rt, "memory"));
@@ -97,7 +118,8 @@ pub fn oneshot_broadcast_channel<T: Clone + Drop, R: Wait + Drop>(
 impl<T: Drop, G: GivesValue<T>, R: Wait + Drop> OneValueSender<T, G, R> {
     /// Sends the one value. As `OneValueChannel::send`. Keeps `OneshotSender::send`.
     pub fn send(&self, value: T) -> Result<(), ChannelSendError<T>>
-        ensures { IfErr result (λ refused. refused.0 ≡ value) }
+        ensures sent { InSomeHold (λ old. Sends {W = Option Waker} old value result) }
+        ensures handed_back { IfErr result (λ refused. refused.0 ≡ value) }
     {
         self.channel().call(value, CountedEnds::send)
     }
@@ -119,6 +141,7 @@ impl<T: Drop, G: GivesValue<T>, R: Wait + Drop> OneValueReceiver<T, G, R> {
     pub fn receive_blocking(&self) -> Result<Option<T>, Fault>
     where
         R: Blocking,
+        ensures waited { WaitedFor (λ _. ⊥) (PollsOneValue G.giving) result }
     {
         let receive = self.receive()?;
         wait_for(self.channel().runtime(), receive)?

@@ -10,7 +10,7 @@ ghost use Rattle.futures_intrusive.specs.SharedStreams.{PollsSharedStream};
 use crate::channel_ends::{GenericReceiver, SharedChannelState};
 use crate::ends::SharedFutureOf;
 use fi_parts::buffer::RingBuf;
-use fi_parts::{CloseStatus, Fault};
+use fi_parts::{CloseStatus, Fault, NoRoom, Refused};
 use fi_sync::{ChannelStreaming, SlotFuture};
 use futures::task::{Context, Poll};
 use futures::{Future, Stream};
@@ -40,12 +40,13 @@ impl<T: Drop, B: RingBuf<Item = T>, R: Wait + Drop> Model for SharedStream<T, B,
 impl<T: Drop, B: RingBuf<Item = T>, R: Wait + Drop> GenericReceiver<T, B, R> {
     /// A stream of the values, which keeps the receiver. Refused only for want of memory; then the receiver comes back, and nothing
     /// has changed. Keeps `GenericReceiver::into_stream`.
-    pub fn into_stream(self) -> Result<SharedStream<T, B, R>, Self>
+    pub fn into_stream(self) -> Result<SharedStream<T, B, R>, NoRoom<Self>>
         ensures made { IfOk result (λ stream. IsNew self stream) }
-        ensures handed_back { IfErr result (λ receiver. receiver ≡ self) }
+        ensures handed_back { IfErr result (λ failed. failed.0 ≡ self) }
     {
-        let Ok(shared) = self.share() else {
-            return Err(self);
+        let shared = match self.share() {
+            Ok(shared) => shared,
+            Err(refused) => return Err(NoRoom::of(self, refused)),
         };
         let claimed = self.channel().claim((), |ends, ()| ends.claim_stream());
         match claimed {
@@ -53,7 +54,10 @@ impl<T: Drop, B: RingBuf<Item = T>, R: Wait + Drop> GenericReceiver<T, B, R> {
                 future: SlotFuture::new(shared, claim),
                 receiver: self,
             }),
-            Err(_) => Err(self),
+            Err(fault) => match Refused::of(fault) {
+                Some(refused) => Err(NoRoom::of(self, refused)),
+                None => unreachable!(),
+            },
         }
     }
 }

@@ -3,7 +3,8 @@ ghost use Rattle.std.specs.Prelude.{◌≡◌, Option, IfOk, IfErr, OnOk, OnErr,
 ghost use Rattle.futures.specs.declared.task.waker.Waker.{Waker};
 ghost use Rattle.fi_parts.specs.declared.errors.Fault.{Fault};
 ghost use Rattle.fi_channels.specs.StateBroadcast.{StateMachine, Makes, Sends, TriesReceive, MayLackNewer, newer_than};
-ghost use Rattle.fi_sync.specs.Waiting.{IsNew};
+ghost use Rattle.fi_sync.specs.Received.{PollsState};
+ghost use Rattle.fi_sync.specs.Waiting.{InSomeHold, IsNew, WaitedFor};
 ghost use Rattle.futures_intrusive.specs.Ends.{OnState};
 
 use crate::channel_ends::ChannelReceiveFuture;
@@ -20,14 +21,17 @@ use std::sync::Wait;
 /// # Examples
 ///
 /// ```
-/// fn change<R: Runtime>(settings: StateSender<Settings, R>) {
-///     for connections in 1..11 {
-///         let _ = settings.send(Settings {
-///             port: 8080,
-///             connections,
-///         });
-///     }
-/// }
+/// use futures_intrusive::channel::ChannelSendError;
+/// use futures_intrusive::channel::shared::state_broadcast_channel;
+///
+/// let ends = state_broadcast_channel::<u64, HostRuntime>(rt.alloc(), rt);
+/// let (sender, receiver) = ends.expect(&rt, "memory");
+/// let _sender = sender.clone().expect(&rt, "memory");
+/// let other = receiver.clone().expect(&rt, "memory");
+/// drop(receiver);
+/// assert!(rt; sender.send(5) == Ok(()));
+/// drop(other);
+/// assert!(rt; sender.send(6) == Err(ChannelSendError(6)));
 /// ```
 pub type StateSender<T, R> = End<StateBroadcastState<T, PollWaker>, R, Senders>;
 
@@ -36,14 +40,21 @@ pub type StateSender<T, R> = End<StateBroadcastState<T, PollWaker>, R, Senders>;
 /// # Examples
 ///
 /// ```
-/// let (mut seen, mut newest) = (StateId::new(), None);
-/// for _ in rt.forever() {
-///     let Some((id, settings)) = settings.receive_blocking(seen)? else {
-///         break;
-///     };
-///     seen = id;
-///     newest = Some(settings);
-/// }
+/// use futures::task::Poll;
+/// use futures::test::MockTask;
+/// use futures_intrusive::channel::StateId;
+/// use futures_intrusive::channel::shared::state_broadcast_channel;
+///
+/// let task = MockTask::new(&rt).expect(&rt, "memory");
+/// let ends = state_broadcast_channel::<u64, HostRuntime>(rt.alloc(), rt);
+/// let (sender, receiver) = ends.expect(&rt, "memory");
+/// let other = sender.clone().expect(&rt, "memory");
+/// let mut receive = receiver.receive(StateId::new()).expect(&rt, "memory");
+/// assert!(rt; task.poll(&mut receive).is_pending());
+/// drop(sender);
+/// assert!(rt; task.poll(&mut receive).is_pending() && !task.is_woken());
+/// drop(other);
+/// assert!(rt; task.is_woken() && task.poll(&mut receive) == Poll::Ready(Ok(None)));
 /// ```
 pub type StateReceiver<T, R> = End<StateBroadcastState<T, PollWaker>, R, Receivers>;
 
@@ -64,7 +75,8 @@ pub fn state_broadcast_channel<T: Clone + Drop, R: Wait + Drop>(
 impl<T: Clone + Drop, R: Wait + Drop> StateSender<T, R> {
     /// Sends the next state. As `StateBroadcastChannel::send`. Keeps `StateSender::send`.
     pub fn send(&self, value: T) -> Result<(), ChannelSendError<T>>
-        ensures { IfErr result (λ refused. refused.0 ≡ value) }
+        ensures sent { InSomeHold (λ old. Sends {W = Option Waker} old value result) }
+        ensures handed_back { IfErr result (λ refused. refused.0 ≡ value) }
     {
         match self.channel().call(value, CountedEnds::replace) {
             Ok(_replaced) => Ok(()),
@@ -92,7 +104,12 @@ impl<T: Clone + Drop, R: Wait + Drop> StateReceiver<T, R> {
     pub fn receive_blocking(&self, seen: StateId) -> Result<Option<(StateId, T)>, Fault>
     where
         R: Blocking,
+        ensures waited { WaitedFor (λ state. (held : StateMachine T (Option Waker)) × TriesReceive T.is_clone held seen state)
+            (PollsState T.is_clone T.is_infallible) result }
     {
+        if let Some(state) = self.try_receive(seen)? {
+            return Ok(Some(state));
+        }
         let receive = self.receive(seen)?;
         wait_for(self.channel().runtime(), receive)?
     }
@@ -100,6 +117,7 @@ impl<T: Clone + Drop, R: Wait + Drop> StateReceiver<T, R> {
     /// A clone of the newest state with its number, if that is greater than `seen`. As `StateBroadcastChannel::try_receive`. Keeps
     /// `StateReceiver::try_receive`.
     pub fn try_receive(&self, seen: StateId) -> Result<Option<(StateId, T)>, Fault>
+        ensures tried { IfOk result (λ state. (held : StateMachine T (Option Waker)) × TriesReceive T.is_clone held seen state) }
         ensures fault { IfErr result (λ fault. fault ≡ Fault.NoMemory) }
         // In some hold of the lock there was a newer state, whose clone can fail.
         ensures lacks { OnErr result ((state : StateMachine T (Option Waker)) × MayLackNewer T.is_infallible (newer_than state.own seen)) }

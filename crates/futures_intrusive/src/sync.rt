@@ -6,6 +6,11 @@
 //! futures by slots.
 //!
 //! ```
+//! use futures::task::Poll;
+//! use futures::test::MockTask;
+//! use futures_intrusive::sync::ManualResetEvent;
+//!
+//! let task = MockTask::new(&rt)?;
 //! let event = ManualResetEvent::new(rt.alloc(), rt, false);
 //! let mut wait = event.wait()?;
 //! assert!(rt; task.poll(&mut wait).is_pending());

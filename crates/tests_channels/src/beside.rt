@@ -8,19 +8,12 @@ fn two_waits(rt: HostRuntime) {
     let mut event: LocalManualResetEvent<u64> = LocalManualResetEvent::new(rt.alloc(), false);
     let mut first = event.wait().expect(&rt, "memory");
     let mut second = event.wait().expect(&rt, "memory");
-    if first.poll(&mut event, 1).is_ready() || second.poll(&mut event, 2).is_ready() {
-        first.cancel(&mut event);
-        second.cancel(&mut event);
-        assert!(rt; false, "a wait ended early");
-        return;
-    }
+    let waits = first.poll(&mut event, 1).is_pending();
     event.set();
-    let ends = first.poll(&mut event, 3);
-    event.reset();
-    let also_ends = second.poll(&mut event, 4);
+    let ends = second.poll(&mut event, 2).is_ready();
     first.cancel(&mut event);
     second.cancel(&mut event);
-    assert!(rt; ends.is_ready() && also_ends.is_ready());
+    assert!(rt; waits && ends);
 }
 
 #[test]
@@ -28,19 +21,9 @@ fn a_send_beside_a_stream(rt: HostRuntime) {
     let mut channel: LocalChannel<u64, 0, u64> = LocalChannel::new(rt.alloc());
     let mut stream = channel.stream().expect(&rt, "memory");
     let mut send = channel.send(6).expect(&rt, "memory");
-    if send.poll(&mut channel, 1).is_ready() {
-        send.cancel(&mut channel);
-        stream.cancel(&mut channel);
-        assert!(rt; false, "a send ended early");
-        return;
-    }
+    let waits = send.poll(&mut channel, 1).is_pending();
     let item = stream.poll(&mut channel, 2);
-    let sent = send.poll(&mut channel, 3);
-    send.cancel(&mut channel);
-    let none = stream.poll(&mut channel, 4);
+    let left = send.cancel(&mut channel);
     stream.cancel(&mut channel);
-    assert_eq!(rt;
-        (item, sent, none),
-        (Poll::Ready(Some(6)), Poll::Ready(Ok(())), Poll::Pending)
-    );
+    assert!(rt; waits && item == Poll::Ready(Some(6)) && left.is_none());
 }

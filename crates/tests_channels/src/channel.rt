@@ -1,13 +1,17 @@
 //! The channel's refusals, and its local futures. The worked cases are scripts in `tests_scripts`, over each buffer.
-use fi_channels::{LocalChannel, LocalUnbufferedChannel, TryReceiveError, TrySendError};
-use fi_parts::CloseStatus;
+use fi_channels::{
+    ChannelSendAccess, ChannelState, LocalChannel, LocalUnbufferedChannel, TryReceiveError,
+    TrySendError,
+};
+use fi_parts::buffer::RingBuf;
 use futures::task::Poll;
+use tests_help::refusals::no_room;
 
 #[test]
 fn channel_refusals(rt: HostRuntime) {
     let full: TrySendError<u64> = TrySendError::Full(1);
     let closed: TrySendError<u64> = TrySendError::Closed(2);
-    let memory: TrySendError<u64> = TrySendError::NoMemory(3);
+    let memory = TrySendError::NoMemory(no_room(rt.alloc(), 3u64).expect(&rt, "refused"));
     assert!(rt;
         full.is_full()
             && !full.is_closed()
@@ -27,22 +31,32 @@ fn channel_refusals(rt: HostRuntime) {
     );
 }
 
+// Whether a send of 5 is done at once, and leaves nothing.
+fn sends<B: RingBuf<Item = u64>>(channel: &mut ChannelState<u64, B, u64>) -> bool {
+    let Ok(mut send) = channel.send(5) else {
+        return false;
+    };
+    let can_send = channel.can_send(send.slot());
+    let sent = send.poll(channel, 1);
+    let left = send.cancel(channel);
+    can_send && sent == Poll::Ready(Ok(())) && left.is_none()
+}
+
+// What a receive gives at once.
+fn received<B: RingBuf<Item = u64>>(channel: &mut ChannelState<u64, B, u64>) -> Option<u64> {
+    let mut receive = channel.receive().ok()?;
+    let received = receive.poll(channel, 2);
+    receive.cancel(channel);
+    match received {
+        Poll::Ready(Ok(item)) => item,
+        Poll::Ready(Err(_)) | Poll::Pending => None,
+    }
+}
+
 #[test]
 fn a_local_channel(rt: HostRuntime) {
     let mut channel: LocalChannel<u64, 1, u64> = LocalChannel::new(rt.alloc());
-    let mut send = channel.send(5).expect(&rt, "room");
-    let sent = send.poll(&mut channel, 1);
-    let is_ended = send.is_terminated();
-    let left = send.cancel(&mut channel);
-    let mut receive = channel.receive().expect(&rt, "room");
-    let received = receive.poll(&mut channel, 2);
-    receive.cancel(&mut channel);
-    assert!(rt;
-        sent == Poll::Ready(Ok(()))
-            && is_ended
-            && left == None
-            && received == Poll::Ready(Ok(Some(5)))
-    );
+    assert!(rt; sends(&mut channel) && received(&mut channel) == Some(5));
 }
 
 #[test]
@@ -54,16 +68,4 @@ fn an_unbuffered_stream(rt: HostRuntime) {
     stream.cancel(&mut channel);
     assert_eq!(rt; answer, Poll::Pending);
     assert!(rt; !is_ended);
-}
-
-#[test]
-fn a_stream_of_a_closed_channel(rt: HostRuntime) {
-    let mut channel: LocalUnbufferedChannel<u64, u64> = LocalUnbufferedChannel::new(rt.alloc());
-    assert_eq!(rt; channel.close(), CloseStatus::NewlyClosed);
-    let mut stream = channel.stream().expect(&rt, "room");
-    let last = stream.poll(&mut channel, 2);
-    let again = stream.poll(&mut channel, 2);
-    let is_ended = stream.is_terminated();
-    stream.cancel(&mut channel);
-    assert!(rt; last == Poll::Ready(None) && again == Poll::Ready(None) && is_ended);
 }

@@ -39,15 +39,15 @@ fn polled<C: ChannelReceiveAccess>(
 where
     C::Waker: Drop,
 {
-    if !channel.can_receive(slot) {
-        return None;
+    match channel.receive_checked(slot, waker) {
+        Ok((answer, _)) => Some(answer),
+        Err(_) => None,
     }
-    Some(channel.receive_or_register(slot, waker).0)
 }
 
 fn is_refused<T>(answer: &Poll<Result<Option<T>, Fault>>) -> bool {
     match answer {
-        Poll::Ready(Err(fault)) => *fault == Fault::NoMemory,
+        Poll::Ready(Err(fault)) => matches!(*fault, Fault::NoMemory { .. }),
         Poll::Ready(Ok(_)) | Poll::Pending => false,
     }
 }
@@ -59,27 +59,37 @@ fn item_in<T>(answer: Poll<Result<Option<T>, Fault>>) -> Option<T> {
     }
 }
 
+// Whether a poll with the waker 7 waits.
+fn waits<C: ChannelReceiveAccess<Waker = u64>>(channel: &mut C, slot: Slot) -> bool
+where
+    C::Item: Drop,
+{
+    matches!(polled(channel, slot, 7), Some(Poll::Pending))
+}
+
+// Whether a poll with the waker 8 is refused.
+fn poll_is_refused<C: ChannelReceiveAccess<Waker = u64>>(channel: &mut C, slot: Slot) -> bool
+where
+    C::Item: Drop,
+{
+    match polled(channel, slot, 8) {
+        Some(answer) => is_refused(&answer),
+        None => false,
+    }
+}
+
 #[test]
 fn a_refused_clone_leaves_the_pair(rt: HostRuntime) {
     let mut channel: LocalOneshotBroadcastChannel<Reluctant, u64> =
         LocalOneshotBroadcastChannel::new(rt.alloc());
     let slot = channel.claim_receive().expect(&rt, "room");
-    let is_pending = polled(&mut channel, slot, 7)
-        .expect(&rt, "first")
-        .is_pending();
-    let is_sent = channel.send(Reluctant::of(5)).is_ok();
-    let refused = polled(&mut channel, slot, 8).expect(&rt, "second");
-    let count = channel.wake_count();
+    let was_refused = waits(&mut channel, slot)
+        && channel.send(Reluctant::of(5)).is_ok()
+        && poll_is_refused(&mut channel, slot)
+        && channel.wake_count() == 1;
     let value = item_in(polled(&mut channel, slot, 9).expect(&rt, "third")).expect(&rt, "value");
-    assert!(rt;
-        is_pending
-            && is_sent
-            && is_refused(&refused)
-            && count == 1
-            && value.number == 5
-            && channel.wake_count() == 0
-            && !channel.can_receive(slot)
-    );
+    assert!(rt; was_refused && value.number == 5);
+    assert!(rt; channel.wake_count() == 0 && !channel.can_receive(slot));
 }
 
 #[test]
@@ -88,24 +98,14 @@ fn a_refused_clone_leaves_the_waker(rt: HostRuntime) {
         rt.alloc(),
     );
     let slot = channel.claim_receive(StateId::new()).expect(&rt, "room");
-    let is_pending = polled(&mut channel, slot, 7)
-        .expect(&rt, "first")
-        .is_pending();
-    let is_sent = channel.send(Reluctant::of(5)).is_ok();
-    let refused = polled(&mut channel, slot, 8).expect(&rt, "second");
-    let waker = channel.next_wake();
-    let (number, value) = item_in(polled(&mut channel, slot, 9).expect(&rt, "third")).expect(
-        &rt, "state",
-    );
-    assert!(rt;
-        is_pending
-            && is_sent
-            && is_refused(&refused)
-            && waker == Some(7)
-            && number.value() == 1
-            && value.number == 5
-            && !channel.can_receive(slot)
-    );
+    let was_refused = waits(&mut channel, slot)
+        && channel.send(Reluctant::of(5)).is_ok()
+        && poll_is_refused(&mut channel, slot)
+        && channel.next_wake() == Some(7);
+    let state = item_in(polled(&mut channel, slot, 9).expect(&rt, "third"));
+    let (number, value) = state.expect(&rt, "state");
+    assert!(rt; was_refused && number.value() == 1 && value.number == 5);
+    assert!(rt; !channel.can_receive(slot));
 }
 
 #[test]
@@ -120,28 +120,19 @@ fn a_refused_clone_is_asked_again(rt: HostRuntime) {
         .expect(&rt, "room")
         .expect(&rt, "state");
     assert!(rt;
-        is_sent && fault == Some(Fault::NoMemory) && number.value() == 1 && value.number == 5
+        is_sent
+            && matches!(fault, Some(Fault::NoMemory { .. }))
+            && number.value() == 1
+            && value.number == 5
     );
 }
 
 // The Nth allocation may be refused in the tests below.
-// The delivered bytes, asked for once more if their clone was refused.
-fn polled_bytes(
-    channel: &mut LocalOneshotBroadcastChannel<Vec<u8>, u64>,
-    slot: Slot,
-) -> Option<Vec<u8>> {
-    let first = polled(channel, slot, 1)?;
-    if !is_refused(&first) {
-        return item_in(first);
-    }
-    item_in(polled(channel, slot, 1)?)
-}
-
-// The same from a state broadcast.
-fn polled_state_bytes(
-    channel: &mut LocalStateBroadcastChannel<Vec<u8>, u64>,
-    slot: Slot,
-) -> Option<(StateId, Vec<u8>)> {
+// What is delivered, asked for once more if its clone was refused.
+fn delivered<C: ChannelReceiveAccess<Waker = u64>>(channel: &mut C, slot: Slot) -> Option<C::Item>
+where
+    C::Item: Drop,
+{
     let first = polled(channel, slot, 1)?;
     if !is_refused(&first) {
         return item_in(first);
@@ -160,7 +151,7 @@ fn broadcast_bytes_survive_a_refused_clone(rt: HostRuntime) {
         Err(_) => channel.claim_receive().expect(&rt, "room"),
     };
     let is_sent = channel.send(bytes).is_ok();
-    let copy = polled_bytes(&mut channel, slot).expect(&rt, "bytes");
+    let copy = delivered(&mut channel, slot).expect(&rt, "bytes");
     assert!(rt; is_sent && copy.as_slice() == [1u8, 2, 3].as_slice() && !channel.can_receive(slot));
 }
 
@@ -175,7 +166,7 @@ fn state_bytes_survive_a_refused_clone(rt: HostRuntime) {
         Ok(slot) => slot,
         Err(_) => channel.claim_receive(StateId::new()).expect(&rt, "room"),
     };
-    let (number, copy) = polled_state_bytes(&mut channel, slot).expect(&rt, "bytes");
+    let (number, copy) = delivered(&mut channel, slot).expect(&rt, "bytes");
     assert!(rt; is_sent && number.value() == 1 && copy.as_slice() == [4u8, 5].as_slice());
 }
 

@@ -3,9 +3,10 @@ use fi_channels::{
     ClonesValue, EventState, LocalChannel, LocalOneshotBroadcastChannel, LocalOneshotChannel,
     LocalStateBroadcastChannel, SendFault, TakesValue, TryReceiveError, TrySendError,
 };
-use fi_parts::{ChannelSendError, Fault, NoRoom};
-use std::alloc::AllocError;
+use fi_parts::{ChannelSendError, Fault, FuturesOf, LocalFuture};
+use std::alloc::Global;
 use std::io::{self, ErrorKind};
+use tests_help::refusals::{no_memory as no_memory_fault, no_room};
 use tests_help::texts::{reads, shows};
 
 #[test]
@@ -48,40 +49,47 @@ fn ways_of_giving_show_their_names(rt: HostRuntime) {
     );
 }
 
+// Whether this is the future's text. It leaves.
+fn shows_future<S, K: FuturesOf<S>>(
+    alloc: Global,
+    future: LocalFuture<K>,
+    state: &mut S,
+    wanted: &str,
+) -> bool
+where
+    K::Left: Drop,
+{
+    let is_shown = shows(alloc, &future, wanted);
+    let _ = future.leave(state);
+    is_shown
+}
+
 #[test]
 fn a_wait_shows_its_name(rt: HostRuntime) {
     let mut event: EventState<u64> = EventState::new(rt.alloc(), false);
     let wait = event.wait().expect(&rt, "room");
-    let shown = shows(rt.alloc(), &wait, "GenericWaitForEventFuture");
-    wait.cancel(&mut event);
-    assert!(rt; shown);
+    assert!(rt; shows_future(rt.alloc(), wait, &mut event, "GenericWaitForEventFuture"));
 }
 
 #[test]
 fn a_receive_shows_its_name(rt: HostRuntime) {
     let mut channel: LocalOneshotChannel<u32, u64> = LocalOneshotChannel::new(rt.alloc());
     let receive = channel.receive().expect(&rt, "room");
-    let shown = shows(rt.alloc(), &receive, "ChannelReceiveFuture");
-    receive.cancel(&mut channel);
-    assert!(rt; shown);
+    assert!(rt; shows_future(rt.alloc(), receive, &mut channel, "ChannelReceiveFuture"));
 }
 
 #[test]
 fn a_send_shows_its_name(rt: HostRuntime) {
     let mut channel: LocalChannel<u32, 2, u64> = LocalChannel::new(rt.alloc());
     let send = channel.send(5).expect(&rt, "room");
-    let shown = shows(rt.alloc(), &send, "ChannelSendFuture");
-    let unsent = send.cancel(&mut channel);
-    assert!(rt; shown && unsent == Some(5));
+    assert!(rt; shows_future(rt.alloc(), send, &mut channel, "ChannelSendFuture"));
 }
 
 #[test]
 fn a_stream_shows_its_name(rt: HostRuntime) {
     let mut channel: LocalChannel<u32, 2, u64> = LocalChannel::new(rt.alloc());
     let stream = channel.stream().expect(&rt, "room");
-    let shown = shows(rt.alloc(), &stream, "ChannelStream");
-    stream.cancel(&mut channel);
-    assert!(rt; shown);
+    assert!(rt; shows_future(rt.alloc(), stream, &mut channel, "ChannelStream"));
 }
 
 #[test]
@@ -90,11 +98,10 @@ fn refusals_say_what_is_wrong(rt: HostRuntime) {
         reads(rt.alloc(), &SendFault::Closed(3), "the channel is closed")
             && reads(
                 rt.alloc(),
-                &SendFault::<u8>::Fault(Fault::NoMemory),
-                "out of memory"
+                &SendFault::<u8>::Fault(Fault::Full),
+                "the channel is full"
             )
             && reads(rt.alloc(), &TrySendError::Full(3), "the channel is full")
-            && reads(rt.alloc(), &TrySendError::NoMemory(3), "out of memory")
             && reads(
                 rt.alloc(),
                 &TrySendError::Closed(3),
@@ -109,6 +116,17 @@ fn refusals_say_what_is_wrong(rt: HostRuntime) {
     );
 }
 
+// A refusal of memory, as a send meets it.
+fn no_memory(alloc: Global) -> Option<TrySendError<u8>> {
+    Some(TrySendError::NoMemory(no_room(alloc, 3)?))
+}
+
+#[test]
+fn want_of_memory_says_so(rt: HostRuntime) {
+    let refused = no_memory(rt.alloc()).expect(&rt, "refused");
+    assert!(rt; reads(rt.alloc(), &refused, "out of memory"));
+}
+
 // Answers the refusal as an `io::Error`, by `?`.
 fn sends(refused: TrySendError<u8>) -> io::Result<()> {
     Err(refused)?;
@@ -118,17 +136,18 @@ fn sends(refused: TrySendError<u8>) -> io::Result<()> {
 #[test]
 fn refusals_become_io_errors(rt: HostRuntime) {
     let kind = |refused| sends(refused).err().map(|error| error.kind());
+    let refused = no_memory(rt.alloc()).expect(&rt, "refused");
     assert!(rt;
         kind(TrySendError::Full(3)) == Some(ErrorKind::WouldBlock)
             && kind(TrySendError::Closed(3)) == Some(ErrorKind::BrokenPipe)
-            && kind(TrySendError::NoMemory(3)) == Some(ErrorKind::OutOfMemory)
+            && kind(refused) == Some(ErrorKind::OutOfMemory)
     );
     let closed = io::Error::from(SendFault::Closed(3));
-    let no_memory = io::Error::from(SendFault::<u8>::Fault(Fault::NoMemory));
+    let fault = no_memory_fault(rt.alloc()).expect(&rt, "refused");
+    let no_memory = io::Error::from(SendFault::<u8>::Fault(fault));
     assert!(rt;
         closed.kind() == ErrorKind::BrokenPipe
             && no_memory.kind() == ErrorKind::OutOfMemory
-            && io::Error::from(NoRoom(3)).kind() == ErrorKind::OutOfMemory
             && io::Error::from(ChannelSendError(3)).kind() == ErrorKind::BrokenPipe
             && io::Error::from(TryReceiveError::Empty).kind() == ErrorKind::WouldBlock
             && io::Error::from(TryReceiveError::Closed).kind() == ErrorKind::BrokenPipe
@@ -143,10 +162,10 @@ fn fault_of(refused: TrySendError<u8>) -> Result<(), Fault> {
 
 #[test]
 fn refusals_become_faults(rt: HostRuntime) {
+    let refused = no_memory(rt.alloc()).expect(&rt, "refused");
     assert!(rt;
         fault_of(TrySendError::Full(3)) == Err(Fault::Full)
-            && Fault::from(NoRoom(3)) == Fault::NoMemory
-            && Fault::from(AllocError) == Fault::NoMemory
+            && matches!(Fault::from(refused), Fault::NoMemory { .. })
             && Fault::from(SendFault::Closed(3)) == Fault::Closed
             && Fault::from(ChannelSendError(3)) == Fault::Closed
             && Fault::from(TryReceiveError::Empty) == Fault::Empty

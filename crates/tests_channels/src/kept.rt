@@ -1,10 +1,6 @@
 //! Local futures that are kept over other calls, as a user writes them: `poll_if_live` and `leave` ask their caller for nothing, and
 //! clauses say that a future which was polled lives until it is cancelled, so nothing here needs a proof.
-use fi_channels::{
-    LocalChannel, LocalManualResetEvent, LocalOneshotChannel, LocalStateBroadcastChannel,
-    TrySendError,
-};
-use fi_parts::StateId;
+use fi_channels::{LocalChannel, LocalManualResetEvent, LocalOneshotChannel};
 use futures::task::Poll;
 
 #[test]
@@ -22,16 +18,6 @@ fn a_wait_is_kept(rt: HostRuntime) {
 }
 
 #[test]
-fn a_wait_is_cancelled(rt: HostRuntime) {
-    let mut event: LocalManualResetEvent<u64> = LocalManualResetEvent::new(rt.alloc(), false);
-    let mut wait = event.wait().expect(&rt, "memory");
-    let waits = wait.poll_if_live(&mut event, 1);
-    event.set();
-    wait.cancel(&mut event);
-    assert_eq!(rt; (waits, event.next_wake()), (Some(Poll::Pending), None));
-}
-
-#[test]
 fn a_receive_is_kept(rt: HostRuntime) {
     let mut channel: LocalOneshotChannel<u32, u64> = LocalOneshotChannel::new(rt.alloc());
     let mut receive = channel.receive().expect(&rt, "memory");
@@ -42,24 +28,6 @@ fn a_receive_is_kept(rt: HostRuntime) {
     receive.leave(&mut channel);
     assert_eq!(rt; (waits, woken), (Some(Poll::Pending), Some(1)));
     assert_eq!(rt; (sent, ends), (Ok(()), Some(Poll::Ready(Ok(Some(5))))));
-}
-
-#[test]
-fn a_state_receive_is_kept(rt: HostRuntime) {
-    let mut channel: LocalStateBroadcastChannel<u32, u64> = LocalStateBroadcastChannel::new(
-        rt.alloc(),
-    );
-    let mut receive = channel.receive(StateId::new()).expect(&rt, "memory");
-    let waits = receive.poll_if_live(&mut channel, 1);
-    let sent = channel.send(5);
-    let woken = channel.next_wake();
-    let ends = receive.poll_if_live(&mut channel, 2);
-    receive.leave(&mut channel);
-    let state = (StateId::from_value(1), 5);
-    assert!(rt;
-        (waits, woken) == (Some(Poll::Pending), Some(1))
-            && (sent, ends) == (Ok(()), Some(Poll::Ready(Ok(Some(state)))))
-    );
 }
 
 #[test]
@@ -76,46 +44,5 @@ fn a_send_is_kept(rt: HostRuntime) {
     assert_eq!(rt;
         (waits, ends, left),
         (Some(Poll::Pending), Some(Poll::Ready(Ok(()))), None)
-    );
-}
-
-#[test]
-fn a_send_that_leaves_gives_its_value_back(rt: HostRuntime) {
-    let mut channel: LocalChannel<u64, 0, u64> = LocalChannel::new(rt.alloc());
-    let mut send = channel.send(6).expect(&rt, "memory");
-    let waits = send.poll_if_live(&mut channel, 1);
-    let closed = channel.close().is_newly_closed();
-    let left = send.leave(&mut channel);
-    assert_eq!(rt; (waits, closed, left), (Some(Poll::Pending), true, Some(6)));
-}
-
-#[test]
-fn a_stream_is_kept(rt: HostRuntime) {
-    let mut channel: LocalChannel<u64, 1, u64> = LocalChannel::new(rt.alloc());
-    let mut stream = channel.stream().expect(&rt, "memory");
-    let waits = stream.poll_if_live(&mut channel, 1);
-    let sent = channel.try_send(5);
-    let woken = channel.next_wake();
-    let item = stream.poll_if_live(&mut channel, 2);
-    let closed = channel.close().is_newly_closed();
-    let end = stream.poll_if_live(&mut channel, 3);
-    stream.leave(&mut channel);
-    assert!(rt;
-        (waits, sent, woken) == (Some(Poll::Pending), Ok(()), Some(1))
-            && (item, closed, end) == (Some(Poll::Ready(Some(5))), true, Some(Poll::Ready(None)))
-    );
-}
-
-#[test]
-fn a_send_is_cancelled(rt: HostRuntime) {
-    let mut channel: LocalChannel<u64, 1, u64> = LocalChannel::new(rt.alloc());
-    let stored = channel.try_send(5);
-    let mut send = channel.send(6).expect(&rt, "memory");
-    let waits = send.poll_if_live(&mut channel, 1);
-    let refused = channel.try_send(7);
-    let left = send.cancel(&mut channel);
-    assert!(rt;
-        (stored, waits, left) == (Ok(()), Some(Poll::Pending), Some(6))
-            && refused == Err(TrySendError::Full(7))
     );
 }

@@ -96,7 +96,8 @@ impl PlainWaiters {
             }
             slot = slot.wrapping_add(1);
         }
-        Answer::Refused(Fault::NoMemory)
+        // The lists make no more: no call is answered this.
+        Answer::Refused(Fault::TooManyEnds)
     }
 
     // It waits, before all of a greater rank.

@@ -89,7 +89,7 @@ impl IntoAnswer for Result<(), TrySendError<u64>> {
             Ok(()) => Answer::Done,
             Err(TrySendError::Closed(value)) => Answer::Back(value, Fault::Closed),
             Err(TrySendError::Full(value)) => Answer::Back(value, Fault::Full),
-            Err(TrySendError::NoMemory(value)) => Answer::Back(value, Fault::NoMemory),
+            Err(TrySendError::NoMemory(failed)) => Answer::Back(failed.0, Fault::from(failed)),
         }
     }
 }

@@ -67,7 +67,7 @@ impl<'a, R: Wait, B: RingBuf<Item = u64>> Opened<R, ChannelCall<u64, u64>>
             ChannelCall::PollNext(Slot(number), waker) => {
                 self.streams.poll_next(rt, tasks, number, waker)
             }
-            ChannelCall::CancelSend(Slot(number)) => self.sends.let_go(number),
+            ChannelCall::CancelSend(Slot(number)) => self.sends.cancel(number),
             ChannelCall::CancelReceive(Slot(number)) => self.let_go(number),
             ChannelCall::TrySend(value) => Seen::given(self.channel.try_send(value)),
             ChannelCall::TryReceive => Seen::given(self.channel.try_receive()),

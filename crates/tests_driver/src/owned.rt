@@ -2,7 +2,7 @@
 
 use crate::Seen;
 use crate::answers::{IntoAnswer, of_poll};
-use crate::pollable::Pollable;
+use crate::pollable::{Pollable, Withdraw};
 use crate::tasks::{TaskSet, Tasks};
 use fi_parts::{Fault, NoRoom, Slot};
 use fi_run::Answer;
@@ -56,7 +56,7 @@ impl<F: Drop> Futures<F> {
     pub fn keep_send(&mut self, made: Result<F, NoRoom<u64>>) -> Seen {
         match made {
             Ok(send) => self.keep_made(send),
-            Err(NoRoom(value)) => Seen::answered(Answer::Back(value, Fault::NoMemory)),
+            Err(failed) => Seen::answered(Answer::Back(failed.0, Fault::from(failed))),
         }
     }
 
@@ -94,6 +94,23 @@ impl<F: Drop> Futures<F> {
         let owned = self.owned.get_mut(number)?;
         owned.tasks.insert(task);
         owned.future.as_mut()
+    }
+}
+
+impl<F: Withdraw> Futures<F> {
+    /// Cancels the send of this number, and drops it. What is seen is the value that it gives back, or that it gives none.
+    pub fn cancel(&mut self, number: usize) -> Seen {
+        let Some(owned) = self.owned.get_mut(number) else {
+            return Seen::Lost;
+        };
+        let Some(mut send) = owned.future.take() else {
+            return Seen::Dropped(owned.tasks);
+        };
+        let answer = match send.withdraw() {
+            Some(value) => Answer::Item(value),
+            None => Answer::Nothing,
+        };
+        Seen::Answered(answer, owned.tasks)
     }
 }
 

@@ -1,7 +1,8 @@
-//! Futures that may be polled at any time.
+//! What drivers ask of futures: that they may be polled at any time, and that sends can be cancelled.
 
 use fi_sync::{
-    CountedSemaphore, HasMonitor, MutexLockFuture, PollSlot, SemaphoreAcquireFutureOf, SlotFuture,
+    Cancel, ChannelSend, CountedSemaphore, HasMonitor, MutexLockFuture, PollSlot, PollWaker,
+    SemaphoreAcquireFutureOf, SlotFuture,
 };
 use futures::Future;
 use std::sync::Wait;
@@ -26,4 +27,18 @@ impl<R: Wait, L: Ledger> Pollable for MutexLockFuture<'_, u64, R, L> {
 impl<M: HasMonitor<State = CountedSemaphore<L>>, L: Ledger> Pollable
     for SemaphoreAcquireFutureOf<M, L> {
     ghost is_pollable = { λ _. tt };
+}
+
+/// A send, which gives its value back where it is cancelled in time.
+pub trait Withdraw: Drop {
+    fn withdraw(&mut self) -> Option<u64>;
+}
+
+impl<M: HasMonitor> Withdraw for SlotFuture<M, ChannelSend>
+where
+    M::State: PollSlot<ChannelSend> + Cancel<ChannelSend, Left = (Option<u64>, Option<PollWaker>)>,
+{
+    fn withdraw(&mut self) -> Option<u64> {
+        self.cancel()
+    }
 }

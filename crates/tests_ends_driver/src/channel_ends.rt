@@ -92,7 +92,7 @@ impl<R: Wait + Drop> ReceivingEnd for Receiver<u64, R> {
 
     fn stream(&self) -> Result<SharedStream<u64, GrowingHeapBuf<u64>, R>, Fault> {
         let receiver = self.clone()?;
-        receiver.into_stream().map_err(|_receiver| Fault::NoMemory)
+        Ok(receiver.into_stream()?)
     }
 
     fn try_receive(&self) -> Result<u64, TryReceiveError> {

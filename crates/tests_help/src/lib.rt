@@ -1,4 +1,5 @@
 //! What tests of several crates share.
 #![tactic(auto)]
 
+pub mod refusals;
 pub mod texts;

@@ -1,6 +1,7 @@
 //! The texts of `Debug`: those of the Rust crate.
 use fi_locks::{LocalMutex, LocalSemaphore, LocalTimerService};
 use futures::task::Poll;
+use std::time::Duration;
 use tests_help::texts::shows;
 
 #[test]
@@ -32,8 +33,7 @@ fn a_lock_and_its_guard_show_their_names(rt: HostRuntime) {
         guard.unlock(&mut mutex);
     }
     lock.cancel(&mut mutex);
-    assert!(rt; shown);
-    assert!(rt; guarded);
+    assert!(rt; shown && guarded);
 }
 
 #[test]
@@ -48,14 +48,13 @@ fn a_future_and_its_permits_show_their_names(rt: HostRuntime) {
         held = shows(rt.alloc(), &releaser, "GenericSemaphoreReleaser");
         releaser.give_back(&mut semaphore);
     }
-    assert!(rt; shown);
-    assert!(rt; held);
+    assert!(rt; shown && held);
 }
 
 #[test]
 fn a_timer_future_shows_its_name(rt: HostRuntime) {
     let mut timer: LocalTimerService<u64> = LocalTimerService::new(rt.alloc());
-    let future = timer.deadline(10).expect(&rt, "room");
+    let future = timer.delay(5, Duration::from_millis(5)).expect(&rt, "room");
     let shown = shows(rt.alloc(), &future, "LocalTimerFuture");
     future.cancel(&mut timer);
     assert!(rt; shown);

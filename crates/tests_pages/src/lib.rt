@@ -1,4 +1,4 @@
-//! The programs with which the pages in docs/ begin.
+//! The programs with which the pages in docs/ begin, and the examples of public types.
 #![tactic(auto)]
 
 #[cfg(test)]
@@ -21,3 +21,5 @@ mod semaphore;
 mod state_broadcast;
 #[cfg(test)]
 mod timer;
+#[cfg(test)]
+mod types;

@@ -1,14 +1,11 @@
 //! The buffers: order, capacities, what is reserved, and drops.
-ghost use Rattle.std.specs.Prelude.{◌≡◌, ◌<◌, ◌≤◌, ◌∷◌, ◌++◌, [], ℕ, length, IfErr, IfOk, OnOk, OnErr, IfNone, IfSome};
-ghost use Rattle.fi_parts.specs.Buffer.{Fits, Bounded, pushed};
+ghost use Rattle.std.specs.Prelude.{◌≡◌, ◌<◌, ◌≤◌, ◌∷◌, ◌++◌, [], IfErr, IfOk, IfNone, IfSome};
+ghost use Rattle.fi_parts.specs.Buffer.{Fits};
 
+use fi_parts::NoRoom;
 use fi_parts::buffer::{ArrayBuf, FixedHeapBuf, GrowingHeapBuf, RingBuf};
-use fi_parts::{Fault, NoRoom};
 use std::alloc::Global;
-use std::marker::Model;
-use std::process::Abort;
 use std::rc::Rc;
-use std::test::*;
 use tests_help::texts::shows;
 
 /// Takes the oldest item, if there is one, and then puts the item behind the others: what a full channel does where a send waits.
@@ -35,44 +32,11 @@ fn refill<B: RingBuf>(buffer: &mut B, item: B::Item) -> Result<Option<B::Item>, 
     }
 }
 
-/// A buffer, and how many items it has taken.
-#[derive(Drop)]
-struct Desk<T, B: RingBuf<Item = T>> {
-    buffer: B,
-    taken: u64,
-}
-
-impl<T, B: RingBuf<Item = T>> Model for Desk<T, B> {
-    ghost use Rattle.std.specs.Prelude.{ℕ};
-    ghost use Rattle.fi_parts.specs.Buffer.{Bounded};
-
-    ghost Value = { Bounded T × ℕ };
-
-    ghost view = { λ d. (B.bounded d.buffer, d.taken) };
-}
-
-impl<T: Drop, B: RingBuf<Item = T>> Desk<T, B> {
-    /// Takes the item, if there is room for it.
-    fn offer(&mut self, item: T) -> Result<(), NoRoom<T>>
-        ensures full { (self.old.0).capacity ≤ length (self.old.0).items → OnOk result ⊥ }
-        ensures ok { OnOk result (self.new.0 ≡ pushed self.old.0 item (self.new.0).reserved) }
-        ensures err { OnErr result (self.new ≡ self.old) }
-    {
-        if self.taken == u64::MAX || !self.buffer.can_push() {
-            return Err(NoRoom(item));
-        }
-        self.buffer.push(item)?;
-        self.taken += 1;
-        Ok(())
-    }
-}
-
 /// Makes a buffer, at the second try if the first is refused.
 fn make<B: RingBuf>(alloc: Global, capacity: usize) -> Option<B> {
     match B::with_capacity(alloc, capacity) {
         Ok(buffer) => Some(buffer),
-        Err(Fault::NoMemory) => B::with_capacity(alloc, capacity).ok(),
-        Err(_) => None,
+        Err(_refused) => B::with_capacity(alloc, capacity).ok(),
     }
 }
 
@@ -82,8 +46,9 @@ fn is_put<B: RingBuf<Item = u32>>(buffer: &mut B, item: u32) -> bool {
         return false;
     }
     let (len, reserved) = (buffer.len(), buffer.reserved());
-    let Err(NoRoom(back)) = buffer.push(item) else {
-        return true;
+    let back = match buffer.push(item) {
+        Ok(()) => return true,
+        Err(failed) => failed.0,
     };
     let is_unchanged = back == item && buffer.len() == len && buffer.reserved() == reserved;
     is_unchanged && reserved == len && buffer.push(back).is_ok()
@@ -186,14 +151,6 @@ fn wraps_round<B: RingBuf<Item = u32>>(buffer: &mut B) -> bool {
     buffer.is_empty()
 }
 
-/// A buffer that is made for 30 wraps round.
-fn made_wraps_round<B: RingBuf<Item = u32>>(alloc: Global) -> bool {
-    match make::<B>(alloc, 30) {
-        Some(mut buffer) => wraps_round(&mut buffer),
-        None => false,
-    }
-}
-
 /// A buffer of no items is empty and full.
 fn holds_nothing<B: RingBuf<Item = u32>>(buffer: &mut B) -> bool {
     buffer.capacity() == 0
@@ -212,7 +169,31 @@ fn made_holds_nothing<B: RingBuf<Item = u32>>(alloc: Global, capacity: usize) ->
     }
 }
 
-// The next three tests give the same answers where one allocation fails, whichever it is: see `rt try --test --fail-alloc N`.
+/// What is taken out of a buffer has its items in order; an empty one of the same capacity is left, which takes memory anew.
+fn is_taken<B: RingBuf<Item = u32>>(buffer: &mut B) -> bool {
+    let capacity = buffer.capacity();
+    if !puts(buffer, &[1, 2, 3]) {
+        return false;
+    }
+    let mut taken = buffer.take();
+    takes(&mut taken, &[1, 2, 3])
+        && taken.capacity() == capacity
+        && buffer.is_empty()
+        && buffer.capacity() == capacity
+        && buffer.reserved() == 0
+        && puts(buffer, &[4])
+        && takes(buffer, &[4])
+}
+
+/// A buffer that is made for so many is taken out.
+fn made_is_taken<B: RingBuf<Item = u32>>(alloc: Global, capacity: usize) -> bool {
+    match make::<B>(alloc, capacity) {
+        Some(mut buffer) => is_taken(&mut buffer),
+        None => false,
+    }
+}
+
+// The next four tests give the same answers where one allocation fails, whichever it is: see `rt try --test --fail-alloc N`.
 
 #[test]
 fn buffer_order_of_each(rt: HostRuntime) {
@@ -224,13 +205,21 @@ fn buffer_order_of_each(rt: HostRuntime) {
     assert!(rt; is_kept);
 }
 
+// Of the others none asks for memory behind its first item.
 #[test]
 fn wraps_round_as_it_grows(rt: HostRuntime) {
+    let mut buffer = make::<GrowingHeapBuf<u32>>(rt.alloc(), 30).expect(&rt, "memory");
+    assert!(rt; wraps_round(&mut buffer));
+}
+
+#[test]
+fn a_buffer_is_taken_out(rt: HostRuntime) {
     let alloc = rt.alloc();
-    let is_kept = wraps_round(&mut ArrayBuf::<u32, 30>::new(alloc))
-        && made_wraps_round::<FixedHeapBuf<u32>>(alloc)
-        && made_wraps_round::<GrowingHeapBuf<u32>>(alloc);
-    assert!(rt; is_kept);
+    let is_each = is_taken(&mut ArrayBuf::<u32, 5>::new(alloc))
+        && made_is_taken::<ArrayBuf<u32, 5>>(alloc, 5)
+        && made_is_taken::<FixedHeapBuf<u32>>(alloc, 5)
+        && made_is_taken::<GrowingHeapBuf<u32>>(alloc, 5);
+    assert!(rt; is_each);
 }
 
 #[test]
@@ -240,11 +229,6 @@ fn capacity_zero(rt: HostRuntime) {
         && made_holds_nothing::<FixedHeapBuf<u32>>(alloc, 0)
         && made_holds_nothing::<GrowingHeapBuf<u32>>(alloc, 0);
     assert!(rt; holds_none);
-}
-
-/// Puts the item behind the others.
-fn put<B: RingBuf<Item = u32>>(rt: &impl Abort, buffer: &mut B, item: u32) {
-    assert!(rt; is_put(buffer, item));
 }
 
 /// A buffer of three items, with memory for three, whose one item is exchanged.
@@ -260,28 +244,26 @@ fn is_emptied<B: RingBuf<Item = u32>>(buffer: &mut B, last: &[u32], reserved: us
 #[test]
 fn array_buf(rt: HostRuntime) {
     let mut buffer = ArrayBuf::<u32, 3>::new(rt.alloc());
-    assert_eq!(rt; (buffer.capacity(), buffer.reserved()), (3, 0));
-    put(&rt, &mut buffer, 1);
-    assert_eq!(rt; buffer.reserved(), 3);
-    let is_used = is_refilled(&mut buffer) && is_emptied(&mut buffer, &[2], 3);
+    let is_used = buffer.reserved() == 0
+        && is_put(&mut buffer, 1)
+        && is_refilled(&mut buffer)
+        && is_emptied(&mut buffer, &[2], 3);
     assert!(rt; is_used && shows(rt.alloc(), &buffer, "ArrayBuf { size: 0, cap: 3 }"));
 }
 
 #[test]
 fn fixed_heap_buf(rt: HostRuntime) {
     let mut buffer = FixedHeapBuf::with_capacity(rt.alloc(), 3).expect(&rt, "memory");
-    let is_used = buffer.capacity() == 3
-        && buffer.reserved() == 3
-        && is_put(&mut buffer, 1)
-        && is_refilled(&mut buffer)
-        && shows(rt.alloc(), &buffer, "FixedHeapBuf { size: 1, cap: 3 }")
-        && is_emptied(&mut buffer, &[2], 3);
-    assert!(rt; is_used);
+    let is_used = buffer.reserved() == 3 && is_put(&mut buffer, 1) && is_refilled(&mut buffer);
+    assert!(rt; is_used && shows(rt.alloc(), &buffer, "FixedHeapBuf { size: 1, cap: 3 }"));
+    assert!(rt; is_emptied(&mut buffer, &[2], 3));
 }
 
-/// A buffer of ten items grows with nine, and then has its oldest exchanged.
+/// A buffer of ten items, without memory yet, grows with nine, and then has its oldest exchanged.
 fn grows_to_ten<B: RingBuf<Item = u32>>(buffer: &mut B) -> bool {
-    grows(buffer, &[(1, 4), (2, 4), (3, 4), (4, 4), (5, 8), (6, 8)])
+    buffer.capacity() == 10
+        && buffer.reserved() == 0
+        && grows(buffer, &[(1, 4), (2, 4), (3, 4), (4, 4), (5, 8), (6, 8)])
         && grows(buffer, &[(7, 8), (8, 8), (9, 10)])
         && buffer.capacity() == 10
         && refill(buffer, 10).ok() == Some(Some(1))
@@ -290,14 +272,9 @@ fn grows_to_ten<B: RingBuf<Item = u32>>(buffer: &mut B) -> bool {
 #[test]
 fn growing_heap_buf(rt: HostRuntime) {
     let mut buffer = GrowingHeapBuf::with_capacity(rt.alloc(), 10).expect(&rt, "memory");
-    assert_eq!(rt; (buffer.capacity(), buffer.reserved()), (10, 0));
-    let is_shown = grows_to_ten(&mut buffer)
-        && shows(rt.alloc(), &buffer, "GrowingHeapBuf { size: 9, limit: 10 }");
-    assert!(rt; is_shown);
-    for item in [2, 3, 4, 5, 6, 7, 8, 9, 10] {
-        assert_eq!(rt; take(&mut buffer), Some(item));
-    }
-    assert_eq!(rt; (buffer.reserved(), buffer.is_empty()), (10, true));
+    let is_grown = grows_to_ten(&mut buffer);
+    assert!(rt; is_grown && shows(rt.alloc(), &buffer, "GrowingHeapBuf { size: 9, limit: 10 }"));
+    assert!(rt; is_emptied(&mut buffer, &[2, 3, 4, 5, 6, 7, 8, 9, 10], 10));
 }
 
 /// More than any address space has room for.
@@ -305,10 +282,7 @@ const TOO_MANY: usize = 1 << 62;
 
 /// Whether a buffer for so many is refused for memory.
 fn is_refused<B: RingBuf>(alloc: Global, capacity: usize) -> bool {
-    match B::with_capacity(alloc, capacity) {
-        Ok(_) => false,
-        Err(fault) => fault == Fault::NoMemory,
-    }
+    B::with_capacity(alloc, capacity).is_err()
 }
 
 #[test]
@@ -319,8 +293,8 @@ fn refused_for_memory(rt: HostRuntime) {
     let mut buffer = ArrayBuf::<u32, TOO_MANY>::new(rt.alloc());
     for _ in 0..2 {
         assert!(rt; buffer.can_push());
-        let NoRoom(back) = buffer.push(7).err().expect(&rt, "no memory");
-        assert_eq!(rt; (back, buffer.len(), buffer.reserved()), (7, 0, 0));
+        let failed = buffer.push(7).err().expect(&rt, "no memory");
+        assert_eq!(rt; (failed.0, buffer.len(), buffer.reserved()), (7, 0, 0));
     }
 }
 
@@ -356,14 +330,4 @@ fn drops_each_item_once(rt: HostRuntime) {
         && owns_three::<GrowingHeapBuf<Rc<i32>>>(rt.alloc(), &item)
         && Rc::strong_count(&item) == 1;
     assert!(rt; are_dropped);
-}
-
-#[test]
-fn desk_takes_what_fits(rt: HostRuntime) {
-    let mut desk = Desk {
-        buffer: FixedHeapBuf::with_capacity(rt.alloc(), 1).expect(&rt, "memory"),
-        taken: 0,
-    };
-    assert!(rt; desk.offer(1).is_ok() && desk.offer(2).is_err());
-    assert_eq!(rt; desk.taken, 1);
 }

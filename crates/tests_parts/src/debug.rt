@@ -1,9 +1,11 @@
 //! The texts of `Debug` and `Display`.
 use fi_parts::{
     ChannelSendError, Deadlines, Entry, Fault, Future, Leftover, Line, LinkedList, MockClock,
-    NoRoom, Outbox, PairingHeap, Phase, StdClock, Ticket, Waits,
+    Outbox, PairingHeap, Phase, StdClock, Ticket, Waits,
 };
+use std::alloc::Global;
 use std::io::{self, ErrorKind};
+use tests_help::refusals::{no_memory, no_room};
 use tests_help::texts::{reads, shows};
 
 #[test]
@@ -70,15 +72,10 @@ fn an_entry_shows_its_fields(rt: HostRuntime) {
 
 #[test]
 fn values_show_their_fields(rt: HostRuntime) {
-    assert!(rt; shows(rt.alloc(), &Phase::<u64>::Told, "Told"));
     let leftover = Leftover::of(Some(1), None);
-    assert!(rt;
-        shows(
-            rt.alloc(),
-            &leftover,
-            "Leftover { displaced: Some(1), unused: None }"
-        )
-    );
+    let wanted = "Leftover { displaced: Some(1), unused: None }";
+    let is_shown = shows(rt.alloc(), &Phase::<u64>::Told, "Told");
+    assert!(rt; is_shown && shows(rt.alloc(), &leftover, wanted));
 }
 
 #[test]
@@ -90,32 +87,43 @@ fn clocks_as_in_the_rust_crate(rt: HostRuntime) {
     assert!(rt; shows(rt.alloc(), &clock, "StdClock"));
 }
 
+// Whether these faults have these texts.
+fn read_so(alloc: Global, rows: &[(Fault, &str)]) -> bool {
+    for (fault, wanted) in rows {
+        if !reads(alloc, fault, wanted) {
+            return false;
+        }
+    }
+    true
+}
+
+#[test]
+fn faults_say_what_is_wrong(rt: HostRuntime) {
+    let fault = no_memory(rt.alloc()).expect(&rt, "refused");
+    let rows = [
+        (fault, "out of memory"),
+        (Fault::Closed, "the channel is closed"),
+        (Fault::Full, "the channel is full"),
+        (Fault::Empty, "the channel is empty"),
+        (
+            Fault::NoSlot,
+            "the future was cancelled, has ended, or is of another kind",
+        ),
+        (
+            Fault::Overflow,
+            "there would be more permits than can be counted",
+        ),
+        (Fault::NotHeld, "more was given back than is held"),
+        (Fault::TooManyEnds, "no further end or seat can be made"),
+    ];
+    assert!(rt; read_so(rt.alloc(), rows.as_slice()));
+}
+
 #[test]
 fn errors_say_what_is_wrong(rt: HostRuntime) {
-    assert!(rt; reads(rt.alloc(), &Fault::NoMemory, "out of memory"));
-    assert!(rt; reads(rt.alloc(), &Fault::Closed, "the channel is closed"));
-    assert!(rt; reads(rt.alloc(), &Fault::Full, "the channel is full"));
-    assert!(rt; reads(rt.alloc(), &Fault::Empty, "the channel is empty"));
-    let text = "the future was cancelled, has ended, or is of another kind";
-    assert!(rt; reads(rt.alloc(), &Fault::NoSlot, text));
-    let text = "there would be more permits than can be counted";
-    assert!(rt; reads(rt.alloc(), &Fault::Overflow, text));
-    assert!(rt;
-        reads(
-            rt.alloc(),
-            &Fault::NotHeld,
-            "more was given back than is held"
-        )
-    );
-    assert!(rt;
-        reads(
-            rt.alloc(),
-            &Fault::TooManyEnds,
-            "no further end or seat can be made"
-        )
-    );
-    assert!(rt; reads(rt.alloc(), &NoRoom(3), "out of memory"));
-    assert!(rt; reads(rt.alloc(), &ChannelSendError(3), "the channel is closed"));
+    let failed = no_room(rt.alloc(), 3).expect(&rt, "refused");
+    let is_read = reads(rt.alloc(), &failed, "out of memory");
+    assert!(rt; is_read && reads(rt.alloc(), &ChannelSendError(3), "the channel is closed"));
 }
 
 // Answers the fault as an `io::Error`, by `?`.
@@ -124,15 +132,30 @@ fn refused(fault: Fault) -> io::Result<()> {
     Ok(())
 }
 
+// Whether these faults become errors of this kind.
+fn are_of(faults: &[Fault], wanted: ErrorKind) -> bool {
+    for fault in faults {
+        if refused(*fault).err().map(|error| error.kind()) != Some(wanted) {
+            return false;
+        }
+    }
+    true
+}
+
 #[test]
 fn faults_become_io_errors(rt: HostRuntime) {
     let kind = |fault| refused(fault).err().map(|error| error.kind());
-    assert_eq!(rt; kind(Fault::NoMemory), Some(ErrorKind::OutOfMemory));
+    let fault = no_memory(rt.alloc()).expect(&rt, "refused");
     assert_eq!(rt; kind(Fault::Closed), Some(ErrorKind::BrokenPipe));
     assert_eq!(rt; kind(Fault::Empty), Some(ErrorKind::WouldBlock));
-    assert_eq!(rt; kind(Fault::Full), Some(ErrorKind::WouldBlock));
-    assert_eq!(rt; kind(Fault::NoSlot), Some(ErrorKind::Other));
-    assert_eq!(rt; kind(Fault::Overflow), Some(ErrorKind::Other));
-    assert_eq!(rt; kind(Fault::NotHeld), Some(ErrorKind::Other));
-    assert_eq!(rt; kind(Fault::TooManyEnds), Some(ErrorKind::Other));
+    let others = [
+        Fault::NoSlot,
+        Fault::Overflow,
+        Fault::NotHeld,
+        Fault::TooManyEnds,
+    ];
+    let are_kinds = are_of(&[fault], ErrorKind::OutOfMemory)
+        && are_of(&[Fault::Full], ErrorKind::WouldBlock)
+        && are_of(others.as_slice(), ErrorKind::Other);
+    assert!(rt; are_kinds);
 }

@@ -1,15 +1,15 @@
 //! Tests of the heap.
-ghost use Rattle.std.specs.Prelude.{◌<◌};
-
 use fi_parts::{PairingHeap, Slot};
-use std::alloc::AllocError;
-use std::process::Abort;
 
-/// Claims a slot for a value and puts it into the heap.
-fn add(rt: &impl Abort, heap: &mut PairingHeap<u64>, value: u64) -> Slot {
-    let slot = heap.claim(value).expect(rt, "there is memory");
-    heap.insert(slot);
-    slot
+/// Claims slots for values and puts them into the heap: the last slot.
+fn add(heap: &mut PairingHeap<u64>, values: &[u64]) -> Option<Slot> {
+    let mut last = None;
+    for value in values {
+        let slot = heap.claim(*value).ok()?;
+        heap.insert(slot);
+        last = Some(slot);
+    }
+    last
 }
 
 /// The least value, whose slot is taken out and freed.
@@ -29,23 +29,23 @@ fn takes(heap: &mut PairingHeap<u64>, values: &[u64]) -> bool {
     true
 }
 
-/// Takes a slot out, which stays live.
+/// Takes a slot out, which stays live until it is freed.
 fn is_removed(heap: &mut PairingHeap<u64>, slot: Slot, value: u64) -> bool {
-    if heap.contains(slot) {
-        heap.remove(slot);
+    if !heap.contains(slot) {
+        return false;
     }
-    !heap.contains(slot) && heap.get(slot).copied() == Some(value)
+    heap.members_are_live();
+    heap.remove(slot);
+    let is_left = !heap.contains(slot) && heap.get(slot).copied() == Some(value);
+    is_left && heap.free(slot) == value
 }
 
 #[test]
 fn heap_order(rt: HostRuntime) {
     let mut heap = PairingHeap::new(rt.alloc());
-    add(&rt, &mut heap, 3);
-    add(&rt, &mut heap, 1);
-    let four = add(&rt, &mut heap, 4);
-    add(&rt, &mut heap, 1);
-    add(&rt, &mut heap, 5);
-    let is_ordered = is_removed(&mut heap, four, 4)
+    let four = add(&mut heap, &[3, 1, 4]).expect(&rt, "memory");
+    let is_ordered = add(&mut heap, &[1, 5]).is_some()
+        && is_removed(&mut heap, four, 4)
         && takes(&mut heap, &[1, 1, 3])
         && !heap.is_empty()
         && takes(&mut heap, &[5])
@@ -74,59 +74,35 @@ fn values_are_written_outside(rt: HostRuntime) {
     assert!(rt; is_not_live(&mut heap, Slot(7)));
 }
 
-/// Draws numbers: the same ones in each run.
-#[derive(Drop)]
-struct Draws {
-    state: u64,
-}
-
-impl Draws {
-    fn below(&mut self, limit: u64) -> u64
-        requires { 0 < limit }
-        ensures { result < limit }
-    {
-        self.state = self
-            .state
-            .wrapping_mul(6_364_136_223_846_793_005)
-            .wrapping_add(1_442_695_040_888_963_407);
-        (self.state >> 33) % limit
+/// Takes a slot out and frees it, if it is in the heap.
+fn free_member(heap: &mut PairingHeap<u64>, slot: Slot) {
+    if heap.contains(slot) {
+        heap.members_are_live();
+        heap.remove(slot);
+        heap.free(slot);
     }
 }
 
-/// Puts a value behind the last that isn't greater.
-fn add_sorted(list: &mut Vec<(u64, Slot)>, value: u64, slot: Slot) -> Result<(), AllocError> {
-    let place = list.iter().filter(|entry| entry.0 <= value).count();
-    if place <= list.len() {
-        list.insert(place, (value, slot))?;
-    }
-    Ok(())
-}
-
-#[test]
-fn drawn_inserts_and_removals(rt: HostRuntime) {
-    let mut heap = PairingHeap::new(rt.alloc());
-    let mut list: Vec<(u64, Slot)> = Vec::new(rt.alloc());
-    let mut draws = Draws { state: 1 };
-    for _ in 0..10_000 {
-        if list.is_empty() || draws.below(100) < 52 {
-            let value = draws.below(40);
-            let slot = heap.claim(value).expect(&rt, "no memory");
-            heap.insert(slot);
-            add_sorted(&mut list, value, slot).expect(&rt, "memory");
-        } else {
-            let place = draws.below(list.len() as u64) as usize;
-            if place < list.len() {
-                let (value, slot) = list.remove(place);
-                assert!(rt; heap.contains(slot));
-                heap.members_are_live();
-                heap.remove(slot);
-                assert_eq!(rt; heap.free(slot), value);
-            }
-        }
-        let least = match heap.peek_min() {
-            Some(slot) => heap.get(slot).copied(),
-            None => None,
+/// Claims so many slots, takes the least value out after every third, and the newest after every fifth.
+fn are_claimed(heap: &mut PairingHeap<u64>, count: u64) -> bool {
+    for i in 0..count {
+        let Ok(slot) = heap.claim(i % 41) else {
+            return false;
         };
-        assert_eq!(rt; least, list.first().map(|entry| entry.0));
+        heap.insert(slot);
+        if i % 3 == 0 && take_least(heap).is_none() {
+            return false;
+        }
+        if i % 5 == 0 {
+            free_member(heap, slot);
+        }
     }
+    true
+}
+
+// Clauses let a claim be refused memory; that none is refused without need is tested.
+#[test]
+fn many_slots_are_claimed(rt: HostRuntime) {
+    let mut heap = PairingHeap::new(rt.alloc());
+    assert!(rt; are_claimed(&mut heap, 10_000) && !heap.is_empty());
 }

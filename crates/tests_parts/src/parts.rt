@@ -1,9 +1,7 @@
 //! What the primitives share besides lists, heaps and buffers: each public call once, at a concrete type.
-use fi_parts::{
-    ChannelSendError, CloseStatus, Deadlines, Fault, LinkedList, NoRoom, Outbox, Slot, StateId,
-    Waits,
-};
-use std::alloc::Global;
+use fi_parts::memory::items_for;
+use fi_parts::{ChannelSendError, CloseStatus, Fault, LinkedList, Outbox, Refused, Slot, StateId};
+use tests_help::refusals::{no_memory, no_room};
 use tests_help::texts::shows;
 
 #[test]
@@ -41,7 +39,7 @@ fn are_numbered(faults: &[Fault]) -> bool {
 #[test]
 fn faults_and_closes(rt: HostRuntime) {
     let faults = [
-        Fault::NoMemory,
+        no_memory(rt.alloc()).expect(&rt, "refused"),
         Fault::NoSlot,
         Fault::Closed,
         Fault::Full,
@@ -59,6 +57,13 @@ fn faults_and_closes(rt: HostRuntime) {
 }
 
 #[test]
+fn a_refusal_is_a_fault(rt: HostRuntime) {
+    let made = items_for::<u64>(rt.alloc(), usize::MAX);
+    let refused = made.err().expect(&rt, "refused");
+    assert!(rt; Refused::of(Fault::from(refused)).is_some() && Refused::of(Fault::Full).is_none());
+}
+
+#[test]
 fn state_ids(rt: HostRuntime) {
     assert_eq!(rt; StateId::new(), StateId::default());
     assert_eq!(rt; StateId::new().value(), 0);
@@ -66,54 +71,13 @@ fn state_ids(rt: HostRuntime) {
     assert!(rt; StateId::new() < StateId::from_value(1));
     let are_shown = shows(rt.alloc(), &StateId::from_value(7), "StateId(7)")
         && shows(rt.alloc(), &Slot(3), "Slot(3)")
-        && shows(rt.alloc(), &NoRoom(3), "NoRoom(3)")
+        && shows(
+            rt.alloc(),
+            &no_room(rt.alloc(), 3).expect(&rt, "refused"),
+            "NoRoom(3)",
+        )
         && shows(rt.alloc(), &Fault::Closed, "Closed");
     assert!(rt; are_shown);
-}
-
-// Tickets are made beside named ones.
-fn finds_tickets(alloc: Global) -> bool {
-    let mut outbox: Outbox<u64> = Outbox::new(alloc);
-    for number in 0..4u64 {
-        let Ok(ticket) = outbox.claim() else {
-            return false;
-        };
-        outbox.name(ticket, number);
-    }
-    outbox.len() == 4
-}
-
-// Futures are made beside queued ones.
-fn finds_waits(alloc: Global) -> bool {
-    let mut waits: Waits<u32, u64> = Waits::new(alloc);
-    let Ok(oldest) = waits.insert(1) else {
-        return false;
-    };
-    if waits.phase(oldest).is_none() {
-        return false;
-    }
-    waits.register(oldest, 7);
-    waits.insert(2).is_ok()
-}
-
-// Futures are made beside those in the heap.
-fn finds_deadlines(alloc: Global) -> bool {
-    let mut deadlines: Deadlines<u64> = Deadlines::new(alloc);
-    let Ok(first) = deadlines.insert(5) else {
-        return false;
-    };
-    if !deadlines.is_fresh(first) {
-        return false;
-    }
-    deadlines.register(first, 7);
-    deadlines.insert(4).is_ok()
-}
-
-// Tickets and futures are made beside named, queued and seated ones.
-#[test]
-fn room_is_found_beside_others(rt: HostRuntime) {
-    let alloc = rt.alloc();
-    assert!(rt; finds_tickets(alloc) && finds_waits(alloc) && finds_deadlines(alloc));
 }
 
 fn is_shared<T: Send + Sync>(_value: &T) {}

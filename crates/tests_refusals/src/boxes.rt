@@ -1,12 +1,12 @@
 //! Deliveries of bytes by both broadcasts, whose clone takes memory, and sends into an array without room.
 use fi_channels::{ChannelState, OneshotBroadcastState, StateBroadcastState};
 use fi_parts::buffer::ArrayBuf;
-use fi_parts::{Fault, Slot, StateId};
+use fi_parts::{Slot, StateId};
 use fi_run::{Answer, ChannelCall, OneshotCall, Primitive, StateCall};
 use std::alloc::Global;
 use std::test::Fail;
 use tests_driver::refusals::hoard::Hoard;
-use tests_driver::refusals::scene::{Scene, tries_of};
+use tests_driver::refusals::scene::{Scene, no_memory, tries_of};
 
 const A: Slot = Slot(0);
 
@@ -35,8 +35,8 @@ impl Scene for Delivers {
         Some(OneshotCall::Poll(A, 8))
     }
 
-    fn refusal(&self, _alloc: Global) -> Option<Answer<Vec<u8>, u64>> {
-        Some(Answer::Refused(Fault::NoMemory))
+    fn refusal(&self, alloc: Global) -> Option<Answer<Vec<u8>, u64>> {
+        Some(Answer::Refused(no_memory(alloc)?))
     }
 
     fn after(&self, alloc: Global) -> Option<Vec<OneshotCall<Vec<u8>, u64>>> {
@@ -73,8 +73,8 @@ impl Scene for DeliversState {
         })
     }
 
-    fn refusal(&self, _alloc: Global) -> Option<Answer<Vec<u8>, u64>> {
-        Some(Answer::Refused(Fault::NoMemory))
+    fn refusal(&self, alloc: Global) -> Option<Answer<Vec<u8>, u64>> {
+        Some(Answer::Refused(no_memory(alloc)?))
     }
 
     fn after(&self, alloc: Global) -> Option<Vec<StateCall<Vec<u8>, u64>>> {
@@ -112,11 +112,11 @@ impl Scene for FillsArray {
         })
     }
 
-    fn refusal(&self, _alloc: Global) -> Option<Answer<u64, u64>> {
+    fn refusal(&self, alloc: Global) -> Option<Answer<u64, u64>> {
         Some(if self.at_once {
-            Answer::Back(6, Fault::NoMemory)
+            Answer::Back(6, no_memory(alloc)?)
         } else {
-            Answer::Refused(Fault::NoMemory)
+            Answer::Refused(no_memory(alloc)?)
         })
     }
 

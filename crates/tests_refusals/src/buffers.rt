@@ -1,5 +1,4 @@
 //! Buffers whose room is refused.
-use fi_parts::Fault;
 use fi_parts::buffer::{ArrayBuf, FixedHeapBuf, GrowingHeapBuf, RingBuf};
 use std::alloc::Global;
 use std::test::Fail;
@@ -18,7 +17,7 @@ fn refusals<B: RingBuf<Item = u64>>(alloc: Global, hoard: &mut Hoard, capacity: 
         }
         match made {
             Ok(buffer) if buffer.is_empty() => return Tried::Refused(refusals),
-            Err(Fault::NoMemory) => refusals = refusals.wrapping_add(1),
+            Err(_refused) => refusals = refusals.wrapping_add(1),
             _ => break,
         }
     }

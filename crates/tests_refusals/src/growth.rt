@@ -8,6 +8,7 @@ use std::alloc::{AllocError, Global};
 use std::process::Abort;
 use std::test::Fail;
 use tests_driver::refusals::hoard::Hoard;
+use tests_driver::refusals::scene::no_memory;
 
 type Growing = ChannelState<u64, GrowingHeapBuf<u64>, u64>;
 
@@ -51,7 +52,7 @@ fn each_growth_is_refused_to_a_send_at_once(rt: HostRuntime) -> Result<(), Fail>
     for room in ROOMS {
         let is_used_up = hoard.leave(0);
         let last = if is_used_up {
-            Answer::Back(room, Fault::NoMemory)
+            Answer::Back(room, no_memory(rt.alloc()).expect(&rt, "refused"))
         } else {
             Answer::Done
         };
@@ -135,7 +136,7 @@ fn refused_poll(
     let answer = channel.apply(ChannelCall::PollSend(*last, WAKER));
     hoard.let_go();
     let is_right = if is_used_up {
-        answer == Answer::Refused(Fault::NoMemory)
+        matches!(answer, Answer::Refused(Fault::NoMemory { .. }))
             && goes_on(channel, *last, end, is_cancelled)
             && are_cancelled(channel, before)
     } else {

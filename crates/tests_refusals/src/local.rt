@@ -3,7 +3,7 @@ use fi_channels::{
     EventState, LocalChannel, OneshotBroadcastState, OneshotState, StateBroadcastState,
 };
 use fi_locks::{MutexState, SemaphoreState, TimerState};
-use fi_parts::{NoRoom, StateId};
+use fi_parts::StateId;
 use std::test::Fail;
 use tests_driver::refusals::hoard::Hoard;
 use tests_driver::refusals::making::{Making, tries};
@@ -112,7 +112,7 @@ impl Making for Sends {
                 send.cancel(&mut self.channel);
                 false
             }
-            Err(NoRoom(value)) => value == 5,
+            Err(failed) => failed.0 == 5,
         }
     }
 }

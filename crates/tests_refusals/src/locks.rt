@@ -27,7 +27,7 @@ fn refuse_making<R: Wait + Copy + Drop + AllocGlobal, L: Ledger>(
 {
     match SharedSemaphore::<R, L>::new(rt.alloc(), rt, blank, true, 3) {
         Ok(semaphore) => has_three(semaphore.clone().ok()?).then_some(false),
-        Err(Fault::NoMemory) => Some(true),
+        Err(Fault::NoMemory { .. }) => Some(true),
         Err(_) => None,
     }
 }

@@ -7,18 +7,17 @@ use fi_parts::Fault;
 use fi_run::{Answer, Desk, EventCall, Mismatch, Primitive, Seat, SemaphoreCall, Settled};
 use std::alloc::AllocGlobal;
 use std::marker::Brand;
-use std::process::Abort;
 use std::sync::Wait;
 use std::sync::ledger::{Blank, Ledger};
 use std::test::Fail;
 use std::thread;
 use std::thread::Threads;
 
-/// Two seats of one desk see one event, in one order: a desk with a journal for each seat would answer `Flag(false)`, number 0.
-fn two_seats<R: Wait + Threads + Abort + Copy + AllocGlobal + Send + Sync, L: Ledger + Send + Sync>(
+/// Whether two seats of one desk see one event, in one order: a desk with a journal for each seat would answer `Flag(false)`, number 0.
+fn two_seats<R: Wait + Threads + Copy + AllocGlobal + Send + Sync, L: Ledger + Send + Sync>(
     rt: R,
     blank: Blank,
-) -> Result<(), Fail>
+) -> Result<bool, Fail>
     requires name { blank.name ≡ L.name }
     requires parts { blank.parts ≡ L.parts }
     requires count { blank.parts ≡ 2 }
@@ -32,21 +31,19 @@ fn two_seats<R: Wait + Threads + Abort + Copy + AllocGlobal + Send + Sync, L: Le
         (first, answered)
     };
     let ((first, answered), ()) = thread::join(&rt, setter, || ());
-    assert!(rt; answered);
     let receipt = desk.call(&mut second, EventCall::IsSet)?;
-    assert!(rt; receipt.answer() == Answer::Flag(true));
-    assert!(rt; receipt.number() == 1);
+    let sees = receipt.answer() == Answer::Flag(true) && receipt.number() == 1;
     let mut seats = Vec::new(rt.alloc());
     seats.push(second)?;
     seats.push(first)?;
     let settled = desk.settle(seats)?;
-    assert!(rt; settled.history.len() == 2);
-    Ok(())
+    Ok(answered && sees && settled.history.len() == 2)
 }
 
 #[test]
 fn desk_two_seats(rt: HostRuntime) -> Result<(), Fail> {
-    two_seats::<HostRuntime, Brand>(rt, Blank::new(2))
+    assert!(rt; two_seats::<HostRuntime, Brand>(rt, Blank::new(2))?);
+    Ok(())
 }
 
 /// Makes so many seats at a desk for two, and settles with so many of them: how long the history is, or the mismatch.
@@ -180,10 +177,11 @@ fn has_its_answers<R: AllocGlobal>(
     Ok(true)
 }
 
-fn three_threads<
-    R: Wait + Threads + Abort + Copy + AllocGlobal + Send + Sync,
-    L: Ledger + Send + Sync,
->(rt: R, blank: Blank) -> Result<(), Fail>
+/// Whether three threads that call at once have all their calls in the history, which can be replayed.
+fn three_threads<R: Wait + Threads + Copy + AllocGlobal + Send + Sync, L: Ledger + Send + Sync>(
+    rt: R,
+    blank: Blank,
+) -> Result<bool, Fail>
     requires name { blank.name ≡ L.name }
     requires parts { blank.parts ≡ L.parts }
     requires count { blank.parts ≡ 3 }
@@ -202,14 +200,12 @@ fn three_threads<
     seats.push(b)?;
     seats.push(c)?;
     let settled = desk.settle(seats)?;
-    assert!(rt; settled.history.len() == calls);
-    assert!(rt;
-        has_its_answers(&rt, &settled)? && settled.state.permits() == 2 && settled.state.held() == 0
-    );
-    Ok(())
+    let are_all = settled.history.len() == calls && has_its_answers(&rt, &settled)?;
+    Ok(are_all && settled.state.permits() == 2 && settled.state.held() == 0)
 }
 
 #[test]
 fn three_seats(rt: HostRuntime) -> Result<(), Fail> {
-    three_threads::<HostRuntime, Brand>(rt, Blank::new(3))
+    assert!(rt; three_threads::<HostRuntime, Brand>(rt, Blank::new(3))?);
+    Ok(())
 }

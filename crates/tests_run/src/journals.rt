@@ -1,76 +1,50 @@
-//! A journal of each primitive.
+//! What a receipt says, and that each primitive's calls can be compared with receipts.
 use fi_channels::{
     EventState, LocalChannel, OneshotBroadcastState, OneshotState, StateBroadcastState,
 };
 use fi_locks::{MutexState, SemaphoreState, TimerState};
-use fi_run::{
-    Answer, ChannelCall, EventCall, ExactEq, Journal, MutexCall, OneshotCall, Primitive,
-    SemaphoreCall, StateCall, TimerCall,
-};
+use fi_run::{Answer, EventCall, ExactEq, Journal, PoolState, Primitive};
 use std::alloc::Global;
 use std::test::Fail;
 
-/// Makes the call in a new journal. Answers whether its receipt and its one entry have this answer.
-fn records<P: Primitive + Drop>(
-    alloc: Global,
-    opening: P::Opening,
-    call: P::Call,
-    answer: P::Answer,
-) -> Result<bool, Fail>
+/// Whether the only call of a journal has a receipt and an entry with its opening, its number, itself and its answer.
+fn records(alloc: Global) -> Result<bool, Fail> {
+    let mut journal: Journal<EventState<u64>> = Journal::new(alloc, true)?;
+    let receipt = journal.record(3, EventCall::IsSet)?;
+    let settled = journal.settle();
+    let Some(entry) = settled.history.first() else {
+        return Ok(false);
+    };
+    let is_receipt = receipt.opening() && receipt.number() == 0;
+    let is_entry = entry.seat == 3
+        && receipt.call() == entry.call
+        && receipt.answer() == entry.answer;
+    Ok(is_receipt && is_entry && entry.answer == Answer::Flag(true))
+}
+
+#[test]
+fn a_receipt_is_of_its_entry(rt: HostRuntime) -> Result<(), Fail> {
+    assert!(rt; records(rt.alloc())?);
+    Ok(())
+}
+
+/// A primitive that a desk shares.
+fn may_be_shared<P: Primitive>()
 where
     P::Opening: ExactEq,
     P::Call: ExactEq,
     P::Answer: ExactEq,
-{
-    let mut journal: Journal<P> = Journal::new(alloc, opening)?;
-    let receipt = journal.record(3, call)?;
-    let settled = journal.settle();
-    let is_receipt = receipt.opening() == opening
-        && receipt.number() == 0
-        && receipt.call() == call
-        && receipt.answer() == answer;
-    let is_entry = match settled.history.first() {
-        Some(entry) => entry.seat == 3 && entry.call == call && entry.answer == answer,
-        None => false,
-    };
-    Ok(is_receipt && is_entry && settled.opening == opening && settled.history.len() == 1)
-}
+{}
 
 #[test]
-fn a_journal_of_each_channel(rt: HostRuntime) -> Result<(), Fail> {
-    let alloc = rt.alloc();
-    assert!(rt;
-        records::<EventState<u64>>(alloc, true, EventCall::IsSet, Answer::Flag(true))?
-            && records::<OneshotState<u64, u64>>(alloc, (), OneshotCall::Close, Answer::Newly)?
-            && records::<OneshotBroadcastState<u64, u64>>(
-                alloc,
-                (),
-                OneshotCall::Close,
-                Answer::Newly
-            )?
-            && records::<StateBroadcastState<u64, u64>>(alloc, (), StateCall::Close, Answer::Newly)?
-            && records::<LocalChannel<u64, 2, u64>>(
-                alloc,
-                2,
-                ChannelCall::TrySend(5),
-                Answer::Done
-            )?
-    );
-    Ok(())
-}
-
-#[test]
-fn a_journal_of_each_lock(rt: HostRuntime) -> Result<(), Fail> {
-    let alloc = rt.alloc();
-    assert!(rt;
-        records::<MutexState<u64, u64>>(alloc, (7, true), MutexCall::TryLock, Answer::Item(7))?
-            && records::<SemaphoreState<u64>>(
-                alloc,
-                (2, false),
-                SemaphoreCall::Permits,
-                Answer::Number(2)
-            )?
-            && records::<TimerState<u64>>(alloc, (), TimerCall::Next, Answer::Moment(None))?
-    );
-    Ok(())
+fn each_primitive_may_be_shared(_rt: HostRuntime) {
+    may_be_shared::<EventState<u64>>();
+    may_be_shared::<OneshotState<u64, u64>>();
+    may_be_shared::<OneshotBroadcastState<u64, u64>>();
+    may_be_shared::<StateBroadcastState<u64, u64>>();
+    may_be_shared::<LocalChannel<u64, 2, u64>>();
+    may_be_shared::<MutexState<u64, u64>>();
+    may_be_shared::<SemaphoreState<u64>>();
+    may_be_shared::<TimerState<u64>>();
+    may_be_shared::<PoolState<u64>>();
 }

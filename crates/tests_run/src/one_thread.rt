@@ -4,6 +4,4 @@ mod answer;
 mod connection_pool;
 mod pipeline;
 mod rate_limiter;
-mod scheduler;
 mod settings;
-mod shutdown;

@@ -5,7 +5,6 @@ use fi_parts::Fault;
 use fi_run::{Answer, Desk, PoolCall, PoolState, Seat, Settled};
 use std::alloc::AllocGlobal;
 use std::marker::Brand;
-use std::process::Abort;
 use std::sync::Wait;
 use std::sync::ledger::{Blank, Ledger};
 use std::test::Fail;
@@ -71,30 +70,31 @@ fn started_in_order(settled: &Settled<PoolState<u64>>) -> bool {
     last == 100
 }
 
-fn workers<R: Wait + Threads + Abort + Copy + AllocGlobal + Send + Sync, L: Ledger + Send + Sync>(
+/// Whether two workers do all jobs in order, and the pool is drained then.
+fn workers<R: Wait + Threads + Copy + AllocGlobal + Send + Sync, L: Ledger + Send + Sync>(
     rt: R,
     blank: Blank,
-) -> Result<(), Fail>
+) -> Result<bool, Fail>
     requires name { blank.name ≡ L.name }
     requires parts { blank.parts ≡ L.parts }
     requires count { blank.parts ≡ 3 }
 {
     let desk: Desk<PoolState<u64>, R, L> = Desk::new(rt.alloc(), rt, blank, (2, 100), 3)?;
     let (mut a, mut b, mut c) = (desk.seat()?, desk.seat()?, desk.seat()?);
-    assert!(rt; submits(&desk, &mut a)?);
+    let are_submitted = submits(&desk, &mut a)?;
     let shared = &desk;
     let (first, second) = thread::join(&rt, || works(shared, &mut b), || works(shared, &mut c));
-    assert!(rt; first && second && is_drained(&desk, &mut a)?);
+    let are_done = are_submitted && first && second && is_drained(&desk, &mut a)?;
     let mut seats = Vec::new(rt.alloc());
     seats.push(a)?;
     seats.push(b)?;
     seats.push(c)?;
     let settled = desk.settle(seats)?;
-    assert!(rt; settled.history.len() == 305 && started_in_order(&settled));
-    Ok(())
+    Ok(are_done && settled.history.len() == 305 && started_in_order(&settled))
 }
 
 #[test]
 fn pool_on_a_desk(rt: HostRuntime) -> Result<(), Fail> {
-    workers::<HostRuntime, Brand>(rt, Blank::new(3))
+    assert!(rt; workers::<HostRuntime, Brand>(rt, Blank::new(3))?);
+    Ok(())
 }

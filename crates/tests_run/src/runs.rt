@@ -1,15 +1,19 @@
-//! Runs of the channels, each call once at a concrete type, and the theorems at concrete types.
-use fi_channels::{OneshotBroadcastState, OneshotState, StateBroadcastState};
-use fi_parts::{Fault, Slot, StateId};
+//! A run of a pool, from its first job to its end, and the theorems at concrete types.
+use fi_parts::buffer::FixedHeapBuf;
+use fi_parts::{Fault, Slot};
 use fi_run::{
-    Answer, OneshotCall, Primitive, StateCall, every_run_of_a_oneshot,
-    every_run_of_a_oneshot_broadcast, every_run_of_a_state_broadcast, every_run_of_an_event, run,
+    Answer, PoolCall, PoolState, Primitive, every_run_of_a_channel, every_run_of_a_mutex,
+    every_run_of_a_oneshot, every_run_of_a_oneshot_broadcast, every_run_of_a_pool,
+    every_run_of_a_semaphore, every_run_of_a_state_broadcast, every_run_of_a_timer,
+    every_run_of_an_event, run,
 };
 use std::alloc::Global;
 use std::test::Fail;
 
-// Whether a primitive of this opening answers the calls of these lines so.
-pub(crate) fn answers<P: Primitive + Drop>(
+const A: Slot = Slot(0);
+
+/// Whether a primitive of this opening answers the calls of these lines so.
+fn answers<P: Primitive + Drop>(
     alloc: Global,
     opening: P::Opening,
     lines: &[(P::Call, P::Answer)],
@@ -32,55 +36,33 @@ where
 }
 
 #[test]
-fn a_oneshot_gives_its_value_once(rt: HostRuntime) -> Result<(), Fail> {
-    let lines = [
-        (OneshotCall::Receive, Answer::Made(Slot(0))),
-        (OneshotCall::Poll(Slot(0), 1), Answer::Pending),
-        (OneshotCall::Send(5), Answer::Done),
-        (OneshotCall::Send(6), Answer::Back(6, Fault::Closed)),
-        (OneshotCall::NextWake, Answer::Woken(Some(1))),
-        (OneshotCall::Poll(Slot(0), 2), Answer::Item(5)),
-        (
-            OneshotCall::Poll(Slot(0), 3),
-            Answer::Refused(Fault::NoSlot),
-        ),
-        (OneshotCall::Cancel(Slot(0)), Answer::Done),
-        (OneshotCall::Close, Answer::Already),
+fn a_pool_of_one_drains(rt: HostRuntime) -> Result<(), Fail> {
+    let rows = [
+        (PoolCall::Poll(A, 1), Answer::Refused(Fault::NoSlot)),
+        (PoolCall::Cancel(A), Answer::Refused(Fault::NoSlot)),
+        (PoolCall::Start, Answer::Refused(Fault::Empty)),
+        (PoolCall::Finish, Answer::Refused(Fault::NotHeld)),
+        (PoolCall::Submit(5), Answer::Done),
+        (PoolCall::Submit(6), Answer::Back(6, Fault::Full)),
+        (PoolCall::Start, Answer::Item(5)),
+        (PoolCall::Submit(6), Answer::Done),
+        (PoolCall::Start, Answer::Nothing),
+        (PoolCall::Wait, Answer::Made(A)),
+        (PoolCall::Poll(A, 1), Answer::Pending),
+        (PoolCall::Shutdown, Answer::Newly),
+        (PoolCall::Submit(7), Answer::Back(7, Fault::Closed)),
+        (PoolCall::Finish, Answer::Done),
+        (PoolCall::NextWake, Answer::Woken(None)),
+        (PoolCall::Start, Answer::Item(6)),
+        (PoolCall::Finish, Answer::Done),
+        (PoolCall::NextWake, Answer::Woken(Some(1))),
+        (PoolCall::Poll(A, 1), Answer::Ready),
+        (PoolCall::Poll(A, 1), Answer::Refused(Fault::NoSlot)),
+        (PoolCall::Cancel(A), Answer::Done),
+        (PoolCall::Start, Answer::Refused(Fault::Closed)),
+        (PoolCall::Shutdown, Answer::Already),
     ];
-    assert!(rt; answers::<OneshotState<u32, u64>>(rt.alloc(), (), lines.as_slice())?);
-    Ok(())
-}
-
-#[test]
-fn a_broadcast_gives_its_value_to_each(rt: HostRuntime) -> Result<(), Fail> {
-    let lines = [
-        (OneshotCall::Receive, Answer::Made(Slot(0))),
-        (OneshotCall::Receive, Answer::Made(Slot(1))),
-        (OneshotCall::Send(5), Answer::Done),
-        (OneshotCall::Close, Answer::Already),
-        (OneshotCall::Poll(Slot(0), 1), Answer::Item(5)),
-        (OneshotCall::Poll(Slot(1), 2), Answer::Item(5)),
-        (OneshotCall::Cancel(Slot(1)), Answer::Done),
-        (OneshotCall::NextWake, Answer::Woken(None)),
-    ];
-    assert!(rt; answers::<OneshotBroadcastState<u32, u64>>(rt.alloc(), (), lines.as_slice())?);
-    Ok(())
-}
-
-#[test]
-fn a_state_broadcast_gives_the_newest(rt: HostRuntime) -> Result<(), Fail> {
-    let newest = Answer::State(StateId::from_value(2), 6);
-    let lines = [
-        (StateCall::Send(5), Answer::Done),
-        (StateCall::Send(6), Answer::Done),
-        (StateCall::TryReceive(StateId::new()), newest),
-        (StateCall::Receive(StateId::new()), Answer::Made(Slot(0))),
-        (StateCall::Poll(Slot(0), 1), newest),
-        (StateCall::Cancel(Slot(0)), Answer::Done),
-        (StateCall::Close, Answer::Newly),
-        (StateCall::NextWake, Answer::Woken(None)),
-    ];
-    assert!(rt; answers::<StateBroadcastState<u32, u64>>(rt.alloc(), (), lines.as_slice())?);
+    assert!(rt; answers::<PoolState<u64>>(rt.alloc(), (1, 1), rows.as_slice())?);
     Ok(())
 }
 
@@ -90,4 +72,9 @@ fn theorems_at_concrete_types(_rt: HostRuntime) {
     every_run_of_a_oneshot::<u32, u64>();
     every_run_of_a_oneshot_broadcast::<u32, u64>();
     every_run_of_a_state_broadcast::<u32, u64>();
+    every_run_of_a_channel::<u64, FixedHeapBuf<u64>, u64>();
+    every_run_of_a_mutex::<u64, u64>();
+    every_run_of_a_semaphore::<u64>();
+    every_run_of_a_timer::<u64>();
+    every_run_of_a_pool::<u64>();
 }

@@ -27,36 +27,30 @@ fn script_of(alloc: Global, calls: &[EventCall<u64>]) -> Result<Result<String, S
     })
 }
 
+/// Whether the script of such a history is this one.
+fn is_script(alloc: Global, calls: &[EventCall<u64>], wanted: &str) -> Result<bool, Fail> {
+    Ok(script_of(alloc, calls)??.as_str() == wanted)
+}
+
 /// Entries 0 to 3 are the waits.
 #[test]
 fn some_wakers_are_no_line(rt: HostRuntime) -> Result<(), Fail> {
+    let alloc = rt.alloc();
     let call = EventCall::NextWake;
     let before_a_call = [EventCall::Set, call, EventCall::IsSet, call, call];
-    assert!(rt;
-        matches!(
-            script_of(rt.alloc(), before_a_call.as_slice())?,
-            Err(ScriptError::Wakers(5))
-        )
-    );
     let at_the_end = [EventCall::Set, call, call];
-    assert!(rt;
-        matches!(
-            script_of(rt.alloc(), at_the_end.as_slice())?,
-            Err(ScriptError::Wakers(6))
-        )
-    );
     let all = [EventCall::Set, EventCall::Cancel(Slot(7)), call, call, call];
-    let script = script_of(rt.alloc(), all.as_slice())??;
     let wanted =
         "event reset\nhold wait w0\nhold poll w0 1\nhold wait w1\nhold poll w1 2\nhold set\nwakes\n";
-    assert_eq!(rt; script.as_str(), wanted);
-    let error = ScriptError::Wakers(5);
     assert!(rt;
-        reads(
-            rt.alloc(),
-            &error,
-            "entry 5 takes some wakers and may leave others"
-        )
+        script_of(alloc, before_a_call.as_slice())?.err() == Some(ScriptError::Wakers(5))
+            && script_of(alloc, at_the_end.as_slice())?.err() == Some(ScriptError::Wakers(6))
+            && is_script(alloc, all.as_slice(), wanted)?
+            && reads(
+                alloc,
+                &ScriptError::Wakers(5),
+                "entry 5 takes some wakers and may leave others"
+            )
     );
     Ok(())
 }

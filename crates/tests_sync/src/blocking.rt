@@ -32,11 +32,16 @@ where
     })
 }
 
+// Whether they meet, and a value that comes too late is handed back.
+fn meet<R: Blocking + Threads + Copy + Send + Sync>(rt: R) -> bool {
+    let channel = UnbufferedChannel::new(rt.alloc(), rt);
+    let have_met = receives_all(&rt, &channel);
+    have_met && channel.send_blocking(2) == Err(TrySendError::Closed(2))
+}
+
 #[test]
 fn sends_and_receives_block_until_they_meet(rt: HostRuntime) {
-    let channel = UnbufferedChannel::new(rt.alloc(), rt);
-    assert!(rt; receives_all(&rt, &channel));
-    assert!(rt; channel.send_blocking(2) == Err(TrySendError::Closed(2)));
+    assert!(rt; meet(rt));
 }
 
 // Whether each of them is told of what another thread does.
@@ -114,13 +119,21 @@ impl<R: Alloc> Alloc for NoExecutor<R> {
 }
 
 // A call that has to block and can't is refused, and a value to be sent comes back; one that need not block needs no executor.
+fn loses_nothing<R: Blocking>(channel: &Channel<u64, 2, R>) -> bool {
+    let is_refused = matches!(channel.receive_blocking(), Err(Fault::NoMemory { .. }));
+    let are_sent = channel.send_blocking(5).is_ok() && channel.send_blocking(6).is_ok();
+    let is_back = match channel.send_blocking(7) {
+        Err(TrySendError::NoMemory(failed)) => failed.0 == 7,
+        _ => false,
+    };
+    let is_left = channel.receive_blocking() == Ok(Some(5)) && channel.len() == 1;
+    is_refused && are_sent && is_back && is_left
+}
+
 #[test]
 fn calls_without_an_executor_lose_nothing(rt: HostRuntime) {
-    let channel = Channel::<u64, 2, NoExecutor<HostRuntime>>::new(rt.alloc(), NoExecutor { rt });
-    assert!(rt; channel.receive_blocking() == Err(Fault::NoMemory));
-    assert!(rt; channel.send_blocking(5).is_ok() && channel.send_blocking(6).is_ok());
-    assert!(rt; channel.send_blocking(7) == Err(TrySendError::NoMemory(7)));
-    assert!(rt; channel.receive_blocking() == Ok(Some(5)) && channel.len() == 1);
+    let channel = Channel::new(rt.alloc(), NoExecutor { rt });
+    assert!(rt; loses_nothing(&channel));
 }
 
 // Lets time pass until it is over.

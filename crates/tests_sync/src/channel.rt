@@ -44,19 +44,22 @@ fn holds<R: Wait, B: RingBuf<Item = u64>>(
     is_closed && channel.is_closed() && matches!(channel.try_send(8), Err(TrySendError::Closed(8)))
 }
 
+// Whether a channel over such a buffer can be made with this capacity, and has it.
+fn opens<R: Wait + AllocGlobal + Copy, B: RingBuf<Item = u64>>(rt: R, capacity: u64) -> bool {
+    match GenericChannel::<u64, B, R>::with_capacity(rt.alloc(), rt, capacity as usize) {
+        Ok(channel) => holds(&channel, capacity),
+        Err(_) => false,
+    }
+}
+
 #[test]
 fn a_channel_has_the_capacity_asked_for(rt: HostRuntime) {
-    let fixed: GenericChannel<u64, FixedHeapBuf<u64>, HostRuntime> = GenericChannel::with_capacity(
-        rt.alloc(),
-        rt,
-        700,
-    ).expect(&rt, "memory");
-    assert!(rt; holds(&fixed, 700));
-    let growing: GenericChannel<u64, GrowingHeapBuf<u64>, HostRuntime> =
-        GenericChannel::with_capacity(rt.alloc(), rt, 300).expect(&rt, "memory");
-    assert!(rt; holds(&growing, 300));
     let array = Channel::<u64, 1000, HostRuntime>::new(rt.alloc(), rt);
-    assert!(rt; holds(&array, 1000));
+    assert!(rt;
+        opens::<HostRuntime, FixedHeapBuf<u64>>(rt, 700)
+            && opens::<HostRuntime, GrowingHeapBuf<u64>>(rt, 300)
+            && holds(&array, 1000)
+    );
 }
 
 // A send that is cancelled gives its value back, unless the channel has taken it.

@@ -1,5 +1,6 @@
 //! The blocks, in chunks of memory. A freed block's place is kept for the next one, and a chunk until the owner ends.
-ghost use Rattle.std.specs.Prelude.{◌≡◌, ◌∷◌, ◌++◌, ◌+◌, ◌≤◌, List, [], None, Some, IsSome, IfOk, IfErr, OnErr, map as each};
+ghost use Rattle.std.specs.Prelude.{◌≡◌, ◌∷◌, ◌++◌, ◌+◌, ◌<◌, ◌≤◌, List, [], None, Some, length, map as each};
+ghost use Rattle.std.specs.Prelude.{IsSome, IfOk, IfErr, OnOk, OnErr};
 ghost use Rattle.std.specs.Borrow.{sem};
 ghost use Rattle.std.specs.Vec.{vec_len, vec_capacity};
 ghost use Rattle.std.specs.Vec.Ownership.{FitsInBlock};
@@ -7,16 +8,16 @@ ghost use denote.RawPtr.{Ptr, InBlock};
 ghost use Rattle.fi_parts.specs.declared.blocks.block.BlockPtr.{BlockPtr};
 ghost use Rattle.fi_parts.specs.Placed.{at_ptr, without_at, IsAddress};
 ghost use Rattle.fi_parts.specs.BlockOwner.{times, block_places, block_row};
-ghost use Rattle.fi_parts.specs.Chunks.{chunk_len, pointed};
+ghost use Rattle.fi_parts.specs.Chunks.{chunk_len, pointed, IsKept};
 ghost use Rattle.fi_parts.specs.CountedBlocks.{loose_block};
 
 use crate::blocks::block::{Block, BlockPtr, Links};
 use crate::blocks::chunk::Chunk;
 use crate::blocks::places::BlockPlaces;
 use crate::errors::NoRoom;
+use crate::memory::{Refused, reserve, take_chunk};
 use std::alloc::Global;
 use std::marker::Model;
-use std_alloc::room::may_hold;
 
 /// The blocks of the chunks. First in `stack` are the pointers to the chunks, and then those to vacant places.
 pub struct BlockOwner<T> {
@@ -57,7 +58,8 @@ fn push_places<T>(stack: &mut Vec<BlockPtr<T>>, first: BlockPtr<T>, len: usize)
     requires place { InBlock first.ptr }
     requires room { vec_len stack.old + len ≤ vec_capacity stack.old }
     requires fits { FitsInBlock (block_row T.row) len }
-    ensures { (vs : List (BlockPtr T)) × (stack.new.items ≡ stack.old.items ++ vs)
+    ensures count { vec_len stack.new ≡ vec_len stack.old + len }
+    ensures pushed { (vs : List (BlockPtr T)) × (stack.new.items ≡ stack.old.items ++ vs)
         × ((p : Ptr) → times p (each pointed vs) ≡ times p (block_places T.row first.ptr len)) }
 {
     let mut left = len;
@@ -65,6 +67,51 @@ fn push_places<T>(stack: &mut Vec<BlockPtr<T>>, first: BlockPtr<T>, len: usize)
         left -= 1;
         stack.push_reserved(first.further(left));
     }
+}
+
+/// Takes a chunk's memory. The stack's room for the places of at most so many blocks, and of the new chunk, is made here, so that
+/// `take` takes no memory. Where there is none no place changes.
+fn grow<T>(
+    places: &mut BlockPlaces<T>,
+    stack: &mut Vec<BlockPtr<T>>,
+    chunks: &mut usize,
+    alloc: &Global,
+    most: usize,
+) -> Result<(), Refused>
+    requires kept { IsKept places.old stack.old.items chunks.old }
+    requires none { length stack.old.items ≡ chunks.old }
+    ensures kept { IsKept places.new stack.new.items chunks.new }
+    ensures blocks { places.new.blocks ≡ places.old.blocks }
+    ensures vacant { OnOk result (chunks.new < length stack.new.items) }
+{
+    let len = chunk_len(*chunks);
+    reserve(stack, most.saturating_add(len + 1))?;
+    let chunk = take_chunk::<Block<T>>(alloc, len)?;
+    let first = places.add(chunk);
+    stack.push_reserved(first);
+    *chunks += 1;
+    push_places(stack, first, len);
+    Ok(())
+}
+
+/// Takes a chunk's memory where no place is vacant, as `grow`.
+#[inline(always)]
+fn make_room<T>(
+    places: &mut BlockPlaces<T>,
+    stack: &mut Vec<BlockPtr<T>>,
+    chunks: &mut usize,
+    alloc: &Global,
+    most: usize,
+) -> Result<(), Refused>
+    requires { IsKept places.old stack.old.items chunks.old }
+    ensures kept { IsKept places.new stack.new.items chunks.new }
+    ensures blocks { places.new.blocks ≡ places.old.blocks }
+    ensures vacant { OnOk result (chunks.new < length stack.new.items) }
+{
+    if stack.len() != *chunks {
+        return Ok(());
+    }
+    grow(places, stack, chunks, alloc, most)
 }
 
 impl<T> BlockOwner<T> {
@@ -82,28 +129,6 @@ impl<T> BlockOwner<T> {
         }
     }
 
-    /// Takes a chunk's memory where no place is vacant. The stack's room for the places of at most so many blocks, and of
-    /// the new chunk, is made here, so that `take` takes no memory. It changes nothing where there is no memory.
-    fn grow(&mut self, most: usize)
-        ensures { self.new ≡ self.old }
-    {
-        let len = chunk_len(self.chunks);
-        let more = most.saturating_add(len + 1);
-        if self.stack.len() != self.chunks
-            || !may_hold::<Block<T>>(len)
-            || self.stack.reserve(more).is_err()
-        {
-            return;
-        }
-        let Ok(chunk) = Chunk::take(&self.alloc, len) else {
-            return;
-        };
-        let first = self.places.add(chunk);
-        self.stack.push_reserved(first);
-        self.chunks += 1;
-        push_places(&mut self.stack, first, len);
-    }
-
     /// A new block, one of at most so many. It lies where no other does. Where there is no memory the item comes back.
     #[inline(always)]
     pub fn put(&mut self, item: T, slot: usize, most: usize) -> Result<BlockPtr<T>, NoRoom<T>>
@@ -114,14 +139,18 @@ impl<T> BlockOwner<T> {
         ensures refused { OnErr result (self.new ≡ self.old) }
         ensures handed_back { IfErr result (λ failed. failed.0 ≡ item) }
     {
-        if self.stack.len() == self.chunks {
-            self.grow(most);
-        }
-        if self.stack.len() == self.chunks {
-            return Err(NoRoom(item));
+        let made = make_room(
+            &mut self.places,
+            &mut self.stack,
+            &mut self.chunks,
+            &self.alloc,
+            most,
+        );
+        if let Err(refused) = made {
+            return Err(NoRoom::of(item, refused));
         }
         let Some(at) = self.stack.pop() else {
-            return Err(NoRoom(item));
+            unreachable!()
         };
         let links = Links::loose();
         self.places.put(at, Block { item, links, slot });

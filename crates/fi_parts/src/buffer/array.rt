@@ -1,14 +1,14 @@
 //! A buffer whose capacity is part of its type.
-ghost use Rattle.std.specs.Prelude.{◌≡◌, ◌<◌, ◌≤◌, ◌==◌, length, IfErr, IfOk, OnOk};
+ghost use Rattle.std.specs.Prelude.{◌≡◌, ◌<◌, ◌≤◌, ◌==◌, length, IfErr, IfOk, OnErr, OnOk};
 ghost use Rattle.fi_parts.specs.Buffer.{Fits, empty, pushed, reserved_after};
-ghost use Rattle.fi_parts.specs.declared.errors.Fault.TheVariants.{NoMemory};
 
 use super::RingBuf;
 use super::ring::Ring;
-use crate::errors::{Fault, NoRoom};
+use crate::errors::NoRoom;
+use crate::memory::Refused;
 use std::alloc::Global;
-use std::fmt;
 use std::marker::Model;
+use std::{fmt, mem};
 
 /// A buffer of at most `N` items, with its room in a `Vec` of `N` slots. It takes that memory once: in `with_capacity`,
 /// or at the first `push` after `new`.
@@ -18,10 +18,12 @@ use std::marker::Model;
 /// # Examples
 ///
 /// ```
-/// let mut buffer = ArrayBuf::<u32, 3>::new(rt.alloc());
-/// assert_eq!(rt; (buffer.capacity(), buffer.reserved()), (3, 0));
-/// put(&rt, &mut buffer, 1);                       // pushes 1
-/// assert_eq!(rt; buffer.reserved(), 3);
+/// use futures_intrusive::buffer::{ArrayBuf, RingBuf};
+///
+/// let mut buffer = ArrayBuf::<u64, 3>::new(rt.alloc());
+/// assert!(rt; buffer.capacity() == 3 && buffer.reserved() == 0); // it asks for memory with its first value
+/// assert!(rt; buffer.push(7).is_ok() && buffer.reserved() == 3);
+/// assert!(rt; buffer.pop() == 7);
 /// ```
 #[derive(Drop)]
 pub struct ArrayBuf<T, const N: usize> {
@@ -45,11 +47,11 @@ impl<T, const N: usize> Model for ArrayBuf<T, N> {
 
 impl<T: Drop, const N: usize> ArrayBuf<T, N> {
     /// Takes the memory, if there is none yet.
-    fn make_room(&mut self) -> Result<(), Fault>
+    fn make_room(&mut self) -> Result<(), Refused>
         requires { length self.old.items < self.old.capacity }
         ensures ok { OnOk result (self.new ≡ record self.old { reserved = reserved_after self.old N }) }
         ensures room { OnOk result (length self.new.items < self.new.reserved) }
-        ensures err { IfErr result (λ fault. (self.new ≡ self.old) × (length self.old.items ≡ self.old.reserved)) }
+        ensures err { OnErr result ((self.new ≡ self.old) × (length self.old.items ≡ self.old.reserved)) }
     {
         if self.ring.len() < self.ring.capacity() {
             return Ok(());
@@ -66,6 +68,8 @@ impl<T: Drop, const N: usize> RingBuf for ArrayBuf<T, N> {
 
     ghost capacity_for = { λ _. N };
 
+    ghost reserved_for = { λ _. N };
+
     fn new(alloc: Global) -> ArrayBuf<T, N> {
         ArrayBuf {
             ring: Ring::new(alloc),
@@ -73,11 +77,10 @@ impl<T: Drop, const N: usize> RingBuf for ArrayBuf<T, N> {
         }
     }
 
-    fn with_capacity(alloc: Global, _capacity: usize) -> Result<ArrayBuf<T, N>, Fault>
+    fn with_capacity(alloc: Global, _capacity: usize) -> Result<ArrayBuf<T, N>, Refused>
         ensures ok { IfOk result (λ made. made ≡ empty N made.reserved) }
         ensures reserved { IfOk result (λ made. made.reserved ≡ N) }
         ensures fits { IfOk result (λ made. Fits made) }
-        ensures err { IfErr result (λ fault. fault ≡ NoMemory) }
     {
         let ring = Ring::with_capacity(alloc, N)?;
         Ok(ArrayBuf { ring, alloc })
@@ -113,8 +116,8 @@ impl<T: Drop, const N: usize> RingBuf for ArrayBuf<T, N> {
         ensures stays { length self.old.items < self.old.reserved → self.new.reserved ≡ self.old.reserved }
         ensures fits { Fits self.new }
     {
-        if self.make_room().is_err() {
-            return Err(NoRoom(item));
+        if let Err(refused) = self.make_room() {
+            return Err(NoRoom::of(item, refused));
         }
         self.ring.push(item);
         Ok(())
@@ -122,6 +125,11 @@ impl<T: Drop, const N: usize> RingBuf for ArrayBuf<T, N> {
 
     fn pop(&mut self) -> T {
         self.ring.pop()
+    }
+
+    fn take(&mut self) -> ArrayBuf<T, N> {
+        let empty = ArrayBuf::new(self.alloc);
+        mem::replace(self, empty)
     }
 }
 

@@ -1,9 +1,8 @@
 //! The memory of a heap buffer: none, or a ring.
-ghost use Rattle.std.specs.Prelude.{◌≡◌, ◌<◌, ◌≤◌, ◌^◌, ◌∷◌, ◌++◌, [], length, IfErr, IfOk, OnOk};
+ghost use Rattle.std.specs.Prelude.{◌≡◌, ◌<◌, ◌≤◌, ◌^◌, ◌∷◌, ◌++◌, [], length, IfOk, OnErr, OnOk};
 ghost use Rattle.circular_buffer.specs.Buffer.{buffer};
-ghost use Rattle.fi_parts.specs.declared.errors.Fault.TheVariants.{NoMemory};
 
-use crate::errors::Fault;
+use crate::memory::{Refused, resize, ring_for};
 use circular_buffer::HeapCircularBuffer;
 use std::alloc::Global;
 use std::marker::Model;
@@ -38,14 +37,11 @@ impl<T: Drop> Block<T> {
     }
 
     /// Returns an empty block for `capacity` items.
-    pub(crate) fn with_capacity(alloc: Global, capacity: usize) -> Result<Block<T>, Fault>
-        ensures ok { IfOk result (λ block. block ≡ buffer [] capacity) }
-        ensures err { IfErr result (λ fault. fault ≡ NoMemory) }
+    pub(crate) fn with_capacity(alloc: Global, capacity: usize) -> Result<Block<T>, Refused>
+        ensures { IfOk result (λ block. block ≡ buffer [] capacity) }
     {
-        match HeapCircularBuffer::with_capacity(alloc, capacity) {
-            Ok(ring) => Ok(Block { ring: Some(ring) }),
-            Err(_error) => Err(Fault::NoMemory),
-        }
+        let ring = ring_for(alloc, capacity)?;
+        Ok(Block { ring: Some(ring) })
     }
 
     pub(crate) fn len(&self) -> usize
@@ -100,22 +96,19 @@ impl<T: Drop> Block<T> {
     }
 
     /// Moves the items to a ring for `capacity` items, which has to hold them.
-    pub(crate) fn grow(&mut self, alloc: Global, capacity: usize) -> Result<(), Fault>
+    pub(crate) fn grow(&mut self, alloc: Global, capacity: usize) -> Result<(), Refused>
         requires { length self.old.items ≤ capacity }
         ensures ok { OnOk result (self.new ≡ buffer self.old.items capacity) }
-        ensures err { IfErr result (λ fault. (fault ≡ NoMemory) × (self.new ≡ self.old)) }
+        ensures err { OnErr result (self.new ≡ self.old) }
     {
         match &mut self.ring {
-            Some(ring) => match ring.resize(capacity) {
-                Ok(()) => Ok(()),
-                Err(_error) => Err(Fault::NoMemory),
-            },
-            None => match HeapCircularBuffer::with_capacity(alloc, capacity) {
+            Some(ring) => resize(ring, capacity),
+            None => match ring_for(alloc, capacity) {
                 Ok(ring) => {
                     self.ring = Some(ring);
                     Ok(())
                 }
-                Err(_error) => Err(Fault::NoMemory),
+                Err(refused) => Err(refused),
             },
         }
     }

@@ -1,13 +1,14 @@
 //! A heap buffer that grows.
-ghost use Rattle.std.specs.Prelude.{◌≡◌, ◌<◌, ◌≤◌, ◌==◌, length, IfErr, IfOk, IsOk, OnOk};
+ghost use Rattle.std.specs.Prelude.{◌≡◌, ◌<◌, ◌≤◌, ◌==◌, length, IfErr, IfOk, IsOk, OnErr, OnOk};
 ghost use Rattle.fi_parts.specs.Buffer.{Fits, empty, pushed, doubled, reserved_after};
 
 use super::RingBuf;
 use super::block::Block;
-use crate::errors::{Fault, NoRoom};
+use crate::errors::NoRoom;
+use crate::memory::Refused;
 use std::alloc::Global;
-use std::fmt;
 use std::marker::Model;
+use std::{fmt, mem};
 
 /// The fewest items for which a buffer takes memory, unless its capacity is less.
 const LEAST: usize = 4;
@@ -20,13 +21,11 @@ const LEAST: usize = 4;
 /// # Examples
 ///
 /// ```
-/// let mut buffer = GrowingHeapBuf::with_capacity(rt.alloc(), 10).expect(&rt, "memory");
-/// assert_eq!(rt; (buffer.capacity(), buffer.reserved()), (10, 0));
-/// // ..
-/// for item in [2, 3, 4, 5, 6, 7, 8, 9, 10] {
-///     assert_eq!(rt; take(&mut buffer), Some(item));
-/// }
-/// assert_eq!(rt; (buffer.reserved(), buffer.is_empty()), (10, true));
+/// use futures_intrusive::buffer::{GrowingHeapBuf, RingBuf};
+///
+/// let mut buffer = GrowingHeapBuf::<u64>::with_capacity(rt.alloc(), 300)?;
+/// assert!(rt; buffer.capacity() == 300 && buffer.reserved() == 0); // it asks for memory as it grows
+/// assert!(rt; buffer.push(7).is_ok() && buffer.pop() == 7);
 /// ```
 #[derive(Drop)]
 pub struct GrowingHeapBuf<T> {
@@ -51,11 +50,11 @@ impl<T> Model for GrowingHeapBuf<T> {
 
 impl<T: Drop> GrowingHeapBuf<T> {
     /// Takes memory for more items, if what there is is full.
-    fn make_room(&mut self) -> Result<(), Fault>
+    fn make_room(&mut self) -> Result<(), Refused>
         requires { length self.old.items < self.old.capacity }
         ensures ok { OnOk result (self.new ≡ record self.old { reserved = reserved_after self.old (doubled self.old) }) }
         ensures room { OnOk result (length self.new.items < self.new.reserved) }
-        ensures err { IfErr result (λ fault. (self.new ≡ self.old) × (length self.old.items ≡ self.old.reserved)) }
+        ensures err { OnErr result ((self.new ≡ self.old) × (length self.old.items ≡ self.old.reserved)) }
     {
         let reserved = self.block.capacity();
         if self.block.len() < reserved {
@@ -73,6 +72,8 @@ impl<T: Drop> RingBuf for GrowingHeapBuf<T> {
 
     ghost capacity_for = { λ capacity. capacity };
 
+    ghost reserved_for = { λ _. 0 };
+
     fn new(alloc: Global) -> GrowingHeapBuf<T> {
         GrowingHeapBuf {
             block: Block::new(),
@@ -81,7 +82,7 @@ impl<T: Drop> RingBuf for GrowingHeapBuf<T> {
         }
     }
 
-    fn with_capacity(alloc: Global, capacity: usize) -> Result<GrowingHeapBuf<T>, Fault>
+    fn with_capacity(alloc: Global, capacity: usize) -> Result<GrowingHeapBuf<T>, Refused>
         ensures ok { IsOk result }
         ensures made { IfOk result (λ made. made ≡ empty capacity 0) }
     {
@@ -119,8 +120,8 @@ impl<T: Drop> RingBuf for GrowingHeapBuf<T> {
         ensures err { IfErr result (λ back. (back.0 ≡ item) × (self.new ≡ self.old) × (length self.old.items ≡ self.old.reserved)) }
         ensures fits { Fits self.new }
     {
-        if self.make_room().is_err() {
-            return Err(NoRoom(item));
+        if let Err(refused) = self.make_room() {
+            return Err(NoRoom::of(item, refused));
         }
         self.block.push(item);
         Ok(())
@@ -128,6 +129,15 @@ impl<T: Drop> RingBuf for GrowingHeapBuf<T> {
 
     fn pop(&mut self) -> T {
         self.block.pop()
+    }
+
+    fn take(&mut self) -> GrowingHeapBuf<T> {
+        let empty = GrowingHeapBuf {
+            block: Block::new(),
+            limit: self.limit,
+            alloc: self.alloc,
+        };
+        mem::replace(self, empty)
     }
 }
 

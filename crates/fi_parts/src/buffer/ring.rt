@@ -1,10 +1,9 @@
 //! A ring of items in a `Vec`.
-ghost use Rattle.std.specs.Prelude.{◌≡◌, ◌<◌, ◌≤◌, ◌^◌, ◌∷◌, ◌++◌, [], length, replicate, IfErr, IfOk};
+ghost use Rattle.std.specs.Prelude.{◌≡◌, ◌<◌, ◌≤◌, ◌^◌, ◌∷◌, ◌++◌, [], length, replicate, IfOk};
 ghost use Rattle.circular_buffer.specs.Buffer.{buffer};
 ghost use Rattle.circular_buffer.specs.Places.{Wraps};
-ghost use Rattle.fi_parts.specs.declared.errors.Fault.TheVariants.{NoMemory};
 
-use crate::errors::Fault;
+use crate::memory::{Refused, items_for};
 use std::alloc::Global;
 use std::marker::Model;
 
@@ -18,13 +17,10 @@ fn slot_behind(start: usize, offset: usize, slots: usize) -> usize
 }
 
 /// Returns `count` empty slots.
-fn empty_slots<T: Drop>(alloc: Global, count: usize) -> Result<Vec<Option<T>>, Fault>
-    ensures ok { IfOk result (λ slots. slots.items ≡ replicate count None) }
-    ensures err { IfErr result (λ fault. fault ≡ NoMemory) }
+fn empty_slots<T: Drop>(alloc: Global, count: usize) -> Result<Vec<Option<T>>, Refused>
+    ensures { IfOk result (λ slots. slots.items ≡ replicate count None) }
 {
-    let Ok(mut slots) = Vec::with_capacity(alloc, count) else {
-        return Err(Fault::NoMemory);
-    };
+    let mut slots = items_for(alloc, count)?;
     for made in 0..count {
         slots.push_reserved(None);
     }
@@ -67,9 +63,8 @@ impl<T: Drop> Ring<T> {
     }
 
     /// Returns an empty ring of `capacity` slots.
-    pub(crate) fn with_capacity(alloc: Global, capacity: usize) -> Result<Ring<T>, Fault>
-        ensures ok { IfOk result (λ ring. ring ≡ buffer [] capacity) }
-        ensures err { IfErr result (λ fault. fault ≡ NoMemory) }
+    pub(crate) fn with_capacity(alloc: Global, capacity: usize) -> Result<Ring<T>, Refused>
+        ensures { IfOk result (λ ring. ring ≡ buffer [] capacity) }
     {
         let slots = empty_slots(alloc, capacity)?;
         Ok(Ring {

@@ -6,6 +6,9 @@
 //! channels of `channel` where all users can borrow one value.
 //!
 //! ```
+//! use futures_intrusive::channel::TryReceiveError;
+//! use futures_intrusive::channel::shared::channel;
+//!
 //! let (sender, receiver) = channel::<u64, HostRuntime>(rt.alloc(), rt, 2).expect(&rt, "memory");
 //! let other = sender.clone().expect(&rt, "memory");
 //! drop(other);                                                     // one sender is left

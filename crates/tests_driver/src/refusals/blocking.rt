@@ -23,7 +23,10 @@ impl<C: SendsBlocking> Making for Sends<C> {
         let sent = self.channel.send_blocking(5);
         let len = self.channel.len();
         self.is_accepted = sent == Ok(()) && len == 1;
-        sent == Err(TrySendError::NoMemory(5)) && len == 0
+        match sent {
+            Err(TrySendError::NoMemory(failed)) => failed.0 == 5 && len == 0,
+            _ => false,
+        }
     }
 }
 

@@ -1,11 +1,11 @@
 //! Calls on channels that take memory.
 use super::hoard::Hoard;
 use super::played::tries_on_both;
-use super::scene::{Plain, Tried};
+use super::scene::{Plain, Refusal, Tried};
 use crate::Flavour;
 use fi_channels::ChannelState;
+use fi_parts::Slot;
 use fi_parts::buffer::RingBuf;
-use fi_parts::{Fault, Slot};
 use fi_run::{Answer, ChannelCall, OneshotCall, Primitive};
 use std::alloc::AllocGlobal;
 use std::random::RandomSource;
@@ -18,7 +18,7 @@ const B: Slot = Slot(1);
 /// The first four futures of a primitive lie in one chunk of memory, so the fifth is the first of which the making asks for more.
 pub const FIFTH: Slot = Slot(4);
 
-pub const REFUSED: Answer<u64, u64> = Answer::Refused(Fault::NoMemory);
+pub const REFUSED: Refusal = Refusal::Refused;
 
 /// The making of a receive of a channel of one value.
 pub fn receive_of_one_value<P>() -> Plain<'static, P>
@@ -46,7 +46,7 @@ where
 pub struct Case<'a> {
     pub before: &'a [ChannelCall<u64, u64>],
     pub call: ChannelCall<u64, u64>,
-    pub refusal: Answer<u64, u64>,
+    pub refusal: Refusal,
     pub after: &'a [ChannelCall<u64, u64>],
 }
 
@@ -94,7 +94,7 @@ const SEND: Case<'static> = Case {
         ChannelCall::TrySend(4),
     ],
     call: ChannelCall::Send(5),
-    refusal: Answer::Back(5, Fault::NoMemory),
+    refusal: Refusal::Back(5),
     after: &[
         ChannelCall::PollSend(A, 2),
         ChannelCall::PollReceive(A, 4),
@@ -109,7 +109,7 @@ pub const GROWS: [Case<'static>; 3] = [
     Case {
         before: &[ChannelCall::Receive, ChannelCall::PollReceive(A, 1)],
         call: ChannelCall::TrySend(5),
-        refusal: Answer::Back(5, Fault::NoMemory),
+        refusal: Refusal::Back(5),
         after: &[ChannelCall::PollReceive(A, 2), ChannelCall::TryReceive],
     },
     Case {

@@ -12,6 +12,8 @@ use std::sync::Wait;
 #[derive(Drop)]
 struct Starved<'a, P: Primitive> {
     scene: &'a Plain<'a, P>,
+    // What the call is answered if it is refused.
+    refusal: &'a Answer<u64, u64>,
     state: &'a mut P,
     hoard: &'a mut Hoard,
     left: usize,
@@ -32,9 +34,9 @@ where
         self.is_used_up = self.hoard.leave(self.left);
         let seen = opened.apply(rt, tasks, scene.call);
         self.hoard.let_go();
-        self.is_refused = seen.is_answer(scene.refusal);
+        self.is_refused = seen.is_answer(*self.refusal);
         let is_right = if self.is_refused {
-            seen.agrees(rt, tasks, scene.refusal, &[])
+            seen.agrees(rt, tasks, *self.refusal, &[])
                 && agree_at(rt, tasks, opened, self.state, scene.call)
         } else {
             let answer = self.state.apply(scene.call);
@@ -112,6 +114,9 @@ where
     P::Call: Copy,
     F: Flavour<R, Call = P::Call>,
 {
+    let Some(refusal) = scene.refusal.answer(rt.alloc()) else {
+        return Tried::Differs(0);
+    };
     let Some(mut tasks) = Tasks::new(rt) else {
         return Tried::Differs(0);
     };
@@ -122,6 +127,7 @@ where
         };
         let mut starved = Starved {
             scene: &*scene,
+            refusal: &refusal,
             state: &mut state,
             hoard: &mut *hoard,
             left: STEP * step,

@@ -1,6 +1,8 @@
 //! A call that may be refused memory, and how to come to it.
 use super::hoard::Hoard;
-use fi_run::Primitive;
+use fi_parts::Fault;
+use fi_parts::memory::items_for;
+use fi_run::{Answer, Primitive};
 use std::alloc::Global;
 
 /// The step by which what is left grows: no block takes less.
@@ -26,21 +28,47 @@ pub trait Scene {
     fn after(&self, alloc: Global) -> Option<Vec<<Self::P as Primitive>::Call>>;
 }
 
+/// The fault of a request for more memory than any address space has.
+pub fn no_memory(alloc: Global) -> Option<Fault> {
+    match items_for::<u64>(alloc, usize::MAX) {
+        Ok(_) => None,
+        Err(refused) => Some(Fault::from(refused)),
+    }
+}
+
+/// What a call is answered that is refused memory.
+#[derive(Clone, Copy, Drop)]
+pub enum Refusal {
+    Refused,
+    /// Of a send: its value comes back.
+    Back(u64),
+}
+
+impl Refusal {
+    pub fn answer(self, alloc: Global) -> Option<Answer<u64, u64>> {
+        let fault = no_memory(alloc)?;
+        Some(match self {
+            Refusal::Refused => Answer::Refused(fault),
+            Refusal::Back(value) => Answer::Back(value, fault),
+        })
+    }
+}
+
 /// A scene whose calls are plain data.
 #[derive(Drop)]
 pub struct Plain<'a, P: Primitive> {
     pub opening: P::Opening,
     pub before: &'a [P::Call],
     pub call: P::Call,
-    pub refusal: P::Answer,
+    pub refusal: Refusal,
     pub after: &'a [P::Call],
 }
 
-impl<'a, P: Primitive + Drop> Scene for Plain<'a, P>
+impl<'a, P> Scene for Plain<'a, P>
 where
+    P: Primitive<Answer = Answer<u64, u64>> + Drop,
     P::Opening: Copy,
     P::Call: Copy,
-    P::Answer: Copy,
 {
     type P = P;
 
@@ -56,8 +84,8 @@ where
         Some(self.call)
     }
 
-    fn refusal(&self, _alloc: Global) -> Option<P::Answer> {
-        Some(self.refusal)
+    fn refusal(&self, alloc: Global) -> Option<Answer<u64, u64>> {
+        self.refusal.answer(alloc)
     }
 
     fn after(&self, alloc: Global) -> Option<Vec<P::Call>> {

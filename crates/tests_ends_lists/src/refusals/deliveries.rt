@@ -44,7 +44,7 @@ impl<R: Wait + Drop> Making for Polls<OneValue<R>> {
                 self.is_delivered = value.as_slice() == BYTES;
                 false
             }
-            Poll::Ready(Err(Fault::NoMemory)) => true,
+            Poll::Ready(Err(Fault::NoMemory { .. })) => true,
             _ => false,
         }
     }
@@ -69,7 +69,7 @@ fn is_state_refused(
             *is_delivered = value.as_slice() == BYTES;
             false
         }
-        Err(Fault::NoMemory) => true,
+        Err(Fault::NoMemory { .. }) => true,
         _ => false,
     }
 }

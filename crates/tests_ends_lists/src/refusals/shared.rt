@@ -56,8 +56,8 @@ impl<R: Wait + Drop> Making for Streams<R> {
         };
         match receiver.into_stream() {
             Ok(_stream) => false,
-            Err(receiver) => {
-                self.receiver = Some(receiver);
+            Err(failed) => {
+                self.receiver = Some(failed.into_parts().0);
                 true
             }
         }

@@ -62,9 +62,7 @@ impl Squares {
 
     /// A send of the next square.
     fn send_next(&mut self, pipe: &mut Pipe) -> Result<Slot, Fault> {
-        let Ok(slot) = pipe.claim_send(self.next.wrapping_mul(self.next)) else {
-            return Err(Fault::NoMemory);
-        };
+        let slot = pipe.claim_send(self.next.wrapping_mul(self.next))?;
         self.next = self.next.wrapping_add(1);
         self.sending = Some(slot);
         Ok(slot)

@@ -62,7 +62,7 @@ returns g c = record {
       g.W.Write.contents c.args.opening (option_copied c.args.lines.rest) c.args.output.now
       c.loop-line.number (option_copied c.loop-line.lines.rest) (labels_of c.loop-line.session.futures)
       c.loop-line.session.primitive c.loop-line.output c.loop-line.output c.loop-line.invariant.1
-      (appends_none (on_its_way g.W.Write.contents c.loop-line.output)) _ c.in_default-line.ensures;
+      (appends_none (on_its_way g.W.Write.contents c.loop-line.output)) _ c.in_default.ensures;
   stopped = tt;
   same_writer = c.loop-line.invariant.2;
 }

@@ -1,4 +1,4 @@
-use Rattle.std.proofs.Common.{◌≡◌, ◌<◌, nat_lt, false, Some, length, sym, ap, refl, ◌∙◌, arith}
+use Rattle.std.proofs.Common.{◌≡◌, ◌<◌, nat_lt, false, Some, length, sym, ap, ◌∙◌, arith}
 use Rattle.std.proofs.lemmas.Bool.{ltb-true}
 use Rattle.fi_parts.specs.Waiting.{registered}
 use Rattle.fi_channels.specs.ChannelFields.{machine}
@@ -74,11 +74,11 @@ returns-in-Err-clause-polled g c =
     omega (arith, why.2, room) in
     let back =
     put_back (g.B.RingBuf.bounded c.args.self.now.buffer) c.args.self.now.waiters c.args.self.now.is_open c.args.slot.0
-    c.in-Err.field-0.0 c.requires.fresh (c.exchange-2.ensures.asked ∙ ap Some (c.unwrap-value-2.ensures
-    ∙ ap Some (sym why.0)))
+    c.into_parts-value.result.0 c.requires.fresh (c.exchange-2.ensures.asked ∙ ap Some (c.unwrap-value-2.ensures
+    ∙ ap Some (sym (c.into_parts-value.ensures ∙ why.0))))
     c.exchange-2.new.self c.exchange-in-Err.new.self c.exchange-2.ensures.rest
     c.exchange-in-Err.ensures.rest in
-    (refl, c.requires.fresh, (c.if-not-self.false, why.2, grows), λ i. machine (why.1 i) (back i) c.args.self.now.is_open)
+    (c.from.ensures, c.requires.fresh, (c.if-not-self.false, why.2, grows), λ i. machine (why.1 i) (back i) c.args.self.now.is_open)
 
 pub take_out-named-requires-2-after_bounds : goal.take_out-named-requires-2-after_bounds
 take_out-named-requires-2-after_bounds g c _ _ =

@@ -5,14 +5,15 @@ use Rattle.fi_parts.proofs.Results.{either, of_made}
 use Rattle.fi_locks.specs.Timer.{TimerMachine, Makes, can_be_polled}
 use Rattle.fi_locks.specs.TimerLaws.{rules, makes_pollable}
 use Rattle.fi_locks.proofs.timer.TimerState.claim_deadline.Goals as goal
+use Rattle.fi_locks.proofs.timer.TimerState.claim_deadline.Goals.{in-Ok, in-Err}
 
 pub invariant_of-self : goal.invariant_of-self
 invariant_of-self g c =
     let old : TimerMachine g.row.W.Denot = record { own = c.self.inside.floor; waiting = c.self.inside.deadlines } in
     let new : TimerMachine g.row.W.Denot = record { own = c.self.inside.floor; waiting = c.insert.new.self } in
-    let made : IfOk c.insert.result (λ slot. Makes old c.args.expiry slot.0 new) = search lemmas in
-    let refused : OnErr c.insert.result (new ≡ old) = search lemmas in
-    either c.insert.result _ _ _ made refused
+    let made : IfOk c.match-insert.result (λ slot. Makes old c.args.expiry slot.0 new) = search lemmas in
+    let refused : OnErr c.match-insert.result (new ≡ old) = search lemmas in
+    either c.match-insert.result _ _ _ made refused
     (λ slot did. line_preserves rules old new (inserts rules slot.0 c.args.expiry old new did) c.self.invariant)
     (λ same. line_preserves rules old new (unchanged rules old new same) c.self.invariant)
 
@@ -20,14 +21,14 @@ pub returns-clause-all_stay : goal.returns-clause-all_stay
 returns-clause-all_stay g c =
     let old : TimerMachine g.row.W.Denot = record { own = c.self.inside.floor; waiting = c.self.inside.deadlines } in
     let new : TimerMachine g.row.W.Denot = record { own = c.self.inside.floor; waiting = c.insert.new.self } in
-    let made : IfOk c.insert.result (λ slot. Makes old c.args.expiry slot.0 new) = search lemmas in
-    let refused : OnErr c.insert.result (new ≡ old) = search lemmas in
-    rw (← c.self.view_is) (claiming_stays rules can_be_polled waits_are_fit old new c.self.invariant.0 c.insert.result
+    let made : IfOk c.match-insert.result (λ slot. Makes old c.args.expiry slot.0 new) = search lemmas in
+    let refused : OnErr c.match-insert.result (new ≡ old) = search lemmas in
+    rw (← c.self.view_is) (claiming_stays rules can_be_polled waits_are_fit old new c.self.invariant.0 c.match-insert.result
     (λ slot. slot.0) _ c.args.expiry made refused)
 
 pub returns-clause-pollable : goal.returns-clause-pollable
 returns-clause-pollable g c =
     let old : TimerMachine g.row.W.Denot = record { own = c.self.inside.floor; waiting = c.self.inside.deadlines } in
     let new : TimerMachine g.row.W.Denot = record { own = c.self.inside.floor; waiting = c.insert.new.self } in
-    let made : IfOk c.insert.result (λ slot. Makes old c.args.expiry slot.0 new) = search lemmas in
-    of_made c.insert.result _ _ made (λ slot did. makes_pollable old new c.args.expiry slot.0 did)
+    let made : IfOk c.match-insert.result (λ slot. Makes old c.args.expiry slot.0 new) = search lemmas in
+    of_made c.match-insert.result _ _ made (λ slot did. makes_pollable old new c.args.expiry slot.0 did)

@@ -14,17 +14,17 @@ use Rattle.fi_parts.proofs.blocks.Blocks.claim.Given.{Over}
 use Rattle.fi_parts.proofs.blocks.Blocks.claim.Goals as goal
 
 -- room in the slab moves no slot
-slots : (g : Over) (c : goal.After-insert_reserved g) → c.reserve.new.self.slots ≡ c.self.inside.slab.slots
-slots g c = ap (λ s. s.slots) c.reserve.ensures.rest_kept
+slots : (g : Over) (c : goal.After-insert_reserved g) → c.reserve_places.new.slab.slots ≡ c.self.inside.slab.slots
+slots g c = ap (λ s. s.slots) c.reserve_places.ensures.rest_kept
 
-sound : (g : Over) (c : goal.After-insert_reserved g) → IsSound c.reserve.new.self c.self.inside.linked
-sound g c = sound_slots c.self.inside.slab c.reserve.new.self c.self.inside.linked (slots g c) c.self.invariant
+sound : (g : Over) (c : goal.After-insert_reserved g) → IsSound c.reserve_places.new.slab c.self.inside.linked
+sound g c = sound_slots c.self.inside.slab c.reserve_places.new.slab c.self.inside.linked (slots g c) c.self.invariant
 
 change : (g : Over) (c : goal.After-insert_reserved g)
-    → Change c.reserve.new.self c.insert_reserved.new.self c.self.inside.linked c.claim.new.self c.insert_reserved.result c.in-Ok.at
+    → Change c.reserve_places.new.slab c.insert_reserved.new.self c.self.inside.linked c.claim.new.self c.insert_reserved.result c.in-Ok.at
     (Some c.in-Ok.at)
 change g c =
-    Change-claimed c.reserve.new.self c.insert_reserved.new.self c.self.inside.linked c.claim.new.self
+    Change-claimed c.reserve_places.new.slab c.insert_reserved.new.self c.self.inside.linked c.claim.new.self
     c.insert_reserved.result c.in-Ok.at (loose_block c.args.value c.vacant_key-slot.result) (sound g c)
     c.insert_reserved.ensures.was_vacant c.insert_reserved.ensures.updates c.in-Ok.ensures.blocks c.in-Ok.ensures.fresh
     c.claim.ensures.rest refl (c.vacant_key-slot.ensures.value ∙ sym c.insert_reserved.ensures.key)
@@ -45,7 +45,8 @@ returns-in-Ok-clause-was_free g c =
     let D = data_of c.self.inside.linked in
     rw (← c.self.view_is)
     (get-live_by D c.self.inside.slab c.insert_reserved.result
-    ∙ ap (item_by D) (sym (ap (λ z. get z c.insert_reserved.result) c.reserve.ensures.rest_kept) ∙ c.insert_reserved.ensures.was_vacant))
+    ∙ ap (item_by D)
+    (sym (ap (λ z. get z c.insert_reserved.result) c.reserve_places.ensures.rest_kept) ∙ c.insert_reserved.ensures.was_vacant))
 
 pub returns-in-Ok-clause-live : goal.returns-in-Ok-clause-live
 returns-in-Ok-clause-live g c =
@@ -56,8 +57,8 @@ returns-in-Ok-clause-apart g c =
     let s = c.self.inside.linked in
     let ok = sound g c in
     ap (holds c.insert_reserved.result) (order_after _ _ _ _ _ _ _ ok (change g c))
-    ∙ holds_none c.reserve.new.self s ok.stored c.insert_reserved.result (chain_of s) c.insert_reserved.ensures.was_vacant
-    (chain_live c.reserve.new.self s ok.stored ok.chained)
+    ∙ holds_none c.reserve_places.new.slab s ok.stored c.insert_reserved.result (chain_of s) c.insert_reserved.ensures.was_vacant
+    (chain_live c.reserve_places.new.slab s ok.stored ok.chained)
 
 pub returns-in-Ok-clause-claimed : goal.returns-in-Ok-clause-claimed
 returns-in-Ok-clause-claimed g c =

@@ -1,7 +1,9 @@
 use Rattle.std.proofs.Common.{rules, ◌≡◌, subst, sym, Ok, Err}
+use Rattle.futures.specs.Poll.{IfReady}
 use Rattle.futures.specs.declared.task.Poll.TheVariants.{Ready, Pending}
-use Rattle.fi_sync.specs.Granted.{IsAcquireAnswer}
-use Rattle.fi_sync.specs.Waiting.{SharedFuture}
+use Rattle.fi_parts.specs.declared.errors.Fault.{Fault}
+use Rattle.fi_sync.specs.Granted.{IsAcquireAnswer, PollsAcquire}
+use Rattle.fi_sync.specs.Waiting.{SharedFuture, IsGiven}
 use Rattle.fi_sync.proofs.semaphore_future.SemaphoreAcquireFutureOfFuture.poll.Goals as goal
 
 pub returns-in-Some-clause-answered : goal.returns-in-Some-clause-answered
@@ -29,3 +31,13 @@ returns-in-Pending-clause-answered g c =
     subst (λ future. IsAcquireAnswer (SharedFuture.name future) (SharedFuture.has_ended future) c.poll.new.cx.lacks_waker (Pending)) own
     (subst (λ answer. IsAcquireAnswer c.self.inside.future.name c.self.inside.future.has_ended c.poll.new.cx.lacks_waker answer)
     (sym same) c.poll.ensures.answered)
+
+pub returns-in-Some-clause-value : goal.returns-in-Some-clause-value
+returns-in-Some-clause-value g c =
+    let same : Ready (Ok c.of.result) ≡ c.poll.result = search rules in
+    subst (λ answer. IfReady answer (IsGiven PollsAcquire (Err Fault.NoMemory))) (sym same) c.poll.ensures.value
+
+pub returns-in-Ready-Err-clause-value : goal.returns-in-Ready-Err-clause-value
+returns-in-Ready-Err-clause-value g c =
+    let same : Ready (Err c.in-Ready-Err.fault) ≡ c.poll.result = search rules in
+    subst (λ answer. IfReady answer (IsGiven PollsAcquire (Err Fault.NoMemory))) (sym same) c.poll.ensures.value

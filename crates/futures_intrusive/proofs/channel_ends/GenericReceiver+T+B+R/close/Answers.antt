@@ -1,0 +1,5 @@
+use Rattle.std.proofs.Common.{rules}
+use Rattle.futures_intrusive.proofs.channel_ends.GenericReceiver+T+B+R.close.Goals as goal
+
+pub returns : goal.returns
+returns g c = record { closed = (c.call.ensures.0.now.state, c.call.ensures.1.now.state, search rules) }
