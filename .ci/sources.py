@@ -1,0 +1,313 @@
+"""What the scripts of this folder share: readers of the sources in Rust and in antt."""
+import glob
+import os
+import pathlib
+import re
+import subprocess
+
+TOP = os.path.dirname(os.path.dirname(os.path.realpath(__file__)))
+os.chdir(TOP)  # so that all paths are those of the repository
+FRONT = "futures_intrusive"
+PUB = r"(?:pub(?:\([a-z]+\))? )?(?:unsafe )?"
+ITEM = re.compile(rf"{PUB}(impl|trait|struct|enum|type|fn)\b\s*")
+METHOD = re.compile(rf"^    (?={PUB}fn \w)", flags=re.M)
+CLAUSE = re.compile(r"((?:requires|ensures)\*?(?: \w+)?) \{")
+NAME = r"[^\s(){}\[\];,:\"]+"
+HEAD = re.compile(rf"(?:abbrev |unfoldable )?(?:pub )?(?:(data|record) )?({NAME})(?=\s|$)")
+KEYWORDS = set("abbrev unfoldable pub data record module where let in if then else elim Type Unit tt".split())
+WHERE = re.compile(r"\bwhere\s*$", flags=re.M)
+
+
+def text_of(path):
+    """Returns a file's text."""
+    return pathlib.Path(path).read_text(encoding="utf-8")
+
+
+def write(path, text):
+    """Writes a file anew."""
+    pathlib.Path(path).write_text(text, encoding="utf-8")
+
+
+def report(summary, faults):
+    """Prints faults, and how many they are behind a summary. Returns the exit status."""
+    print(*faults, f"{summary}{len(faults)} faults", sep="\n")
+    return 1 if faults else 0
+
+
+def rt(crate, *words):
+    """Runs `rt` with these words in a crate's folder. Returns the exit status and what it printed."""
+    pipes = {"stdin": subprocess.DEVNULL, "stdout": subprocess.PIPE, "stderr": subprocess.STDOUT}
+    ran = subprocess.run(["rt", *words], cwd=crate, text=True, errors="replace", **pipes)
+    return ran.returncode, ran.stdout
+
+
+def rust_files(crate="*"):
+    """Returns the files of Rust of the crates of this name, tests and programs too."""
+    return sorted(glob.glob(f"crates/{crate}/src/**/*.rt", recursive=True))
+
+
+def libraries():
+    """Returns the files of Rust that are neither of tests nor of `uses`."""
+    return [path for path in rust_files() if not re.search(r"/(tests|uses)", path)]
+
+
+def crates_under(crate):
+    """Returns the crates of this repository that a crate stands on, in the order of its line in crates.txt, and itself."""
+    others = re.search(rf"^{crate}\b[^:\n]*:(.*)$", text_of("crates.txt"), flags=re.M)[1]
+    return [name for name in [*others.split(), crate] if os.path.isdir(f"crates/{name}")]
+
+
+def without_comments(text):
+    """Returns a text of Rust without its comments."""
+    return re.sub(r"//[^\n]*", "", text)
+
+
+def closing(text, start, pair="{}"):
+    """Returns the place of the bracket that closes the one at `start`, or the text's end. The `>` of an arrow closes nothing."""
+    depth = 0
+    for found in re.compile(rf"\{pair[0]}|(?<![-=])\{pair[1]}").finditer(text, start):
+        depth += 1 if found[0] == pair[0] else -1
+        if depth == 0:
+            return found.start()
+    return len(text)
+
+
+def braced(pattern, text):
+    """Yields the first group of each match of a pattern, which ends in an open brace, with what stands in the braces."""
+    for found in re.finditer(pattern, text, flags=re.M):
+        yield found[1], text[found.end() : closing(text, found.end() - 1)]
+
+
+def without_generics(text):
+    """Returns a text without what stands between angle brackets."""
+    while "<" in text:
+        start = text.index("<")
+        text = text[:start] + text[closing(text, start, "<>") + 1 :]
+    return text
+
+
+class Function:
+    """A function of Rust: its file, whether it is public, its name, and the text that begins with it."""
+
+    def __init__(self, path, text):
+        self.path, self.text = path, text
+        self.is_public, self.name = text.startswith("pub "), re.match(rf"{PUB}fn (\w+)", text)[1]
+
+    def contract(self):
+        """Returns its signature, and its clauses: each one's first words with its text."""
+        text = without_comments(self.text) + "\n{"
+        at = re.search(r"\n\s*(?:where\b|requires\b|ensures\b|\{)|;\n| \{", text).start()
+        head = re.sub(rf"^{PUB}fn ", "", re.sub(r"\s+", " ", text[:at]))
+        signature, clauses = head.replace("( ", "(").replace(", )", ")").replace(",)", ")").strip(), []
+        while True:
+            at += len(re.match(r"(?:\s|where\b[^{]*?,\n)*", text[at:])[0])
+            found = CLAUSE.match(text, at)
+            if not found:
+                return signature, clauses
+            at = closing(text, found.end() - 1) + 1
+            clauses.append((found[1], text[found.end() : at - 1]))
+
+
+class Item:
+    """An item of a file of Rust: its first word, the type (as it stands there) and its name, the trait of an impl, and its text."""
+
+    def __init__(self, path, number, text):
+        self.path, self.number, self.text = path, number, text
+        head = re.split(r" where\b|;", re.sub(r"\s+", " ", without_comments(text.partition("{")[0])))[0]
+        found = ITEM.match(head)
+        self.word, self.is_public, head = found[1], head.startswith("pub "), head[found.end() :]
+        if head.startswith("<"):
+            head = head[closing(head, 0, "<>") + 1 :]
+        trait, _, owner = head.rpartition(" for ") if self.word == "impl" else ("", "", re.split(r"[:<(]", head)[0])
+        self.owner, self.target = owner.strip(), head.partition(" = ")[2].strip()
+        self.name, self.trait = (re.match(r"\W*(?:\w+::)*(\w*)", without_generics(it))[1] for it in (owner, trait))
+
+    def functions(self):
+        """Yields the function that it is, or its methods."""
+        starts = [found.end() for found in METHOD.finditer(self.text)] if self.word in ("impl", "trait") else []
+        starts = [0] if self.word == "fn" else starts
+        for start, end in zip(starts, [*starts[1:], None]):
+            yield Function(self.path, self.text[start:end])
+
+
+def items(path, text=""):
+    """Yields the items of a file of Rust (or of this text of it), which begin at a line's start, each up to the line that ends it."""
+    lines = (text or text_of(path)).split("\n")
+    for start in (at for at, line in enumerate(lines) if ITEM.match(line)):
+        ends = (at for at in range(start, len(lines)) if re.match(r"\}|\{\}|\S.*[;}]$", lines[at]))
+        yield Item(path, start, "\n".join(lines[start : next(ends, start) + 1]))
+
+
+def enclosing(text, at):
+    """Returns the name of the last function above the end of a place's line, and the line of its impl or trait ("" outside of any)."""
+    found = re.match(rf"(.*^|)( *){PUB}fn (\w+)", text[: text.find("\n", at)], flags=re.M | re.S)
+    block = re.match(r".*^((?:pub )?(?:unsafe )?(?:impl|trait)\b[^\n]*)", found[1], flags=re.M | re.S) if found and found[2] else None
+    return found and found[3], block[1] if block else ""
+
+
+def leaves(tree, base=""):
+    """Yields the name that each leaf of a tree of imports brings in, and its path, with `::` before a definition of antt."""
+    tree, at = re.sub(r"\s+", " ", tree).replace(".{", "::{"), 0
+    while found := re.compile(r"[, ]*([^,{ ][^,{]*)(\{?)").match(tree, at):
+        at = closing(tree, found.end() - 1) + 1 if found[2] else found.end()
+        if found[2]:
+            yield from leaves(tree[found.end() : at - 1], base + found[1])
+        else:
+            path, _, other = found[1].strip().partition(" as ")
+            path = (base + path).removesuffix("::self")
+            yield other or re.split(r"::|\.", path)[-1], path
+
+
+def imports(text, words=r"\s*(?:pub )?(?:ghost )?use"):
+    """Returns the names that a text of Rust imports, in lines that begin with these words, each with its path."""
+    found = re.findall(rf"^{words} ([^;]*);", without_comments(text), flags=re.M)
+    return dict(leaf for tree in found for leaf in leaves(tree))
+
+
+def front_door():
+    """Returns the public items of `futures_intrusive`: each one's path there, with the path that it is taken from."""
+    doors = {}
+    for path in rust_files(FRONT):
+        inside = path.split("/src/")[1].removesuffix(".rt").replace("/", "::")
+        module = FRONT if inside == "lib" else f"{FRONT}::{inside}"
+        for name, source in imports(text_of(path), "pub use").items():
+            doors[f"{module}::{name}"] = source.replace("crate::", FRONT + "::", 1)
+    return doors
+
+
+def methods_of_traits():
+    """Returns the methods that traits of the front door alone have, each with its trait."""
+    traits = {path.split("::")[-1] for path in front_door()}
+    every = [(item, function) for path in libraries() for item in items(path) for function in item.functions() if item.word != "fn"]
+    others = {"new", *(function.name for _, function in every if function.is_public)}
+    return {function.name: item.name for item, function in every
+            if item.word == "trait" and item.name in traits and function.name not in others}
+
+
+def plain(text):
+    """Returns a text of antt without its comments and strings."""
+    return re.sub(r'"[^"\n]*"|--[^\n]*', " ", text)
+
+
+def statements(text):
+    """Returns the statements of a text of antt that begin as deep as the first, each with its lines up to the next one."""
+    text = "\n".join(line for line in plain(text).split("\n") if line.strip())
+    depth = re.match(" *", text)[0]
+    return re.split(rf"\n(?={depth}[^\s)}}\]])", text) if text else []
+
+
+def binders(text):
+    """Returns the names that a text binds: those of `(x : T)`, of functions, of `let` and of what stands under `where`."""
+    names = re.findall(rf"[({{]\s*((?:{NAME}\s+)*{NAME})\s*:", text)
+    for pattern in (r"λ\s+([^.()]*)\.", rf"\blet\s+({NAME})", r"\|([^|↦]*)↦"):
+        names += re.findall(pattern, text)
+    if WHERE.search(text):
+        names += re.findall(rf"^\s+(?:abbrev )?({NAME}) :", text, flags=re.M)
+    return set(re.findall(NAME, " ".join(names)))
+
+
+def words(text):
+    """Yields the names in a text of antt, each with what stands behind its first dot; not the labels of fields and arguments."""
+    for word in re.findall(NAME, re.sub(rf"(?<=[{{;])\s*{NAME}\s*=(?![=\w])", " ", text)):
+        head, _, rest = word.partition(".")
+        if head:
+            yield head, rest.split(".")[0]
+
+
+class Definition:
+    """A definition of antt: where it stands, its name, its parts (constructors or fields), how many lines it has, its statements, each with
+    the names that it binds, and why it is believed, if it is."""
+
+    def __init__(self, scope, name):
+        self.scope, self.name, self.parts, self.size, self.statements, self.why = scope, name, set(), 0, [], None
+
+    def add(self, text, bound):
+        """Adds a statement, which binds these names and those of its own text. Returns them all."""
+        self.statements.append((text, bound | binders(text)))
+        return self.statements[-1][1]
+
+
+class Scope:
+    """What names mean in a file of antt, or in a file or an item of Rust: its imports, its definitions (of antt), the scopes around it."""
+
+    def __init__(self, path, outer=None, names=()):
+        self.path, self.around, self.imports, self.exports = path, [self, *(outer.around if outer else [])], dict(names), set()
+        self.definitions, self.constructors, self.members = {}, {}, set()
+
+    def find(self, name):
+        """Returns the definition that has this name, or a constructor of it."""
+        return self.definitions.get(name) or self.constructors.get(name)
+
+    def is_unknown(self, name):
+        """Whether an identifier is neither defined nor imported. In clauses those with a capital letter may be types of Rust."""
+        if not re.match(r"[A-Za-z]" if self.path.endswith(".antt") else r"[a-z]", name) or name in KEYWORDS:
+            return False
+        return not any(it.find(name) or name in it.imports or name in it.members for it in self.around)
+
+    def read(self, text, telescope=""):
+        """Reads the statements of a file of antt, or of a block with these parameters."""
+        last = None
+        for statement in statements(text):
+            used = re.match(r"(pub )?use\s+(.*)", statement, flags=re.S)
+            if used:
+                self.imports.update(leaves(used[2]))
+                self.exports.update(name for name, path in leaves(used[2]) if used[1])
+            elif statement.lstrip().startswith("module "):
+                cut = WHERE.search(statement).end()
+                self.read(statement[cut:], telescope + " " + statement[:cut])
+            elif not statement.startswith("pub mod "):
+                last = self.define(statement, telescope, last)
+
+    def define(self, statement, telescope, last):
+        """Reads a signature, an equation, a data type or a record, and returns the definition that it is of."""
+        kind, name = HEAD.match(statement.lstrip()).groups()
+        if kind or not last or name != last.name:
+            last = self.definitions.setdefault(name, Definition(self, name))
+            last.add(telescope, set())
+        last.size += statement.count("\n") + 1
+        # An equation binds the names on its left; a type what stands before `where`, and a record's field is bound in those behind it.
+        left = re.match(rf"\s*{re.escape(name)}\s((?:\{{[^}}]*\}}|[^=:{{])*)=(?!=)", "" if kind else statement)
+        cut = WHERE.search(statement).end() if kind else len(statement)
+        bound = last.add(statement[:cut], binders(telescope) | {word for word, _ in words(left[1] if left else "")})
+        for part in statements(statement[cut:]):
+            part, text = re.match(rf"\s*(?:pub )?({NAME})(.*)", part, flags=re.S).groups()
+            last.parts.add(part)
+            last.add(text, bound)
+            bound = bound | {part} if kind == "record" else bound
+        self.constructors.update({part: last for part in last.parts if kind == "data"})
+        return last
+
+
+class Specs:
+    """All files of antt, by the path that an import has."""
+
+    def __init__(self):
+        self.files = {}
+        for path in sorted(glob.glob("crates/*/specs/*.antt") + glob.glob("crates/*/proofs/**/*.antt", recursive=True)):
+            scope = self.files["Rattle." + path[len("crates/") : -len(".antt")].replace("/", ".")] = Scope(path)
+            scope.read(text_of(path))
+
+    def at(self, base, name):
+        """Returns the definition that a file or a type has under this name: None if that is elsewhere, False if it has none."""
+        outer, _, of = base.rpartition(".")
+        scope, name = (self.files[base], name) if base in self.files else (self.files.get(outer), of)
+        if scope:
+            return scope.find(name) or name in scope.exports and self.at(*scope.imports[name].split("::"))
+        found = re.match(r"Rattle\.(\w+)\.specs\.(?!declared\.|contracts\.)", base)
+        return False if found and os.path.isdir("crates/" + found[1]) else None
+
+    def named(self, scope, head, rest):
+        """Returns the definition that a name means in a scope: None if that is elsewhere, False if there is none."""
+        for it in scope.around:
+            base, _, name = it.imports.get(head, "").partition("::")
+            if it.find(head) and not (base and not name and rest):
+                return it.find(head)
+            if name or base and rest:
+                return self.at(base, name or rest)
+        return None
+
+    def missing(self, scope):
+        """Yields the imports of a scope that have no definition."""
+        for base, _, name in (path.partition("::") for path in scope.imports.values()):
+            if name and self.at(base, name) is False:
+                yield f"{scope.path}: no definition of {name} in {base}"
