@@ -4,8 +4,10 @@ use crate::mutex::MutexState;
 use crate::mutex_guard::LocalMutexGuard;
 use crate::semaphore::SemaphoreState;
 use crate::semaphore_future::LocalSemaphoreReleaser;
+use crate::tally::{Grant, Tally};
 use crate::timer::TimerState;
 use std::fmt;
+use std::sync::ledger::Ledger;
 
 impl<T: Drop, W: Drop> fmt::Debug for MutexState<T, W> {
     fn fmt<F: fmt::Write>(&self, f: &mut fmt::Formatter<F>) -> fmt::Result {
@@ -38,5 +40,17 @@ impl fmt::Debug for LocalSemaphoreReleaser {
 impl<W> fmt::Debug for TimerState<W> {
     fn fmt<F: fmt::Write>(&self, f: &mut fmt::Formatter<F>) -> fmt::Result {
         f.debug_struct("TimerService").finish()
+    }
+}
+
+impl<L: Ledger> fmt::Debug for Tally<L> {
+    fn fmt<F: fmt::Write>(&self, f: &mut fmt::Formatter<F>) -> fmt::Result {
+        f.debug_struct("Tally").finish()
+    }
+}
+
+impl<L: Ledger> fmt::Debug for Grant<L> {
+    fn fmt<F: fmt::Write>(&self, f: &mut fmt::Formatter<F>) -> fmt::Result {
+        f.debug_struct("Grant").finish()
     }
 }

@@ -7,6 +7,8 @@
 //!   `LocalSemaphoreReleaser`, which is spent by `give_back`. Both are fair or unfair.
 //! - `TimerState` (`LocalTimerService`) has moments: a `LocalTimerFuture` ends once `check_expirations` has come to its own.
 //!
+//! `Tally` counts what a primitive that threads share has handed out, and a `Grant` is so much of it: the shares of a ledger.
+//!
 //! A state names whom to wake, the oldest first: `next_wake` takes the wakers out.
 #![tactic(auto)]
 
@@ -17,6 +19,7 @@ mod mutex_future;
 mod mutex_guard;
 mod semaphore;
 mod semaphore_future;
+mod tally;
 mod timer;
 mod timer_future;
 
@@ -25,5 +28,6 @@ pub use mutex_future::{LocalMutexLockFuture, MutexLock};
 pub use mutex_guard::LocalMutexGuard;
 pub use semaphore::{LocalSemaphore, SemaphoreState};
 pub use semaphore_future::{LocalSemaphoreAcquireFuture, LocalSemaphoreReleaser, SemaphoreAcquire};
+pub use tally::{Grant, Tally};
 pub use timer::{LocalTimerService, TimerState};
 pub use timer_future::{LocalTimerFuture, TimerWait};

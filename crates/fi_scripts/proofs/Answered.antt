@@ -6,7 +6,7 @@ use Rattle.fi_scripts.specs.declared.output.Output.{Output}
 use Rattle.fi_run.specs.declared.answer.Answer.{Answer}
 use Rattle.fi_scripts.specs.Asked.{Asks, Performs}
 use Rattle.fi_scripts.specs.Texts.{answer_text, wakes_text}
-use Rattle.fi_scripts.specs.declared.engine.Request.{Request}
+use Rattle.fi_scripts.specs.declared.requests.Request.{Request}
 use Rattle.fi_scripts.specs.Answered.{line_text, Calls, TellsWakers, AnswersLine, AnswersLines, LinesAre, AnswersBeginning}
 use Rattle.fi_scripts.specs.Answered.{AnswersRest, RefusesLine, RunsShort, IfStopped}
 use Rattle.fi_scripts.specs.declared.fault.ScriptFault.{ScriptFault}

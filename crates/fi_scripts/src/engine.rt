@@ -1,14 +1,13 @@
 //! Answering scripts.
-ghost use Rattle.std.specs.Prelude.{◌≡◌, ◌⊎◌, ℕ, List, [], Option, Some, true, OnOk, IfOk, IfErr, MatchOption, drop, option_copied};
+ghost use Rattle.std.specs.Prelude.{◌≡◌, ◌⊎◌, [], Some, None, true, OnOk, IfOk, IfErr, drop, option_copied};
 ghost use Rattle.fi_scripts.specs.Answered.{AnswersLine, IfStopped};
-ghost use Rattle.fi_scripts.specs.Asked.{Requests, Asks, Performs};
+ghost use Rattle.fi_scripts.specs.Asked.{Performs};
 ghost use Rattle.fi_scripts.specs.Channels.{spoken_channel, capacity_of};
 ghost use Rattle.fi_parts.specs.Order.{head_or};
 ghost use Rattle.fi_scripts.specs.Language.{spoken, AsksFor};
-ghost use Rattle.fi_scripts.specs.Lines.{IsNoCall, IsBad, LabelsAfter, row_of};
+ghost use Rattle.fi_scripts.specs.Lines.{IsBad};
 ghost use Rattle.fi_scripts.specs.Primitives.{known, openings_of};
 ghost use Rattle.fi_scripts.specs.Script.{AnswersScript, RefusesScript, StopsScript, Turns, IfFault};
-ghost use Rattle.fi_scripts.specs.Spelled.{IsLabelOf};
 ghost use Rattle.fi_scripts.specs.InUse.{labels_of};
 ghost use Rattle.fi_scripts.specs.Outputs.{GoesOn, Tells, Collects, SameWriter};
 ghost use Rattle.fi_scripts.specs.Tables.{channel_openings};
@@ -18,14 +17,13 @@ ghost use Rattle.fi_scripts.specs.Unread.{lines_left, AnswersLeft};
 use crate::buffer::Buffer;
 use crate::fault::ScriptFault;
 use crate::input::read_whole;
-use crate::label::Label;
 use crate::labelled::Labelled;
 use crate::named::Named;
 use crate::output::{COLLECTED, LINE, Output};
-use crate::row::{MadeFuture, Row};
+use crate::requests::{Labels, Request};
 use crate::scripted::Scripted;
 use crate::texts::{put_waker, write_answer};
-use crate::words::{Lines, Words, after_hold, split_at_first};
+use crate::words::{Lines, split_at_first};
 use fi_channels::{
     ChannelState, EventState, OneshotBroadcastState, OneshotState, StateBroadcastState,
 };
@@ -218,19 +216,11 @@ fn answer_lines<P: Scripted, W: Write>(
     Ok(())
 }
 
-/// A call that a line asks for, with what the line says of its label.
-#[derive(Drop)]
-struct Request<C> {
-    row: Row,
-    label: Option<Label>,
-    call: C,
-}
-
 /// A primitive, and its futures whose labels are in use.
 #[derive(Drop)]
 struct Session<P: Scripted> {
     primitive: P,
-    futures: Labelled<MadeFuture>,
+    futures: Labels,
 }
 
 impl<P: Scripted> Session<P> {
@@ -275,7 +265,7 @@ impl<P: Scripted> Session<P> {
             × IsBad P.Scripted.language.call_of (labels_of self.old.futures) line.now)) }
         ensures collects { Collects output.old output.new }
     {
-        let Some((holds, request)) = self.read(line) else {
+        let Some((holds, request)) = self.futures.read::<P>(line) else {
             return Err(ScriptFault::BadLine(number));
         };
         let answer = self.perform(request)?;
@@ -284,52 +274,6 @@ impl<P: Scripted> Session<P> {
             self.write_wakes(output)?;
         }
         output.put_byte(b'\n')
-    }
-
-    /// What a line asks for, and whether it holds the wakers back. A line without a call asks for the wakers alone.
-    #[inline(always)]
-    fn read(&self, line: &[u8]) -> Option<(bool, Option<Request<P::Call>>)>
-        ensures { MatchOption result (IsBad P.Scripted.language.call_of (labels_of self.now.futures)
-            line.now)
-            (λ asked. Asks P.Scripted.language.call_of (labels_of self.now.futures) line.now asked.0
-            asked.1) }
-    {
-        if line == b"wakes".as_slice() {
-            return Some((false, None));
-        }
-        match after_hold(line) {
-            Some(call) => Some((true, Some(self.read_call(call)?))),
-            None => Some((false, Some(self.read_call(line)?))),
-        }
-    }
-
-    /// The call that a line stands for, with the labels that are in use.
-    #[inline(always)]
-    fn read_call(&self, line: &[u8]) -> Option<Request<P::Call>>
-        ensures { MatchOption result (IsNoCall P.Scripted.language.call_of
-            (labels_of self.now.futures) line.now)
-            (Requests P.Scripted.language.call_of (labels_of self.now.futures) line.now) }
-    {
-        let words = Words::read(line)?;
-        let row = self.row(words)?;
-        let call = P::call(row)?;
-        Some(Request {
-            row,
-            label: words.label,
-            call,
-        })
-    }
-
-    /// What a line of these words asks for.
-    #[inline(always)]
-    fn row(&self, words: Words) -> Option<Row>
-        ensures { (label : Option (List ℕ)) → IsLabelOf label words.label
-            → result ≡ row_of (labels_of self.now.futures) words.verb label words.numbers }
-    {
-        match words.label {
-            None => Some(Row::Plain(words.verb, words.numbers)),
-            Some(label) => Row::labelled(words.verb, words.numbers, self.futures.get(label)),
-        }
     }
 
     /// Makes the call that a line asks for, if it asks for one, and keeps the labels in use.
@@ -347,40 +291,8 @@ impl<P: Scripted> Session<P> {
             return Ok(Answer::Done);
         };
         let answer = self.primitive.apply(request.call);
-        self.keep_labels(request.row, request.label, &answer)?;
+        self.futures.keep(request.row, request.label, &answer)?;
         Ok(answer)
-    }
-
-    /// Keeps the labels in use after a call: a label is in use from the making of its future until its cancel.
-    #[inline(always)]
-    fn keep_labels(
-        &mut self,
-        row: Row,
-        label: Option<Label>,
-        answer: &Answer<u64, u64>,
-    ) -> Result<(), ScriptFault>
-        ensures kept { OnOk result ((word : Option (List ℕ)) → IsLabelOf word label
-            → LabelsAfter row word answer.now (labels_of self.old.futures)
-            (labels_of self.new.futures)) }
-        ensures primitive { self.new.primitive ≡ self.old.primitive }
-        ensures fault { IfErr result (λ fault. fault ≡ ScriptFault.NoMemory) }
-    {
-        let Some(label) = label else {
-            return Ok(());
-        };
-        match (row, answer) {
-            (Row::Make(verb, _), Answer::Made(slot)) => {
-                match self.futures.insert(label, MadeFuture { verb, slot: *slot }) {
-                    Ok(()) => Ok(()),
-                    Err(refused) => Err(ScriptFault::from(refused)),
-                }
-            }
-            (Row::Cancel(..), _) => {
-                self.futures.remove(label);
-                Ok(())
-            }
-            _ => Ok(()),
-        }
     }
 
     /// Takes out the oldest waker, if there is one.

@@ -4,6 +4,7 @@
 //!   arguments, input, output and status.
 //! - `words`, `verb`, `label`, `numbers` and `row` read a line. `scripted` is what a primitive adds, a table from rows to calls; each
 //!   primitive has a module with its own (`event`, `channel`, ..), and `named` and `buffer` read what the first line opens.
+//! - `Labels` keeps the futures whose labels are in use, and reads by them the call that a line asks for, whoever then makes it.
 //! - `engine` answers a script and each of its lines; `labelled` keeps futures by their labels; `texts` and `output` write the answers.
 #![tactic(auto)]
 
@@ -24,6 +25,7 @@ mod oneshot;
 mod output;
 mod pool;
 mod program;
+mod requests;
 mod row;
 mod scripted;
 mod semaphore;
@@ -35,5 +37,12 @@ mod words;
 
 pub use engine::run_script;
 pub use fault::{ScriptFault, report};
+pub use label::Label;
+pub use labelled::Labelled;
+pub use numbers::Numbers;
 pub use output::{COLLECTED, LINE};
 pub use program::run_program;
+pub use requests::{Labels, Request};
+pub use row::{MadeFuture, Row};
+pub use scripted::Scripted;
+pub use verb::Verb;

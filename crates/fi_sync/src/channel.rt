@@ -70,12 +70,15 @@ pub type Channel<T, const N: usize, R> = GenericChannel<T, ArrayBuf<T, N>, R>;
 /// ```
 /// use futures::executor::block_on;
 /// use futures::future::join;
+/// use futures_intrusive::blocking::Blocking;
 /// use futures_intrusive::channel::UnbufferedChannel;
 ///
-/// let channel = UnbufferedChannel::<u64, HostRuntime>::new(rt.alloc(), rt);
-/// let send = channel.send(7).ok().expect(&rt, "memory");
-/// let (sent, received) = block_on(&rt, join(send, channel.receive()?))?;
-/// assert!(rt; sent == Ok(()) && received == Ok(Some(7)));
+/// // Whether a send and a receive meet that one thread polls.
+/// fn meet<R: Blocking>(rt: &R, channel: &UnbufferedChannel<u64, R>) -> Option<bool> {
+///     let send = channel.send(7).ok()?;
+///     let (sent, received) = block_on(rt, join(send, channel.receive().ok()?)).ok()?;
+///     Some(sent == Ok(()) && received == Ok(Some(7)))
+/// }
 /// ```
 pub type UnbufferedChannel<T, R> = Channel<T, 0, R>;
 

@@ -7,9 +7,8 @@ ghost use Rattle.fi_sync.specs.Blanks.{IsLockBlank};
 
 use crate::claim::Cancel;
 use crate::slot_future::{PollSlot, SlotPolled, no_slot};
-use crate::tally::{Grant, Tally};
 use crate::wakes::{HasOutbox, PollWaker};
-use fi_locks::{MutexLock, MutexState};
+use fi_locks::{Grant, MutexLock, MutexState, Tally};
 use fi_parts::{Fault, Slot};
 use futures::task::Poll;
 use std::alloc::Global;

@@ -15,7 +15,6 @@ use crate::shared_semaphore::{
 };
 use crate::slot_future::{PollSlot, SlotFuture};
 use crate::state_broadcast::StateBroadcastChannel;
-use crate::tally::{Grant, Tally};
 use crate::timed::{Timed, TimerWait};
 use crate::timer::TimerService;
 use crate::wakes::{Guarded, HasOutbox, Owed};
@@ -170,18 +169,6 @@ impl<C> fmt::Debug for Timed<C> {
 impl<T, L: Ledger> fmt::Debug for Locked<T, L> {
     fn fmt<F: fmt::Write>(&self, f: &mut fmt::Formatter<F>) -> fmt::Result {
         f.debug_struct("Locked").finish()
-    }
-}
-
-impl<L: Ledger> fmt::Debug for Tally<L> {
-    fn fmt<F: fmt::Write>(&self, f: &mut fmt::Formatter<F>) -> fmt::Result {
-        f.debug_struct("Tally").finish()
-    }
-}
-
-impl<L: Ledger> fmt::Debug for Grant<L> {
-    fn fmt<F: fmt::Write>(&self, f: &mut fmt::Formatter<F>) -> fmt::Result {
-        f.debug_struct("Grant").finish()
     }
 }
 

@@ -49,18 +49,12 @@ pub type OneshotChannel<T, R> = OneValueChannel<T, TakesValue, R>;
 /// # Examples
 ///
 /// ```
-/// use futures::task::Poll;
-/// use futures::test::MockTask;
 /// use futures_intrusive::channel::OneshotBroadcastChannel;
 ///
-/// let task = MockTask::new(&rt).expect(&rt, "memory");
-/// let channel = OneshotBroadcastChannel::<u64, HostRuntime>::new(rt.alloc(), rt);
-/// let mut unpolled = channel.receive().expect(&rt, "memory");
-/// let mut ended = channel.receive().expect(&rt, "memory");
-/// assert!(rt; channel.send(5) == Ok(()));
-/// assert!(rt; task.poll(&mut ended) == Poll::Ready(Ok(Some(5))));
-/// assert!(rt; task.poll(&mut ended).is_pending());
-/// assert!(rt; task.poll(&mut unpolled) == Poll::Ready(Ok(Some(5))));
+/// let news = OneshotBroadcastChannel::<u64, HostRuntime>::new(rt.alloc(), rt);
+/// assert!(rt; news.send(5).is_ok());
+/// assert!(rt; news.receive_blocking() == Ok(Some(5))); // a clone, for each who asks
+/// assert!(rt; news.receive_blocking() == Ok(Some(5)));
 /// ```
 pub type OneshotBroadcastChannel<T, R> = OneValueChannel<T, ClonesValue, R>;
 

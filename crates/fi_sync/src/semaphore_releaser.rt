@@ -3,7 +3,7 @@ ghost use Rattle.std.specs.Prelude.{◌≡◌, ℕ};
 
 use crate::counted_semaphore::CountedSemaphore;
 use crate::monitor::HasMonitor;
-use crate::tally::Grant;
+use fi_locks::Grant;
 use std::marker::Model;
 use std::sync::ledger::Ledger;
 

@@ -1,8 +1,8 @@
 -- The senders and receivers of a channel, which are counted beside its state.
-use Rattle.std.specs.Prelude.{◌≡◌, ℕ, ◌+◌, ◌-◌, ◌≤◌, ◌==◌, Bool, true, false, Option, Some, None, Result, Ok, Err, refl}
+use Rattle.std.specs.Prelude.{◌≡◌, ℕ, ◌+◌, ◌-◌, ◌≤◌, ◌==◌, Bool, true, false, Option, Some, None, Result, refl}
 use Rattle.std.specs.Coded.{Coded, code_by, coded×, coded_ℕ}
 use Rattle.fi_parts.specs.declared.errors.Fault.{Fault}
-use Rattle.fi_parts.specs.declared.errors.Fault.TheVariants.{TooManyEnds}
+use Rattle.fi_channels.specs.EndCount.{most_ends, AddsAt}
 
 -- A channel's state, and how many senders and receivers it has.
 pub record Counted (S : Type 0) : Type 0 where
@@ -13,10 +13,6 @@ pub record Counted (S : Type 0) : Type 0 where
 abbrev pub counted_code : {S : Type 0} → Coded S → Coded (Counted S)
 counted_code {S} s = code_by (S × (ℕ × ℕ)) (coded× s (coded× coded_ℕ coded_ℕ)) (λ c. (c.state, (c.senders, c.receivers)))
     (λ p. record { state = p.0; senders = p.1.0; receivers = p.1.1 }) (λ _. refl)
-
--- as many ends of one side as there can be: `isize::MAX`
-abbrev pub most_ends : ℕ
-most_ends = 9223372036854775807
 
 -- What a kind of channel calls closed; in which of its states nothing is buffered; and in which no send waits.
 pub record Closing (S : Type 0) : Type 1 where
@@ -41,11 +37,7 @@ module _ {S : Type 0} where
   abbrev pub two_ends : S → Counted S
   two_ends state = record { state = state; senders = 1; receivers = 1 }
 
-  -- A count that has reached the most is refused, and nothing changes; else it is one more.
-  abbrev pub AddsAt : Bool → Counted S → Counted S → Result (Unit {0}) Fault → Counted S → Type 0
-  AddsAt true old more answer new = (answer ≡ Err TooManyEnds) × (new ≡ old)
-  AddsAt false old more answer new = (answer ≡ Ok tt) × (new ≡ more)
-
+  -- A side that has the most is refused one more, and nothing changes; else its count is one more.
   abbrev pub AddsSender : Counted S → Result (Unit {0}) Fault → Counted S → Type 0
   AddsSender old answer new = AddsAt (old.senders == most_ends) old (record old { senders = old.senders + 1 }) answer new
 

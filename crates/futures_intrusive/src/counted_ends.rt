@@ -7,13 +7,10 @@ ghost use Rattle.futures.specs.declared.task.waker.Waker.{Waker};
 ghost use Rattle.futures_intrusive.specs.Ends.{Counted, Closing, KeepsEnds, StaysClosed, OnState, two_ends};
 ghost use Rattle.futures_intrusive.specs.Ends.{AddsSender, AddsReceiver, DropsSender, DropsReceiver};
 
-use fi_channels::{ChannelReceiveAccess, ChannelSendAccess, Received, Sent};
+use fi_channels::{ChannelReceiveAccess, ChannelSendAccess, EndCount, Received, Sent};
 use fi_parts::{Fault, Slot};
 use fi_sync::{HasOutbox, PollWaker};
 use std::marker::Model;
-
-/// As many ends of one side as there can be: `isize::MAX`.
-const MOST_ENDS: usize = 9223372036854775807;
 
 /// A channel that closes when its last sender or its last receiver is dropped.
 pub trait ClosesByEnds: HasOutbox {
@@ -86,8 +83,8 @@ pub trait ManyReceivers: ClosesByEnds {}
 #[derive(Drop)]
 pub struct CountedEnds<S: ClosesByEnds> {
     pub(crate) state: S,
-    senders: usize,
-    receivers: usize,
+    senders: EndCount,
+    receivers: EndCount,
 }
 
 impl<S: ClosesByEnds> Model for CountedEnds<S> {
@@ -110,8 +107,8 @@ impl<S: ClosesByEnds> CountedEnds<S> {
     {
         CountedEnds {
             state,
-            senders: 1,
-            receivers: 1,
+            senders: EndCount::new(),
+            receivers: EndCount::new(),
         }
     }
 
@@ -120,7 +117,7 @@ impl<S: ClosesByEnds> CountedEnds<S> {
         ensures count { result ≡ self.now.senders }
         ensures kept { KeepsEnds S.closing self.now }
     {
-        self.senders
+        self.senders.count()
     }
 
     /// How many receivers there are. Without any the channel is closed, and nothing is buffered.
@@ -128,7 +125,7 @@ impl<S: ClosesByEnds> CountedEnds<S> {
         ensures count { result ≡ self.now.receivers }
         ensures kept { KeepsEnds S.closing self.now }
     {
-        self.receivers
+        self.receivers.count()
     }
 
     /// Returns `true` if the channel is closed.
@@ -143,13 +140,9 @@ impl<S: ClosesByEnds> CountedEnds<S> {
     pub fn drop_sender(&mut self)
         ensures { DropsSender S.closes self.old self.new }
     {
-        if self.senders == 0 {
-            return;
-        }
-        if self.senders == 1 {
+        if self.senders.drop_end() {
             self.state.close_after_senders();
         }
-        self.senders -= 1;
     }
 
     /// One receiver less. The last one closes the channel and clears it, and what was cleared comes back. If there was none,
@@ -158,15 +151,10 @@ impl<S: ClosesByEnds> CountedEnds<S> {
         ensures dropped { DropsReceiver S.clears self.old result self.new }
         ensures no_send_waits { self.old.receivers ≡ 1 → S.closing.NoSendWaits self.new.state }
     {
-        if self.receivers == 0 {
-            return None;
+        if self.receivers.drop_end() {
+            return Some(self.state.close_after_receivers());
         }
-        if self.receivers > 1 {
-            self.receivers -= 1;
-            return None;
-        }
-        self.receivers = 0;
-        Some(self.state.close_after_receivers())
+        None
     }
 }
 
@@ -175,11 +163,7 @@ impl<S: ManySenders> CountedEnds<S> {
     pub fn add_sender(&mut self) -> Result<(), Fault>
         ensures { AddsSender self.old result self.new }
     {
-        if self.senders == MOST_ENDS {
-            return Err(Fault::TooManyEnds);
-        }
-        self.senders += 1;
-        Ok(())
+        self.senders.add_end()
     }
 }
 
@@ -188,11 +172,7 @@ impl<S: ManyReceivers> CountedEnds<S> {
     pub fn add_receiver(&mut self) -> Result<(), Fault>
         ensures { AddsReceiver self.old result self.new }
     {
-        if self.receivers == MOST_ENDS {
-            return Err(Fault::TooManyEnds);
-        }
-        self.receivers += 1;
-        Ok(())
+        self.receivers.add_end()
     }
 }
 

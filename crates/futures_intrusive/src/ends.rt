@@ -1,13 +1,15 @@
 //! The ends of a channel: what its senders and its receivers have in common.
 ghost use Rattle.std.specs.Prelude.{◌≡◌, ◌⊎◌, ℕ, Ok, Err, OnOk, OnErr, IfOk, IfErr, Option, Result};
 ghost use Rattle.std.specs.Arc.{arc_value};
+ghost use Rattle.std.specs.Borrow.{MutBor};
 ghost use Rattle.fi_parts.specs.declared.errors.Fault.{Fault};
+ghost use Rattle.fi_sync.specs.Waiting.{IsNew};
 ghost use Rattle.futures_intrusive.specs.Ends.{Counted, AddsSender, AddsReceiver, LeavesSender, DropsReceiver};
 
 use crate::counted_ends::{ClosesByEnds, CountedEnds, ManyReceivers, ManySenders};
 use fi_parts::memory::{share, shared};
-use fi_parts::{Fault, Refused};
-use fi_sync::{Monitor, SlotFuture};
+use fi_parts::{Fault, Refused, Slot};
+use fi_sync::{HasOutbox, Monitor, PollSlot, SlotFuture};
 use std::alloc::Global;
 use std::marker::{Model, PhantomData};
 use std::sync::{Arc, Wait};
@@ -212,4 +214,23 @@ pub(crate) fn two_ends<S: ClosesByEnds + Drop, R: Wait + Drop>(
         membership: Membership { side: PhantomData },
     };
     Ok((sender, receiver))
+}
+
+/// A future of the kind `K` that owns this share of its channel. The call gives its slot, or refuses.
+#[inline(always)]
+pub(crate) fn future_of<S, R, K, I, E, C>(
+    shared: Arc<Monitor<S, R>, Global>,
+    input: I,
+    call: C,
+) -> Result<SlotFuture<Arc<Monitor<S, R>, Global>, K>, E>
+where
+    S: HasOutbox + PollSlot<K> + Drop,
+    R: Wait + Drop,
+    C: FnOnce(&mut S, I) -> Result<Slot, E>,
+    requires { C.IsAlwaysCallable call }
+    ensures made { IfOk result (λ future. IsNew (arc_value shared) future) }
+    ensures refused { IfErr result (λ error. (shown : MutBor S) × (left : MutBor S) × C.post call shown input (Err error) left) }
+{
+    let claim = shared.claim(input, call)?;
+    Ok(SlotFuture::new(shared, claim))
 }

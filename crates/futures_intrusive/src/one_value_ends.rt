@@ -9,10 +9,10 @@ ghost use Rattle.futures_intrusive.specs.Ends.{OnState};
 
 use crate::channel_ends::ChannelReceiveFuture;
 use crate::counted_ends::{ClosesByEnds, CountedEnds, ManyReceivers, ReceivesClosed};
-use crate::ends::{End, Receivers, Senders, two_ends};
+use crate::ends::{End, Receivers, Senders, future_of, two_ends};
 use fi_channels::{ClonesValue, GivesValue, OneValueState, TakesValue};
 use fi_parts::{ChannelSendError, Fault, Slot};
-use fi_sync::{Blocking, PollWaker, SlotFuture, wait_for};
+use fi_sync::{Blocking, PollWaker, wait_for};
 use std::alloc::Global;
 use std::sync::Wait;
 
@@ -31,8 +31,8 @@ pub type OneValueReceiver<T, G, R> = End<OneValueState<T, PollWaker, G>, R, Rece
 ///
 /// let ends = oneshot_channel::<u64, HostRuntime>(rt.alloc(), rt);
 /// let (sender, receiver) = ends.expect(&rt, "memory");
-/// assert!(rt; !sender.is_closed() && !receiver.is_closed());
-/// assert!(rt; sender.send(5).is_ok() && sender.is_closed() && receiver.is_closed());
+/// assert!(rt; sender.send(5).is_ok() && sender.is_closed()); // it takes one value
+/// assert!(rt; receiver.receive_blocking() == Ok(Some(5)));
 /// ```
 pub type OneshotSender<T, R> = OneValueSender<T, TakesValue, R>;
 
@@ -41,19 +41,12 @@ pub type OneshotSender<T, R> = OneValueSender<T, TakesValue, R>;
 /// # Examples
 ///
 /// ```
-/// use futures::task::Poll;
-/// use futures::test::MockTask;
 /// use futures_intrusive::channel::shared::oneshot_channel;
 ///
-/// let task = MockTask::new(&rt).expect(&rt, "memory");
-/// let (sender, receiver) = oneshot_channel::<u64, HostRuntime>(rt.alloc(), rt).expect(
-///     &rt, "memory",
-/// );
-/// let mut receive = receiver.receive().expect(&rt, "memory");
-/// assert!(rt; task.poll(&mut receive).is_pending() && !task.is_woken());
-/// drop(sender);
-/// assert!(rt; task.is_woken());
-/// assert!(rt; task.poll(&mut receive) == Poll::Ready(Ok(None)) && !task.is_woken());
+/// let ends = oneshot_channel::<u64, HostRuntime>(rt.alloc(), rt);
+/// let (sender, receiver) = ends.expect(&rt, "memory");
+/// assert!(rt; sender.send(5).is_ok() && sender.is_closed()); // it takes one value
+/// assert!(rt; receiver.receive_blocking() == Ok(Some(5)));
 /// ```
 pub type OneshotReceiver<T, R> = OneValueReceiver<T, TakesValue, R>;
 
@@ -62,14 +55,13 @@ pub type OneshotReceiver<T, R> = OneValueReceiver<T, TakesValue, R>;
 /// # Examples
 ///
 /// ```
-/// use futures_intrusive::channel::ChannelSendError;
 /// use futures_intrusive::channel::shared::oneshot_broadcast_channel;
 ///
 /// let ends = oneshot_broadcast_channel::<u64, HostRuntime>(rt.alloc(), rt);
 /// let (sender, receiver) = ends.expect(&rt, "memory");
-/// drop(receiver.clone().expect(&rt, "memory"));
-/// drop(receiver);
-/// assert!(rt; sender.send(5) == Err(ChannelSendError(5)));
+/// drop(receiver.clone().expect(&rt, "memory")); // one receiver is left
+/// assert!(rt; sender.send(5).is_ok());
+/// assert!(rt; receiver.receive_blocking() == Ok(Some(5)));
 /// ```
 pub type OneshotBroadcastSender<T, R> = OneValueSender<T, ClonesValue, R>;
 
@@ -79,17 +71,13 @@ pub type OneshotBroadcastSender<T, R> = OneValueSender<T, ClonesValue, R>;
 /// # Examples
 ///
 /// ```
-/// use futures::task::Poll;
-/// use futures::test::MockTask;
 /// use futures_intrusive::channel::shared::oneshot_broadcast_channel;
 ///
-/// let task = MockTask::new(&rt).expect(&rt, "memory");
 /// let ends = oneshot_broadcast_channel::<u64, HostRuntime>(rt.alloc(), rt);
 /// let (sender, receiver) = ends.expect(&rt, "memory");
-/// drop(receiver.clone().expect(&rt, "memory"));
-/// assert!(rt; sender.send(5) == Ok(()));
-/// let mut receive = receiver.receive().expect(&rt, "memory");
-/// assert!(rt; task.poll(&mut receive) == Poll::Ready(Ok(Some(5))));
+/// drop(receiver.clone().expect(&rt, "memory")); // one receiver is left
+/// assert!(rt; sender.send(5).is_ok());
+/// assert!(rt; receiver.receive_blocking() == Ok(Some(5)));
 /// ```
 pub type OneshotBroadcastReceiver<T, R> = OneValueReceiver<T, ClonesValue, R>;
 
@@ -133,8 +121,13 @@ impl<T: Drop, G: GivesValue<T>, R: Wait + Drop> OneValueReceiver<T, G, R> {
         ensures fault { IfErr result (λ fault. fault ≡ Fault.NoMemory) }
     {
         let shared = self.share()?;
-        let claim = self.channel().claim((), |ends, ()| ends.claim_receive())?;
-        Ok(SlotFuture::new(shared, claim))
+        let claim = |ends: &mut CountedEnds<OneValueState<T, PollWaker, G>>, ()| -> Result<
+            Slot,
+            Fault,
+        >
+            ensures { IfErr result (λ fault. fault ≡ Fault.NoMemory) }
+        { ends.claim_receive() };
+        future_of(shared, (), claim)
     }
 
     /// Blocks this thread until the value comes, and receives it. As `OneValueChannel::receive_blocking`.

@@ -2,16 +2,18 @@
 ghost use Rattle.std.specs.Prelude.{◌≡◌, Option, IfOk, IfErr, is_none};
 ghost use Rattle.futures.specs.Poll.{OnPending};
 ghost use Rattle.futures.specs.Task.{Covers, Keeps};
+ghost use Rattle.fi_parts.specs.declared.errors.Fault.{Fault};
 ghost use Rattle.futures.specs.declared.task.waker.Waker.{Waker};
 ghost use Rattle.fi_sync.specs.Streams.{IsStreamAnswer};
 ghost use Rattle.fi_sync.specs.Waiting.{IsNew, polled};
 ghost use Rattle.futures_intrusive.specs.SharedStreams.{PollsSharedStream};
 
 use crate::channel_ends::{GenericReceiver, SharedChannelState};
-use crate::ends::SharedFutureOf;
+use crate::counted_ends::CountedEnds;
+use crate::ends::{SharedFutureOf, future_of};
 use fi_parts::buffer::RingBuf;
-use fi_parts::{CloseStatus, Fault, NoRoom, Refused};
-use fi_sync::{ChannelStreaming, SlotFuture};
+use fi_parts::{CloseStatus, Fault, NoRoom, Refused, Slot};
+use fi_sync::ChannelStreaming;
 use futures::task::{Context, Poll};
 use futures::{Future, Stream};
 use std::marker::Model;
@@ -48,10 +50,12 @@ impl<T: Drop, B: RingBuf<Item = T>, R: Wait + Drop> GenericReceiver<T, B, R> {
             Ok(shared) => shared,
             Err(refused) => return Err(NoRoom::of(self, refused)),
         };
-        let claimed = self.channel().claim((), |ends, ()| ends.claim_stream());
-        match claimed {
-            Ok(claim) => Ok(SharedStream {
-                future: SlotFuture::new(shared, claim),
+        let claim = |ends: &mut CountedEnds<SharedChannelState<T, B>>, ()| -> Result<Slot, Fault>
+            ensures { IfErr result (λ fault. fault ≡ Fault.NoMemory) }
+        { ends.claim_stream() };
+        match future_of(shared, (), claim) {
+            Ok(future) => Ok(SharedStream {
+                future,
                 receiver: self,
             }),
             Err(fault) => match Refused::of(fault) {

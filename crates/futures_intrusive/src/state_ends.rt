@@ -9,10 +9,10 @@ ghost use Rattle.futures_intrusive.specs.Ends.{OnState};
 
 use crate::channel_ends::ChannelReceiveFuture;
 use crate::counted_ends::{ClosesByEnds, CountedEnds, ManyReceivers, ManySenders, ReceivesClosed};
-use crate::ends::{End, Receivers, Senders, two_ends};
+use crate::ends::{End, Receivers, Senders, future_of, two_ends};
 use fi_channels::StateBroadcastState;
 use fi_parts::{ChannelSendError, Fault, Slot, StateId};
-use fi_sync::{Blocking, PollWaker, SlotFuture, wait_for};
+use fi_sync::{Blocking, PollWaker, wait_for};
 use std::alloc::Global;
 use std::sync::Wait;
 
@@ -26,12 +26,10 @@ use std::sync::Wait;
 ///
 /// let ends = state_broadcast_channel::<u64, HostRuntime>(rt.alloc(), rt);
 /// let (sender, receiver) = ends.expect(&rt, "memory");
-/// let _sender = sender.clone().expect(&rt, "memory");
-/// let other = receiver.clone().expect(&rt, "memory");
+/// assert!(rt; sender.send(5).is_ok());
+/// // ..
 /// drop(receiver);
-/// assert!(rt; sender.send(5) == Ok(()));
-/// drop(other);
-/// assert!(rt; sender.send(6) == Err(ChannelSendError(6)));
+/// assert!(rt; sender.send(6) == Err(ChannelSendError(6))); // no receiver is left
 /// ```
 pub type StateSender<T, R> = End<StateBroadcastState<T, PollWaker>, R, Senders>;
 
@@ -40,21 +38,13 @@ pub type StateSender<T, R> = End<StateBroadcastState<T, PollWaker>, R, Senders>;
 /// # Examples
 ///
 /// ```
-/// use futures::task::Poll;
-/// use futures::test::MockTask;
 /// use futures_intrusive::channel::StateId;
 /// use futures_intrusive::channel::shared::state_broadcast_channel;
 ///
-/// let task = MockTask::new(&rt).expect(&rt, "memory");
 /// let ends = state_broadcast_channel::<u64, HostRuntime>(rt.alloc(), rt);
 /// let (sender, receiver) = ends.expect(&rt, "memory");
-/// let other = sender.clone().expect(&rt, "memory");
-/// let mut receive = receiver.receive(StateId::new()).expect(&rt, "memory");
-/// assert!(rt; task.poll(&mut receive).is_pending());
-/// drop(sender);
-/// assert!(rt; task.poll(&mut receive).is_pending() && !task.is_woken());
-/// drop(other);
-/// assert!(rt; task.is_woken() && task.poll(&mut receive) == Poll::Ready(Ok(None)));
+/// assert!(rt; sender.send(5).is_ok());
+/// assert!(rt; matches!(receiver.receive_blocking(StateId::new()), Ok(Some((_, 5)))));
 /// ```
 pub type StateReceiver<T, R> = End<StateBroadcastState<T, PollWaker>, R, Receivers>;
 
@@ -93,10 +83,12 @@ impl<T: Clone + Drop, R: Wait + Drop> StateReceiver<T, R> {
         ensures fault { IfErr result (λ fault. fault ≡ Fault.NoMemory) }
     {
         let shared = self.share()?;
-        let claim = self
-            .channel()
-            .claim(seen, |ends, seen| ends.claim_receive(seen))?;
-        Ok(SlotFuture::new(shared, claim))
+        let claim = |ends: &mut CountedEnds<
+            StateBroadcastState<T, PollWaker>,
+        >, seen: StateId| -> Result<Slot, Fault>
+            ensures { IfErr result (λ fault. fault ≡ Fault.NoMemory) }
+        { ends.claim_receive(seen) };
+        future_of(shared, seen, claim)
     }
 
     /// Blocks this thread until there is a state newer than the one seen, and receives the newest. As

@@ -2,6 +2,7 @@
 
 use crate::owned::Futures;
 use crate::tasks::Tasks;
+use crate::worked::OfOpening;
 use crate::{Flavour, Opened, Play, Played, Seen};
 use fi_parts::Slot;
 use fi_run::{Answer, EventCall};
@@ -49,6 +50,12 @@ impl<'a, R: Wait> Opened<R, EventCall<u64>>
 #[derive(Drop)]
 pub struct Event {
     pub is_set: bool,
+}
+
+impl OfOpening<bool> for Event {
+    fn of_opening(is_set: bool) -> Self {
+        Event { is_set }
+    }
 }
 
 impl<R: Wait + Copy + AllocGlobal> Flavour<R> for Event {

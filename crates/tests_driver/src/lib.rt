@@ -12,13 +12,13 @@ use std::sync::Wait;
 pub mod answers;
 pub mod channel;
 pub mod drawn;
+pub mod entries;
 pub mod event;
 pub mod mutex;
 pub mod one_value;
 pub mod owned;
 pub mod pollable;
 pub mod refusals;
-pub mod rows;
 pub mod semaphore;
 pub mod state;
 pub mod tasks;
@@ -99,6 +99,11 @@ pub trait Opened<R, C> {
     /// The call that this one is on the plain state.
     fn meant(&self, call: C) -> C {
         call
+    }
+
+    /// Whether it has no such call.
+    fn lacks(&self, _call: &C) -> bool {
+        false
     }
 
     /// Makes the call that does what this one does to the plain state. Futures have the numbers in which they were made as slots.

@@ -3,6 +3,7 @@ ghost use Rattle.std.specs.Prelude.{◌≡◌};
 
 use crate::owned::Futures;
 use crate::tasks::Tasks;
+use crate::worked::OfOpening;
 use crate::{Flavour, Opened, Play, Played, Seen};
 use fi_parts::{Fault, Slot};
 use fi_run::{Answer, MutexCall};
@@ -95,7 +96,7 @@ fn play_locking<R, P, L>(
     tasks: &mut Tasks,
     list: &mut P,
     blank: Blank,
-    is_fair: bool,
+    opening: MutexOf,
 ) -> Played
 where
     R: Wait + Copy + AllocGlobal,
@@ -105,20 +106,27 @@ where
     requires parts { blank.parts ≡ L.parts }
     requires one { blank.parts ≡ 1 }
 {
-    let mutex = &Mutex::<u64, R, L>::new(rt.alloc(), *rt, blank, 7, is_fair);
+    let mutex = &Mutex::<u64, R, L>::new(rt.alloc(), *rt, blank, opening.value, opening.is_fair);
     match OpenedMutex::new(rt, mutex) {
         Some(mut opened) => list.play(rt, tasks, &mut opened),
         None => Played::NoMemory,
     }
 }
 
-/// A mutex of a seven.
-#[derive(Drop)]
-pub struct MutexOfSeven {
+/// A mutex of this value.
+#[derive(Clone, Copy, Drop)]
+pub struct MutexOf {
+    pub value: u64,
     pub is_fair: bool,
 }
 
-impl<R: Wait + Copy + AllocGlobal> Flavour<R> for MutexOfSeven {
+impl OfOpening<(u64, bool)> for MutexOf {
+    fn of_opening((value, is_fair): (u64, bool)) -> Self {
+        MutexOf { value, is_fair }
+    }
+}
+
+impl<R: Wait + Copy + AllocGlobal> Flavour<R> for MutexOf {
     type Call = MutexCall<u64, u64>;
 
     fn play<P: Play<R, MutexCall<u64, u64>>>(
@@ -127,6 +135,6 @@ impl<R: Wait + Copy + AllocGlobal> Flavour<R> for MutexOfSeven {
         tasks: &mut Tasks,
         list: &mut P,
     ) -> Played {
-        play_locking::<R, P, Brand>(rt, tasks, list, Blank::new(1), self.is_fair)
+        play_locking::<R, P, Brand>(rt, tasks, list, Blank::new(1), *self)
     }
 }

@@ -2,6 +2,7 @@
 
 use crate::owned::Futures;
 use crate::tasks::Tasks;
+use crate::worked::OfOpening;
 use crate::{Flavour, Opened, Play, Played, Seen};
 use fi_channels::{ClonesValue, GivesValue, OneValueState, TakesValue};
 use fi_parts::Slot;
@@ -50,6 +51,10 @@ pub struct OneValue<G> {
     giving: PhantomData<G>,
 }
 
+pub type Oneshot = OneValue<TakesValue>;
+
+pub type OneshotBroadcast = OneValue<ClonesValue>;
+
 pub const ONESHOT: OneValue<TakesValue> = OneValue {
     giving: PhantomData,
 };
@@ -57,6 +62,14 @@ pub const ONESHOT: OneValue<TakesValue> = OneValue {
 pub const BROADCAST: OneValue<ClonesValue> = OneValue {
     giving: PhantomData,
 };
+
+impl<G> OfOpening<()> for OneValue<G> {
+    fn of_opening(_opening: ()) -> Self {
+        OneValue {
+            giving: PhantomData,
+        }
+    }
+}
 
 impl<R: Wait + Copy + AllocGlobal, G: GivesValue<u64>> Flavour<R> for OneValue<G> {
     type Call = OneshotCall<u64, u64>;

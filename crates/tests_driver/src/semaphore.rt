@@ -4,6 +4,7 @@ ghost use Rattle.std.specs.Prelude.{◌≡◌};
 use crate::owned::{Futures, ROOM};
 use crate::pollable::Pollable;
 use crate::tasks::Tasks;
+use crate::worked::OfOpening;
 use crate::{Flavour, Opened, Play, Played, Seen};
 use fi_parts::{Fault, Slot};
 use fi_run::{Answer, SemaphoreCall};
@@ -350,6 +351,12 @@ pub struct Opening {
 #[derive(Drop)]
 pub struct ByReference(pub Opening);
 
+impl OfOpening<(usize, bool)> for ByReference {
+    fn of_opening((permits, is_fair): (usize, bool)) -> Self {
+        ByReference(Opening { is_fair, permits })
+    }
+}
+
 impl<R: Wait + Copy + AllocGlobal> Flavour<R> for ByReference {
     type Call = SemaphoreCall<u64>;
 
@@ -366,6 +373,12 @@ impl<R: Wait + Copy + AllocGlobal> Flavour<R> for ByReference {
 /// A semaphore that its owners share.
 #[derive(Drop)]
 pub struct ByOwners(pub Opening);
+
+impl OfOpening<(usize, bool)> for ByOwners {
+    fn of_opening((permits, is_fair): (usize, bool)) -> Self {
+        ByOwners(Opening { is_fair, permits })
+    }
+}
 
 impl<R: Wait + Copy + Drop + AllocGlobal> Flavour<R> for ByOwners {
     type Call = SemaphoreCall<u64>;

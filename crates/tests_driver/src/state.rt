@@ -2,6 +2,7 @@
 
 use crate::owned::Futures;
 use crate::tasks::Tasks;
+use crate::worked::OfOpening;
 use crate::{Flavour, Opened, Play, Played, Seen};
 use fi_parts::{Slot, StateId};
 use fi_run::{Answer, StateCall};
@@ -56,6 +57,12 @@ impl<'a, R: Wait> Opened<R, StateCall<u64, u64>>
 
 #[derive(Drop)]
 pub struct StateBroadcast;
+
+impl OfOpening<()> for StateBroadcast {
+    fn of_opening(_opening: ()) -> Self {
+        StateBroadcast
+    }
+}
 
 impl<R: Wait + Copy + AllocGlobal> Flavour<R> for StateBroadcast {
     type Call = StateCall<u64, u64>;

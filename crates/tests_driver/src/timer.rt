@@ -2,6 +2,7 @@
 
 use crate::owned::Futures;
 use crate::tasks::Tasks;
+use crate::worked::OfOpening;
 use crate::{Flavour, Opened, Play, Played, Seen};
 use fi_parts::{MockClock, Slot};
 use fi_run::{Answer, TimerCall};
@@ -71,6 +72,12 @@ impl<R: Wait + Copy + AllocGlobal> SharedTimer<R> {
 
 #[derive(Drop)]
 pub struct Timer;
+
+impl OfOpening<()> for Timer {
+    fn of_opening(_opening: ()) -> Self {
+        Timer
+    }
+}
 
 impl<R: Wait + Copy + AllocGlobal> Flavour<R> for Timer {
     type Call = TimerCall<u64>;

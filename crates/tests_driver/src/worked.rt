@@ -1,34 +1,32 @@
-//! Worked rows: lists of calls that are written out.
+//! Worked rows, played on types that threads share.
+
+use crate::entries::{Entry, entries_of};
 use crate::tasks::Tasks;
-use crate::{Flavour, Line, Opened, Play, Played, agrees};
-use fi_run::Answer;
+use crate::{Flavour, Opened, Play, Played, agrees};
+use fi_scripts::Scripted;
 use std::alloc::AllocGlobal;
 use std::random::RandomSource;
 use std::sync::Wait;
+use tests_rows::Row;
 
-/// A call of a row, its answer, and the wakers of those whom it wakes, in their order. A drop has no answer, whatever stands here.
-pub type Entry<C> = (C, Answer<u64, u64>, &'static [u64]);
+/// A type that is opened as scripts open its plain state.
+pub trait OfOpening<O> {
+    fn of_opening(opening: O) -> Self;
+}
 
-/// Plays a row.
+/// Plays the calls of a row.
 #[derive(Drop)]
 struct Worked<'a, C> {
-    row: &'a [Entry<C>],
+    entries: &'a [Entry<C>],
 }
 
 impl<R: Wait, C: Copy> Play<R, C> for Worked<'_, C> {
     fn play<O: Opened<R, C>>(&mut self, rt: &R, tasks: &mut Tasks, opened: &mut O) -> Played {
-        for (place, entry) in self.row.iter().enumerate() {
-            let (call, answer, woken) = *entry;
-            if !agrees(
-                rt,
-                tasks,
-                opened,
-                Line {
-                    call,
-                    answer,
-                    woken,
-                },
-            ) {
+        for (place, entry) in self.entries.iter().enumerate() {
+            if opened.lacks(&entry.call) {
+                return Played::AsListed;
+            }
+            if !agrees(rt, tasks, opened, entry.line()) {
                 return Played::DiffersAt(place);
             }
         }
@@ -36,13 +34,114 @@ impl<R: Wait, C: Copy> Play<R, C> for Worked<'_, C> {
     }
 }
 
-/// Plays a row on a type that is opened for it.
-pub fn play_row<R, F: Flavour<R>>(rt: &R, flavour: &F, row: &[Entry<F::Call>]) -> Played
+/// Plays a row on a type that is opened for it, up to the first call that the type lacks.
+pub fn play_row<R, P, F>(rt: &R, flavour: &F, opening: P::Opening, row: &str) -> Played
 where
     R: Wait + RandomSource + AllocGlobal,
+    P: Scripted,
+    P::Call: Copy,
+    F: Flavour<R, Call = P::Call>,
 {
-    match Tasks::new(rt) {
-        Some(mut tasks) => flavour.play(rt, &mut tasks, &mut Worked { row }),
-        None => Played::NoMemory,
+    let (Some(mut tasks), Some(entries)) = (Tasks::new(rt), entries_of::<R, P>(rt, opening, row))
+    else {
+        return Played::NoMemory;
+    };
+    let mut worked = Worked {
+        entries: entries.as_slice(),
+    };
+    flavour.play(rt, &mut tasks, &mut worked)
+}
+
+/// How rows went.
+#[derive(Clone, Copy, Debug, PartialEq, Eq)]
+pub enum Rows {
+    /// So many were played as they say.
+    Played(usize),
+    /// The row of this name differs, or has a bad line, or memory is missing.
+    Differs(&'static str, Played),
+}
+
+impl Rows {
+    /// Whether there were rows, and all were played as they say.
+    pub fn are_right(self) -> bool {
+        match self {
+            Rows::Played(count) => count > 0,
+            Rows::Differs(..) => false,
+        }
+    }
+
+    // The same, with one more row that went so.
+    fn and(self, name: &'static str, played: Played) -> Self {
+        match self {
+            Rows::Played(count) if played == Played::AsListed => {
+                Rows::Played(count.saturating_add(1))
+            }
+            Rows::Played(_) => Rows::Differs(name, played),
+            Rows::Differs(..) => self,
+        }
+    }
+}
+
+/// Plays each row on a type that is opened as its first line says.
+pub fn play_rows<R, P, F>(rt: &R, rows: &[Row]) -> Rows
+where
+    R: Wait + RandomSource + AllocGlobal,
+    P: Scripted,
+    P::Opening: Copy,
+    P::Call: Copy,
+    F: Flavour<R, Call = P::Call> + OfOpening<P::Opening> + Drop,
+{
+    let mut went = Rows::Played(0);
+    for row in rows {
+        if let Some(opening) = opening_of::<P>(row.text) {
+            let flavour = F::of_opening(opening);
+            went = went.and(
+                row.name,
+                play_row::<R, P, F>(rt, &flavour, opening, row.text),
+            );
+        }
+    }
+    went
+}
+
+/// Plays each row that begins with this line on a type.
+pub fn play_rows_after<R, P, F>(
+    rt: &R,
+    flavour: &F,
+    opening: P::Opening,
+    first: &str,
+    rows: &[Row],
+) -> Rows
+where
+    R: Wait + RandomSource + AllocGlobal,
+    P: Scripted,
+    P::Opening: Copy,
+    P::Call: Copy,
+    F: Flavour<R, Call = P::Call>,
+{
+    let mut went = Rows::Played(0);
+    for row in rows {
+        if first_line(row.text) == first {
+            went = went.and(
+                row.name,
+                play_row::<R, P, F>(rt, flavour, opening, row.text),
+            );
+        }
+    }
+    went
+}
+
+fn first_line(row: &str) -> &str {
+    match row.split_once('\n') {
+        Some((first, _)) => first,
+        None => row,
+    }
+}
+
+// What the first line of a row opens, by the words behind the primitive's name.
+fn opening_of<P: Scripted>(row: &str) -> Option<P::Opening> {
+    match first_line(row).split_once(' ') {
+        Some((_, words)) => P::opening(Some(words.as_bytes())),
+        None => P::opening(None),
     }
 }

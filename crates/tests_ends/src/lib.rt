@@ -2,8 +2,6 @@
 #![tactic(auto)]
 
 #[cfg(test)]
-mod crossing;
-#[cfg(test)]
 mod ends;
 #[cfg(test)]
 mod pages;

@@ -1,3 +1,2 @@
 //! Thread-safe futures, where no clause says it.
-mod spent;
 mod stress;

@@ -1,13 +1,10 @@
 //! The ends of the channels of one value and of the state broadcast. They have no `close`, so no list closes them.
 
-use fi_channels::{ClonesValue, GivesValue, OneValueState, TakesValue};
-use fi_parts::{ChannelSendError, Fault, Slot, StateId};
+use fi_parts::{Fault, Slot, StateId};
 use fi_run::{Answer, OneshotCall, StateCall};
-use fi_sync::PollWaker;
 use futures::Future;
 use futures_intrusive::channel::shared::{
-    ChannelReceiveFuture, OneValueReceiver, OneValueSender, StateReceiveFuture, StateReceiver,
-    StateSender, oneshot_broadcast_channel, oneshot_channel, state_broadcast_channel,
+    oneshot_broadcast_channel, oneshot_channel, state_broadcast_channel,
 };
 use std::alloc::AllocGlobal;
 use std::sync::Wait;
@@ -15,62 +12,9 @@ use tests_driver::owned::Futures;
 use tests_driver::pollable::Pollable;
 use tests_driver::state::asked;
 use tests_driver::tasks::Tasks;
+use tests_driver::worked::OfOpening;
 use tests_driver::{Flavour, Opened, Play, Played, Seen};
-
-type Receiving<G, R> = ChannelReceiveFuture<OneValueState<u64, PollWaker, G>, R>;
-
-/// The call of a sender of one value or of states.
-pub trait SendsAtOnce {
-    fn send(&self, value: u64) -> Result<(), ChannelSendError<u64>>;
-}
-
-/// The call of a receiver of one value.
-pub trait ReceivesOne {
-    type Receive;
-
-    fn receive(&self) -> Result<Self::Receive, Fault>;
-}
-
-/// The calls of a receiver of states. What is seen already is the number of a state.
-pub trait ReceivesStates {
-    type Receive;
-
-    fn receive(&self, seen: u64) -> Result<Self::Receive, Fault>;
-
-    fn try_receive(&self, seen: u64) -> Result<Option<(StateId, u64)>, Fault>;
-}
-
-impl<G: GivesValue<u64>, R: Wait + Drop> SendsAtOnce for OneValueSender<u64, G, R> {
-    fn send(&self, value: u64) -> Result<(), ChannelSendError<u64>> {
-        OneValueSender::send(self, value)
-    }
-}
-
-impl<R: Wait + Drop> SendsAtOnce for StateSender<u64, R> {
-    fn send(&self, value: u64) -> Result<(), ChannelSendError<u64>> {
-        StateSender::send(self, value)
-    }
-}
-
-impl<G: GivesValue<u64>, R: Wait + Drop> ReceivesOne for OneValueReceiver<u64, G, R> {
-    type Receive = Receiving<G, R>;
-
-    fn receive(&self) -> Result<Receiving<G, R>, Fault> {
-        OneValueReceiver::receive(self)
-    }
-}
-
-impl<R: Wait + Drop> ReceivesStates for StateReceiver<u64, R> {
-    type Receive = StateReceiveFuture<u64, R>;
-
-    fn receive(&self, seen: u64) -> Result<StateReceiveFuture<u64, R>, Fault> {
-        StateReceiver::receive(self, StateId::from_value(seen))
-    }
-
-    fn try_receive(&self, seen: u64) -> Result<Option<(StateId, u64)>, Fault> {
-        StateReceiver::try_receive(self, StateId::from_value(seen))
-    }
-}
+use tests_ends_calls::{ReceivesOne, ReceivesStates, SendsAtOnce};
 
 /// Both ends, with the receives.
 #[derive(Drop)]
@@ -94,10 +38,14 @@ impl<S: Drop, E: Drop, F: Drop> OpenedEnds<S, E, F> {
 impl<R, S, E, F> Opened<R, OneshotCall<u64, u64>> for OpenedEnds<S, E, F>
 where
     R: Wait,
-    S: SendsAtOnce + Drop,
-    E: ReceivesOne<Receive = F> + Drop,
+    S: SendsAtOnce<u64>,
+    E: ReceivesOne<u64, Receive = F>,
     F: Pollable + Future<Output = Result<Option<u64>, Fault>>,
 {
+    fn lacks(&self, call: &OneshotCall<u64, u64>) -> bool {
+        matches!(call, OneshotCall::Close)
+    }
+
     fn apply(&mut self, rt: &R, tasks: &mut Tasks, call: OneshotCall<u64, u64>) -> Seen {
         match call {
             OneshotCall::Receive => self.receives.keep(self.receiver.receive()),
@@ -115,10 +63,14 @@ where
 impl<R, S, E, F> Opened<R, StateCall<u64, u64>> for OpenedEnds<S, E, F>
 where
     R: Wait,
-    S: SendsAtOnce + Drop,
-    E: ReceivesStates<Receive = F> + Drop,
+    S: SendsAtOnce<u64>,
+    E: ReceivesStates<u64, Receive = F>,
     F: Pollable + Future<Output = Result<Option<(StateId, u64)>, Fault>>,
 {
+    fn lacks(&self, call: &StateCall<u64, u64>) -> bool {
+        matches!(call, StateCall::Close)
+    }
+
     fn apply(&mut self, rt: &R, tasks: &mut Tasks, call: StateCall<u64, u64>) -> Seen {
         match call {
             StateCall::Receive(_) => self.receives.keep(self.receiver.receive(asked(call))),
@@ -142,8 +94,8 @@ fn play_one_value<R, S, E, P>(
 ) -> Played
 where
     R: Wait + AllocGlobal,
-    S: SendsAtOnce + Drop,
-    E: ReceivesOne + Drop,
+    S: SendsAtOnce<u64>,
+    E: ReceivesOne<u64>,
     E::Receive: Pollable + Future<Output = Result<Option<u64>, Fault>>,
     P: Play<R, OneshotCall<u64, u64>>,
 {
@@ -164,8 +116,8 @@ fn play_states<R, S, E, P>(
 ) -> Played
 where
     R: Wait + AllocGlobal,
-    S: SendsAtOnce + Drop,
-    E: ReceivesStates + Drop,
+    S: SendsAtOnce<u64>,
+    E: ReceivesStates<u64>,
     E::Receive: Pollable + Future<Output = Result<Option<(StateId, u64)>, Fault>>,
     P: Play<R, StateCall<u64, u64>>,
 {
@@ -178,6 +130,12 @@ where
 
 #[derive(Drop)]
 pub struct OneshotEnds;
+
+impl OfOpening<()> for OneshotEnds {
+    fn of_opening(_opening: ()) -> Self {
+        OneshotEnds
+    }
+}
 
 impl<R: Wait + Copy + Drop + AllocGlobal> Flavour<R> for OneshotEnds {
     type Call = OneshotCall<u64, u64>;
@@ -198,6 +156,12 @@ impl<R: Wait + Copy + Drop + AllocGlobal> Flavour<R> for OneshotEnds {
 #[derive(Drop)]
 pub struct BroadcastEnds;
 
+impl OfOpening<()> for BroadcastEnds {
+    fn of_opening(_opening: ()) -> Self {
+        BroadcastEnds
+    }
+}
+
 impl<R: Wait + Copy + Drop + AllocGlobal> Flavour<R> for BroadcastEnds {
     type Call = OneshotCall<u64, u64>;
 
@@ -216,6 +180,12 @@ impl<R: Wait + Copy + Drop + AllocGlobal> Flavour<R> for BroadcastEnds {
 
 #[derive(Drop)]
 pub struct StateEnds;
+
+impl OfOpening<()> for StateEnds {
+    fn of_opening(_opening: ()) -> Self {
+        StateEnds
+    }
+}
 
 impl<R: Wait + Copy + Drop + AllocGlobal> Flavour<R> for StateEnds {
     type Call = StateCall<u64, u64>;

@@ -2,20 +2,4 @@
 #![tactic(auto)]
 
 #[cfg(test)]
-mod channel;
-#[cfg(test)]
-mod event;
-#[cfg(test)]
-mod mutex;
-#[cfg(test)]
-mod one_value;
-#[cfg(test)]
-mod plays;
-#[cfg(test)]
-mod semaphore;
-#[cfg(test)]
-mod state;
-#[cfg(test)]
-mod streams;
-#[cfg(test)]
-mod timer;
+mod rows;

@@ -13,7 +13,7 @@ fn refusals<B: RingBuf<Item = u64>>(alloc: Global, hoard: &mut Hoard, capacity: 
         let made = B::with_capacity(alloc, capacity);
         hoard.let_go();
         if !is_used_up {
-            return Tried::HasNoEnd;
+            return Tried::unused(hoard, refusals);
         }
         match made {
             Ok(buffer) if buffer.is_empty() => return Tried::Refused(refusals),

@@ -59,7 +59,10 @@ fn each_growth_is_refused_to_a_send_at_once(rt: HostRuntime) -> Result<(), Fail>
         let is_right = are_accepted(&mut channel, from, room, last);
         hoard.let_go();
         let is_sent = !is_used_up || channel.apply(ChannelCall::TrySend(room)) == Answer::Done;
-        assert!(rt; is_right && is_sent, "room for {room}");
+        assert!(rt;
+            is_right && is_sent && is_used_up == hoard.has_end(),
+            "room for {room}"
+        );
         from = room.wrapping_add(1);
     }
     hoard.leave(0);
@@ -142,7 +145,7 @@ fn refused_poll(
     } else {
         answer == Answer::Done && are_cancelled(channel, sends.as_slice())
     };
-    Ok(are_sent && is_right)
+    Ok(are_sent && is_right && is_used_up == hoard.has_end())
 }
 
 fn sends_by_polls(rt: &impl Abort, alloc: Global, is_cancelled: bool) -> Result<(), Fail> {

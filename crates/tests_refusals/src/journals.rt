@@ -65,7 +65,7 @@ fn runs_are_refused(rt: HostRuntime) -> Result<(), Fail> {
         match run_once(rt.alloc(), &mut hoard, STEP * step)? {
             Try::Refused => refusals = refusals.wrapping_add(1),
             Try::Answered => tried = Tried::Refused(refusals),
-            Try::HasNoEnd => tried = Tried::HasNoEnd,
+            Try::HasNoEnd => tried = Tried::unused(&hoard, refusals),
             Try::Differs => tried = Tried::Differs(refusals),
         }
         if tried != Tried::Differs(0) {
@@ -82,9 +82,9 @@ fn records_are_refused(rt: HostRuntime) -> Result<(), Fail> {
     let mut hoard = Hoard::new(rt.alloc())?;
     let mut journal: Journal<EventState<u64>> = Journal::new(rt.alloc(), false)?;
     let (mut refusals, mut made) = (0u64, 0usize);
-    let mut has_an_end = true;
+    let mut is_used_up = true;
     for step in 0..STEPS {
-        has_an_end = hoard.leave(STEP * step) && has_an_end;
+        is_used_up = hoard.leave(STEP * step) && is_used_up;
         let receipt = journal.record(3, EventCall::Wait);
         hoard.let_go();
         match receipt {
@@ -101,7 +101,8 @@ fn records_are_refused(rt: HostRuntime) -> Result<(), Fail> {
             }
         }
     }
-    assert!(rt; refusals > 0 || !has_an_end, "no record was refused");
+    let is_right = is_used_up == hoard.has_end() && (refusals > 0 || !hoard.has_end());
+    assert!(rt; is_right, "{refusals} records were refused");
     let settled = journal.settle();
     assert_eq!(rt; settled.history.len(), made);
     Ok(())
@@ -126,7 +127,7 @@ fn calls_at_a_desk<R: Wait + Copy + AllocGlobal, L: Ledger>(
         let receipt = desk.call(&mut seat, EventCall::Wait);
         hoard.let_go();
         if !is_used_up {
-            return Ok(Tried::HasNoEnd);
+            return Ok(Tried::unused(hoard, refusals));
         }
         match receipt {
             Ok(receipt) => {

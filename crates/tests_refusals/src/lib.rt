@@ -22,4 +22,6 @@ mod locks;
 #[cfg(test)]
 mod polls;
 #[cfg(test)]
+mod pool;
+#[cfg(test)]
 mod values;

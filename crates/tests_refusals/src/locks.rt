@@ -41,6 +41,7 @@ fn shared_semaphores(rt: HostRuntime) -> Result<(), Fail> {
         let made = refuse_making::<HostRuntime, Brand>(rt, Blank::new(u64::MAX));
         hoard.let_go();
         if !is_used_up {
+            assert!(rt; !hoard.has_end());
             return Ok(());
         }
         assert!(rt; made.is_some());

@@ -3,21 +3,25 @@ use fi_channels::{EventState, OneshotBroadcastState, OneshotState, StateBroadcas
 use fi_locks::{MutexState, SemaphoreState, TimerState};
 use fi_parts::buffer::{ArrayBuf, FixedHeapBuf, GrowingHeapBuf, RingBuf};
 use fi_parts::{Slot, StateId};
-use fi_run::{EventCall, MutexCall, SemaphoreCall, StateCall, TimerCall};
+use fi_run::{
+    Answer, EventCall, MutexCall, OneshotCall, Primitive, SemaphoreCall, StateCall, TimerCall,
+};
 use std::alloc::AllocGlobal;
 use std::random::RandomSource;
 use std::sync::Wait;
 use std::test::Fail;
 use std::time::Duration;
+use tests_driver::Flavour;
 use tests_driver::channel::ChannelOver;
 use tests_driver::event::Event;
-use tests_driver::mutex::MutexOfSeven;
+use tests_driver::mutex::MutexOf;
 use tests_driver::one_value::{BROADCAST, ONESHOT};
 use tests_driver::refusals::cases::{
-    Case, FIFTH, GROWS, MAKINGS, REFUSED, receive_of_one_value, tries_on_channel,
+    Case, FIFTH, GROWS, MAKINGS, REFUSED, receive_of_one_value, receive_of_open_one_value,
+    tries_on_channel,
 };
 use tests_driver::refusals::hoard::Hoard;
-use tests_driver::refusals::played::{tries_on, tries_on_both};
+use tests_driver::refusals::played::tries_on_both;
 use tests_driver::refusals::scene::{Plain, Tried};
 use tests_driver::semaphore::{ByOwners, ByReference, Opening};
 use tests_driver::state::StateBroadcast;
@@ -25,13 +29,43 @@ use tests_driver::timer::Timer;
 
 const A: Slot = Slot(0);
 
-fn making_of_event<R>(rt: &R, hoard: &mut Hoard) -> Tried
+/// What leads to a making, the making, and what comes after it.
+type Making<'a, C> = (&'a [C], C, &'a [C]);
+
+// What tries of these makings come to, on the plain state and on a type.
+fn tries_of_makings<R, P, F>(
+    rt: &R,
+    hoard: &mut Hoard,
+    flavour: &F,
+    opening: P::Opening,
+    makings: &[Making<P::Call>],
+) -> Tried
 where
-    R: Wait + Copy + Drop + RandomSource + AllocGlobal,
+    R: Wait + RandomSource + AllocGlobal,
+    P: Primitive<Answer = Answer<u64, u64>> + Drop,
+    P::Opening: Copy,
+    P::Call: Copy,
+    F: Flavour<R, Call = P::Call>,
 {
-    let scene: Plain<EventState<u64>> = Plain {
-        opening: false,
-        before: &[
+    let mut tried = Tried::Refused(1);
+    for making in makings {
+        let (before, call, after) = *making;
+        let scene: Plain<P> = Plain {
+            opening,
+            before,
+            call,
+            refusal: REFUSED,
+            after,
+        };
+        tried = tried.and(tries_on_both(rt, hoard, flavour, &scene));
+    }
+    tried
+}
+
+// Once the event was set and reset, and while it never was.
+const EVENT: [Making<'static, EventCall<u64>>; 2] = [
+    (
+        &[
             EventCall::Wait,
             EventCall::Wait,
             EventCall::Wait,
@@ -40,29 +74,68 @@ where
             EventCall::Set,
             EventCall::Reset,
         ],
-        call: EventCall::Wait,
-        refusal: REFUSED,
-        after: &[
+        EventCall::Wait,
+        &[
             EventCall::Poll(FIFTH, 2),
             EventCall::Poll(A, 3),
             EventCall::Set,
         ],
-    };
-    tries_on_both(rt, hoard, &Event { is_set: false }, &scene)
+    ),
+    (
+        &[
+            EventCall::Wait,
+            EventCall::Wait,
+            EventCall::Wait,
+            EventCall::Wait,
+            EventCall::Poll(A, 1),
+        ],
+        EventCall::Wait,
+        &[
+            EventCall::IsSet,
+            EventCall::Poll(FIFTH, 2),
+            EventCall::Set,
+            EventCall::Poll(A, 3),
+            EventCall::Poll(FIFTH, 4),
+        ],
+    ),
+];
+
+#[test]
+fn makings_of_an_event(rt: HostRuntime) -> Result<(), Fail> {
+    let mut hoard = Hoard::new(rt.alloc())?;
+    let event = &Event { is_set: false };
+    let tried = tries_of_makings::<_, EventState<u64>, _>(&rt, &mut hoard, event, false, &EVENT);
+    assert!(rt; tried.is_right(1), "{tried:?}");
+    Ok(())
 }
 
-// Of each channel of one value.
-fn making_of_one_value<R>(rt: &R, hoard: &mut Hoard) -> Tried
+// Of a channel of one value, once the value was sent, and while none was.
+fn receives_of_one_value<R, P, F>(rt: &R, hoard: &mut Hoard, flavour: &F) -> Tried
 where
-    R: Wait + Copy + RandomSource + AllocGlobal,
+    R: Wait + RandomSource + AllocGlobal,
+    P: Primitive<Opening = (), Call = OneshotCall<u64, u64>, Answer = Answer<u64, u64>> + Drop,
+    F: Flavour<R, Call = OneshotCall<u64, u64>>,
 {
-    let oneshot: Plain<OneshotState<u64, u64>> = receive_of_one_value();
-    let broadcast: Plain<OneshotBroadcastState<u64, u64>> = receive_of_one_value();
-    let tried = tries_on_both(rt, hoard, &ONESHOT, &oneshot);
-    tried.and(tries_on_both(rt, hoard, &BROADCAST, &broadcast))
+    let sent: Plain<P> = receive_of_one_value();
+    let open: Plain<P> = receive_of_open_one_value();
+    let tried = tries_on_both(rt, hoard, flavour, &sent);
+    tried.and(tries_on_both(rt, hoard, flavour, &open))
 }
 
-fn making_of_state_broadcast<R>(rt: &R, hoard: &mut Hoard) -> Tried
+#[test]
+fn makings_of_channels_of_one_value(rt: HostRuntime) -> Result<(), Fail> {
+    let mut hoard = Hoard::new(rt.alloc())?;
+    let oneshot = receives_of_one_value::<_, OneshotState<u64, u64>, _>(&rt, &mut hoard, &ONESHOT);
+    let broadcast = receives_of_one_value::<_, OneshotBroadcastState<u64, u64>, _>(
+        &rt, &mut hoard, &BROADCAST,
+    );
+    let tried = oneshot.and(broadcast);
+    assert!(rt; tried.is_right(1), "{tried:?}");
+    Ok(())
+}
+
+// Once a state was sent.
+fn receive_of_sent_state<R>(rt: &R, hoard: &mut Hoard) -> Tried
 where
     R: Wait + Copy + Drop + RandomSource + AllocGlobal,
 {
@@ -82,18 +155,51 @@ where
             StateCall::Poll(FIFTH, 2),
             StateCall::Poll(A, 3),
             StateCall::Send(6),
+            StateCall::Poll(FIFTH, 4),
         ],
     };
     tries_on_both(rt, hoard, &StateBroadcast, &scene)
 }
 
-fn making_of_mutex<R>(rt: &R, hoard: &mut Hoard) -> Tried
+// While no state was sent.
+fn receive_of_open_state<R>(rt: &R, hoard: &mut Hoard) -> Tried
 where
     R: Wait + Copy + Drop + RandomSource + AllocGlobal,
 {
-    let scene: Plain<MutexState<u64, u64>> = Plain {
-        opening: (7, true),
+    let scene: Plain<StateBroadcastState<u64, u64>> = Plain {
+        opening: (),
         before: &[
+            StateCall::Receive(StateId::new()),
+            StateCall::Receive(StateId::new()),
+            StateCall::Receive(StateId::new()),
+            StateCall::Receive(StateId::new()),
+            StateCall::Poll(A, 1),
+        ],
+        call: StateCall::Receive(StateId::new()),
+        refusal: REFUSED,
+        after: &[
+            StateCall::Poll(FIFTH, 2),
+            StateCall::Send(6),
+            StateCall::Poll(A, 3),
+            StateCall::Poll(FIFTH, 4),
+        ],
+    };
+    tries_on_both(rt, hoard, &StateBroadcast, &scene)
+}
+
+#[test]
+fn makings_of_a_state_broadcast(rt: HostRuntime) -> Result<(), Fail> {
+    let mut hoard = Hoard::new(rt.alloc())?;
+    let sent = receive_of_sent_state(&rt, &mut hoard);
+    let tried = sent.and(receive_of_open_state(&rt, &mut hoard));
+    assert!(rt; tried.is_right(1), "{tried:?}");
+    Ok(())
+}
+
+// Once the mutex was unlocked, and while it is locked.
+const LOCKS: [Making<'static, MutexCall<u64, u64>>; 2] = [
+    (
+        &[
             MutexCall::TryLock,
             MutexCall::Lock,
             MutexCall::Lock,
@@ -102,15 +208,47 @@ where
             MutexCall::Poll(A, 1),
             MutexCall::Unlock(8),
         ],
-        call: MutexCall::Lock,
-        refusal: REFUSED,
-        after: &[
+        MutexCall::Lock,
+        &[
             MutexCall::Poll(FIFTH, 2),
             MutexCall::Poll(A, 3),
             MutexCall::Unlock(9),
         ],
+    ),
+    (
+        &[
+            MutexCall::TryLock,
+            MutexCall::Lock,
+            MutexCall::Lock,
+            MutexCall::Lock,
+            MutexCall::Lock,
+            MutexCall::Poll(A, 1),
+        ],
+        MutexCall::Lock,
+        &[
+            MutexCall::IsLocked,
+            MutexCall::Poll(FIFTH, 2),
+            MutexCall::Unlock(8),
+            MutexCall::Poll(A, 3),
+            MutexCall::Unlock(9),
+            MutexCall::Poll(FIFTH, 4),
+        ],
+    ),
+];
+
+#[test]
+fn makings_of_a_mutex(rt: HostRuntime) -> Result<(), Fail> {
+    let mut hoard = Hoard::new(rt.alloc())?;
+    let fair = &MutexOf {
+        value: 7,
+        is_fair: true,
     };
-    tries_on_both(rt, hoard, &MutexOfSeven { is_fair: true }, &scene)
+    let opening = (7, true);
+    let tried = tries_of_makings::<_, MutexState<u64, u64>, _>(
+        &rt, &mut hoard, fair, opening, &LOCKS,
+    );
+    assert!(rt; tried.is_right(1), "{tried:?}");
+    Ok(())
 }
 
 const UNFAIR: Opening = Opening {
@@ -118,13 +256,10 @@ const UNFAIR: Opening = Opening {
     permits: 0,
 };
 
-fn making_of_semaphore<R>(rt: &R, hoard: &mut Hoard) -> Tried
-where
-    R: Wait + Copy + Drop + RandomSource + AllocGlobal,
-{
-    let scene: Plain<SemaphoreState<u64>> = Plain {
-        opening: (0, false),
-        before: &[
+// Once permits were released, and while none were.
+const ACQUIRES: [Making<'static, SemaphoreCall<u64>>; 2] = [
+    (
+        &[
             SemaphoreCall::Acquire(2),
             SemaphoreCall::Acquire(2),
             SemaphoreCall::Acquire(2),
@@ -132,58 +267,108 @@ where
             SemaphoreCall::Poll(A, 1),
             SemaphoreCall::Release(3),
         ],
-        call: SemaphoreCall::Acquire(2),
-        refusal: REFUSED,
-        after: &[
+        SemaphoreCall::Acquire(2),
+        &[
             SemaphoreCall::Poll(FIFTH, 2),
             SemaphoreCall::Poll(A, 3),
             SemaphoreCall::Permits,
         ],
-    };
-    let by_reference = tries_on_both(rt, hoard, &ByReference(UNFAIR), &scene);
-    by_reference.and(tries_on(rt, hoard, &ByOwners(UNFAIR), &scene))
-}
+    ),
+    (
+        &[
+            SemaphoreCall::Acquire(2),
+            SemaphoreCall::Acquire(2),
+            SemaphoreCall::Acquire(2),
+            SemaphoreCall::Acquire(2),
+            SemaphoreCall::Poll(A, 1),
+        ],
+        SemaphoreCall::Acquire(2),
+        &[
+            SemaphoreCall::Permits,
+            SemaphoreCall::Poll(FIFTH, 2),
+            SemaphoreCall::Release(2),
+            SemaphoreCall::Poll(A, 3),
+            SemaphoreCall::Permits,
+        ],
+    ),
+];
 
-fn making_of_timer<R>(rt: &R, hoard: &mut Hoard) -> Tried
+// Of a semaphore of this kind.
+fn acquires<R, F>(rt: &R, hoard: &mut Hoard, flavour: &F) -> Tried
 where
-    R: Wait + Copy + Drop + RandomSource + AllocGlobal,
+    R: Wait + RandomSource + AllocGlobal,
+    F: Flavour<R, Call = SemaphoreCall<u64>>,
 {
-    let scene: Plain<TimerState<u64>> = Plain {
-        opening: (),
-        before: &[
-            TimerCall::Deadline(3),
-            TimerCall::Deadline(3),
-            TimerCall::Deadline(3),
-            TimerCall::Deadline(3),
-            TimerCall::Poll(A, 1, 1),
-            TimerCall::Check(4),
-        ],
-        call: TimerCall::Delay(4, Duration::from_millis(2)),
-        refusal: REFUSED,
-        after: &[
-            TimerCall::Poll(FIFTH, 5, 2),
-            TimerCall::Next,
-            TimerCall::Poll(A, 5, 3),
-        ],
-    };
-    tries_on_both(rt, hoard, &Timer, &scene)
+    let opening = (0, false);
+    tries_of_makings::<R, SemaphoreState<u64>, F>(rt, hoard, flavour, opening, &ACQUIRES)
 }
 
 #[test]
-fn makings(rt: HostRuntime) -> Result<(), Fail> {
+fn makings_of_semaphores(rt: HostRuntime) -> Result<(), Fail> {
     let mut hoard = Hoard::new(rt.alloc())?;
-    let event = making_of_event(&rt, &mut hoard);
-    let one_value = making_of_one_value(&rt, &mut hoard);
-    let state = making_of_state_broadcast(&rt, &mut hoard);
-    let mutex = making_of_mutex(&rt, &mut hoard);
-    let semaphore = making_of_semaphore(&rt, &mut hoard);
-    let timer = making_of_timer(&rt, &mut hoard);
-    let tried = event
-        .and(one_value)
-        .and(state)
-        .and(mutex)
-        .and(semaphore)
-        .and(timer);
+    let by_reference = acquires(&rt, &mut hoard, &ByReference(UNFAIR));
+    let by_owners = acquires(&rt, &mut hoard, &ByOwners(UNFAIR));
+    let tried = by_reference.and(by_owners);
+    assert!(rt; tried.is_right(1), "{tried:?}");
+    Ok(())
+}
+
+// Four waits, of which the first is polled by its task before its moment.
+const FOUR_WAITS: [TimerCall<u64>; 5] = [
+    TimerCall::Deadline(3),
+    TimerCall::Deadline(9),
+    TimerCall::Deadline(3),
+    TimerCall::Deadline(3),
+    TimerCall::Poll(A, 1, 1),
+];
+
+const AFTER: [TimerCall<u64>; 5] = [
+    TimerCall::Poll(FIFTH, 5, 2),
+    TimerCall::Next,
+    TimerCall::Check(6),
+    TimerCall::Poll(A, 6, 3),
+    TimerCall::Poll(FIFTH, 6, 2),
+];
+
+// The moment of the first wait has come, and no check was made: the making makes none.
+const PAST_ITS_MOMENT: [TimerCall<u64>; 6] = [
+    TimerCall::Deadline(3),
+    TimerCall::Deadline(9),
+    TimerCall::Deadline(3),
+    TimerCall::Deadline(3),
+    TimerCall::Poll(A, 1, 1),
+    TimerCall::Poll(Slot(1), 4, 2),
+];
+
+const CHECKED: [TimerCall<u64>; 6] = [
+    TimerCall::Deadline(3),
+    TimerCall::Deadline(9),
+    TimerCall::Deadline(3),
+    TimerCall::Deadline(3),
+    TimerCall::Poll(A, 1, 1),
+    TimerCall::Check(4),
+];
+
+fn waits_by_timer<R>(rt: &R, hoard: &mut Hoard) -> Tried
+where
+    R: Wait + Copy + Drop + RandomSource + AllocGlobal,
+{
+    let delay = TimerCall::Delay(4, Duration::from_millis(2));
+    let deadline = TimerCall::Deadline(6);
+    let makings: [Making<TimerCall<u64>>; 5] = [
+        (&CHECKED, delay, &AFTER),
+        (&CHECKED, deadline, &AFTER),
+        (&PAST_ITS_MOMENT, delay, &AFTER),
+        (&PAST_ITS_MOMENT, deadline, &AFTER),
+        (&FOUR_WAITS, deadline, &AFTER),
+    ];
+    tries_of_makings::<R, TimerState<u64>, _>(rt, hoard, &Timer, (), &makings)
+}
+
+#[test]
+fn makings_of_a_timer(rt: HostRuntime) -> Result<(), Fail> {
+    let mut hoard = Hoard::new(rt.alloc())?;
+    let tried = waits_by_timer(&rt, &mut hoard);
     assert!(rt; tried.is_right(1), "{tried:?}");
     Ok(())
 }

@@ -1,14 +1,13 @@
 //! Readers and writers that fail, and how a fault is reported.
 
-use crate::channel::RENDEZVOUS;
-use crate::rows::{answer, answers_of, script_of};
-use crate::timer::EXPIRATIONS;
+use crate::rows::answer;
 use fi_scripts::{ScriptFault, report, run_script};
 use std::alloc::{AllocError, Global};
 use std::io;
 use std::io::{ErrorKind, Read, Write};
 use std::process::Abort;
 use std::test::Fail;
+use tests_rows::{answers_of, channel, script_of, text_of, timer};
 
 /// Gives at most `most` bytes a read, and fails after `reads` reads.
 #[derive(Drop)]
@@ -76,13 +75,11 @@ const SCRIPT: &[u8] = b"event reset\nwait w\npoll w 7\nset\npoll w 8\nis-set\n";
 const ANSWERS: &[u8] = b"made\npending\nok wakes 7\nready\ntrue\n";
 
 // The rows on which each read and each write fails.
-fn rows(alloc: Global) -> Result<Vec<String>, AllocError> {
-    let mut rendezvous = String::from_str(alloc, "channel array 0\n")?;
-    rendezvous.push_str(RENDEZVOUS)?;
-    let mut rows = Vec::new(alloc);
-    rows.push(rendezvous)?;
-    rows.push(String::from_str(alloc, EXPIRATIONS)?)?;
-    Ok(rows)
+fn rows() -> [&'static str; 2] {
+    [
+        text_of(&channel::ROWS, "channel_rendezvous"),
+        text_of(&timer::ROWS, "timer_expirations"),
+    ]
 }
 
 #[test]
@@ -126,9 +123,9 @@ fn check_reads(rt: &impl Abort, alloc: Global, script: &[u8], answers: &[u8]) {
 #[test]
 fn each_read_fails(rt: HostRuntime) -> Result<(), Fail> {
     check_reads(&rt, rt.alloc(), SCRIPT, ANSWERS);
-    for row in rows(rt.alloc())? {
-        let script = script_of(rt.alloc(), row.as_str())?;
-        let answers = answers_of(rt.alloc(), row.as_str())?;
+    for row in rows() {
+        let script = script_of(rt.alloc(), row)?;
+        let answers = answers_of(rt.alloc(), row)?;
         check_reads(&rt, rt.alloc(), script.as_bytes(), answers.as_bytes());
     }
     Ok(())
@@ -184,9 +181,9 @@ fn check_writes(rt: &impl Abort, alloc: Global, failure: Failure, script: &[u8],
 fn each_write_fails(rt: HostRuntime) -> Result<(), Fail> {
     for failure in [Failure::Interrupted, Failure::TakesNothing] {
         check_writes(&rt, rt.alloc(), failure, SCRIPT, ANSWERS);
-        for row in rows(rt.alloc())? {
-            let script = script_of(rt.alloc(), row.as_str())?;
-            let answers = answers_of(rt.alloc(), row.as_str())?;
+        for row in rows() {
+            let script = script_of(rt.alloc(), row)?;
+            let answers = answers_of(rt.alloc(), row)?;
             check_writes(
                 &rt,
                 rt.alloc(),

@@ -1,13 +1,12 @@
 //! Each request for memory is refused in turn. What was written is whole lines of the true output.
 
-use crate::channel::{CANCELLED_SEND, RENDEZVOUS};
 use crate::hoard::{Hoard, Left, REGION};
-use crate::rows::{answer, answers_of, script_of};
-use crate::timer::EXPIRATIONS;
+use crate::rows::answer;
 use fi_scripts::{COLLECTED, LINE, ScriptFault, run_script};
 use std::alloc::{AllocError, Global};
 use std::process::Abort;
 use std::test::Fail;
+use tests_rows::{answers_of, channel, over_buffer, script_of, text_of, timer};
 
 /// The room that a short script is read into.
 const SCRIPT: usize = 131_072;
@@ -136,30 +135,23 @@ fn check_refusals(rt: &impl Abort, alloc: Global, row: &str) -> Result<(), Fail>
     Ok(())
 }
 
-// The row of a channel with this opening.
-fn row_over(alloc: Global, opening: &str, lines: &str) -> Result<String, AllocError> {
-    let mut row = String::from_str(alloc, opening)?;
-    row.push_str("\n")?;
-    row.push_str(lines)?;
-    Ok(row)
-}
-
 #[test]
 fn a_rendezvous_is_refused(rt: HostRuntime) -> Result<(), Fail> {
-    let row = row_over(rt.alloc(), "channel array 0", RENDEZVOUS)?;
-    check_refusals(&rt, rt.alloc(), row.as_str())
+    let row = text_of(&channel::ROWS, "channel_rendezvous");
+    check_refusals(&rt, rt.alloc(), row)
 }
 
 #[test]
 fn a_cancelled_send_is_refused(rt: HostRuntime) -> Result<(), Fail> {
-    let row = row_over(rt.alloc(), "channel growing 1", CANCELLED_SEND)?;
+    let row = text_of(&channel::ROWS, "channel_cancelled_send");
+    let row = over_buffer(rt.alloc(), "growing", row)?;
     check_refusals(&rt, rt.alloc(), row.as_str())
 }
 
 #[test]
 fn expirations_are_refused(rt: HostRuntime) -> Result<(), Fail> {
     // The first four futures lie in one chunk of memory, so the fifth is the next that asks for more.
-    let mut row = String::from_str(rt.alloc(), EXPIRATIONS)?;
+    let mut row = String::from_str(rt.alloc(), text_of(&timer::ROWS, "timer_expirations"))?;
     row.push_str("\ndeadline d 999\ndeadline e 999")?;
     check_refusals(&rt, rt.alloc(), row.as_str())
 }

@@ -1,18 +1,23 @@
 //! Calls that block their thread until they are answered.
+ghost use Rattle.fi_sync.specs.Blanks.{IsLockBlank, IsPermitBlank};
 
 use crate::timer::Shown;
-use fi_channels::TrySendError;
-use fi_parts::{Fault, StateId};
+use crate::waited::{Counting, Limited, Moment, Receives, SendWaits, Sends, has_blocked, is_one};
+use fi_channels::{ClonesValue, GivesValue, TakesValue, TrySendError};
+use fi_parts::Fault;
+use fi_parts::buffer::{ArrayBuf, FixedHeapBuf, GrowingHeapBuf, RingBuf};
 use fi_sync::{
-    Blocking, Channel, ManualResetEvent, OneshotChannel, StateBroadcastChannel, TimerService,
-    UnbufferedChannel,
+    Blocking, Channel, GenericChannel, ManualResetEvent, Mutex, OneValueChannel, Semaphore,
+    SharedSemaphore, StateBroadcastChannel, TimerService, UnbufferedChannel,
 };
 use std::alloc::{Alloc, AllocGlobal};
+use std::marker::Brand;
 use std::random::RandomSource;
 use std::sync::Wait;
 use std::sync::atomic::{AtomicBool, AtomicU64, Ordering};
+use std::sync::ledger::{Blank, Ledger};
 use std::thread::Threads;
-use std::time::{self, Duration};
+use std::time::{Clock, Duration};
 use std::{io, thread};
 
 // Sends a one, and closes the channel.
@@ -44,56 +49,180 @@ fn sends_and_receives_block_until_they_meet(rt: HostRuntime) {
     assert!(rt; meet(rt));
 }
 
-// Whether each of them is told of what another thread does.
-fn are_told<'a, R>(
-    rt: &'a R,
-    event: &'a ManualResetEvent<R>,
-    states: &'a StateBroadcastChannel<u64, R>,
-    answer: &'a OneshotChannel<u64, R>,
-) -> bool
+// A channel over this buffer, by a runtime that counts.
+fn channel<'a, R, B: RingBuf<Item = u64>>(
+    rt: &R,
+    executors: &'a AtomicU64,
+    capacity: usize,
+) -> Option<GenericChannel<u64, B, Counting<'a, R>>>
 where
-    R: Blocking + Threads + Send + Sync,
+    R: Blocking + Copy + Drop,
 {
-    thread::scope(thread::scope_env(), rt, |scope| {
-        let _ = scope.spawn(move || {
-            event.set();
-            let _ = states.send(8);
-            let _ = answer.send(9);
-        });
-        event.wait_blocking() == Ok(())
-            && matches!(states.receive_blocking(StateId::new()), Ok(Some((_, 8))))
-            && answer.receive_blocking() == Ok(Some(9))
-    })
+    let counting = Counting::new(rt, executors);
+    GenericChannel::with_capacity(rt.alloc(), counting, capacity).ok()
+}
+
+// Whether a receive blocks. On a channel without room the send that comes then blocks too.
+fn receive_blocks<R, B: RingBuf<Item = u64> + Send + Sync>(rt: &R, capacity: usize) -> Option<bool>
+where
+    R: Blocking + Clock + Threads + Copy + Drop + Send + Sync,
+{
+    let executors = &AtomicU64::new(0);
+    let channel = channel::<R, B>(rt, executors, capacity)?;
+    let count = if capacity == 0 { 2 } else { 1 };
+    Some(has_blocked(rt, Receives(&channel)) && executors.load(Ordering::SeqCst) == count)
+}
+
+// Whether a send blocks.
+fn send_blocks<R, B: RingBuf<Item = u64> + Send + Sync>(rt: &R, capacity: usize) -> Option<bool>
+where
+    R: Blocking + Clock + Threads + Copy + Drop + Send + Sync,
+{
+    let executors = &AtomicU64::new(0);
+    let channel = channel::<R, B>(rt, executors, capacity)?;
+    Some(has_blocked(rt, Sends(&channel)) && is_one(executors))
 }
 
 #[test]
-fn waits_block_until_they_are_told(rt: HostRuntime) {
-    let event = ManualResetEvent::new(rt.alloc(), rt, false);
-    let states = StateBroadcastChannel::new(rt.alloc(), rt);
-    let answer = OneshotChannel::new(rt.alloc(), rt);
-    assert!(rt; are_told(&rt, &event, &states, &answer));
+fn receives_block(rt: HostRuntime) {
+    assert!(rt; receive_blocks::<_, ArrayBuf<u64, 0>>(&rt, 0) == Some(true));
+    assert!(rt; receive_blocks::<_, ArrayBuf<u64, 1>>(&rt, 1) == Some(true));
+    assert!(rt; receive_blocks::<_, FixedHeapBuf<u64>>(&rt, 1) == Some(true));
+    assert!(rt; receive_blocks::<_, GrowingHeapBuf<u64>>(&rt, 1) == Some(true));
 }
 
-// Whether a wait is over only once the event was set, some time after the wait began.
-fn waits_until_set<'a, R>(rt: &'a R, event: &'a ManualResetEvent<R>) -> bool
+#[test]
+fn sends_block(rt: HostRuntime) {
+    assert!(rt; send_blocks::<_, ArrayBuf<u64, 0>>(&rt, 0) == Some(true));
+    assert!(rt; send_blocks::<_, ArrayBuf<u64, 1>>(&rt, 1) == Some(true));
+    assert!(rt; send_blocks::<_, FixedHeapBuf<u64>>(&rt, 1) == Some(true));
+    assert!(rt; send_blocks::<_, GrowingHeapBuf<u64>>(&rt, 1) == Some(true));
+}
+
+// Whether a send that waits by itself blocks.
+fn send_waits<R>(rt: &R) -> Option<bool>
 where
-    R: Blocking + Threads + time::Clock + Send + Sync,
+    R: Blocking + Clock + Threads + Copy + Drop + Send + Sync,
 {
-    let is_set = &AtomicBool::new(false);
-    thread::scope(thread::scope_env(), rt, |scope| {
-        let _ = scope.spawn(move || {
-            thread::sleep(rt, Duration::from_millis(20));
-            is_set.store(true, Ordering::SeqCst);
-            event.set();
-        });
-        event.wait_blocking() == Ok(()) && is_set.load(Ordering::SeqCst)
-    })
+    let executors = &AtomicU64::new(0);
+    let counting = &Counting::new(rt, executors);
+    let channel = channel::<R, ArrayBuf<u64, 1>>(rt, executors, 1)?;
+    Some(has_blocked(rt, SendWaits(&channel, counting)) && is_one(executors))
+}
+
+#[test]
+fn a_send_that_waits_blocks(rt: HostRuntime) {
+    assert!(rt; send_waits(&rt) == Some(true));
+}
+
+// Whether a receive of a channel of one value blocks.
+fn receive_one_blocks<R, G: GivesValue<u64> + Send + Sync>(rt: &R) -> bool
+where
+    R: Blocking + Clock + Threads + Copy + Send + Sync,
+{
+    let executors = &AtomicU64::new(0);
+    let channel = OneValueChannel::<u64, G, _>::new(rt.alloc(), Counting::new(rt, executors));
+    has_blocked(rt, &channel) && is_one(executors)
+}
+
+#[test]
+fn receives_of_one_value_block(rt: HostRuntime) {
+    assert!(rt; receive_one_blocks::<_, TakesValue>(&rt));
+    assert!(rt; receive_one_blocks::<_, ClonesValue>(&rt));
+}
+
+#[test]
+fn a_receive_of_a_state_blocks(rt: HostRuntime) {
+    let executors = &AtomicU64::new(0);
+    let states = StateBroadcastChannel::<u64, _>::new(rt.alloc(), Counting::new(&rt, executors));
+    assert!(rt; has_blocked(&rt, &states) && is_one(executors));
 }
 
 #[test]
 fn a_wait_blocks_until_the_event_is_set(rt: HostRuntime) {
-    let event = ManualResetEvent::new(rt.alloc(), rt, false);
-    assert!(rt; waits_until_set(&rt, &event));
+    let executors = &AtomicU64::new(0);
+    let event = ManualResetEvent::new(rt.alloc(), Counting::new(&rt, executors), false);
+    assert!(rt; has_blocked(&rt, &event) && is_one(executors));
+}
+
+// Whether waits for a moment, and for an event with a limit that is far off, block.
+fn timer_blocks<R>(rt: &R) -> bool
+where
+    R: Blocking + Clock + Threads + Copy + Send + Sync,
+{
+    let time = &AtomicU64::new(0);
+    let executors = &AtomicU64::new(0);
+    let counting = Counting::new(rt, executors);
+    let timer = &TimerService::new(rt.alloc(), counting, Shown { time });
+    let event = &ManualResetEvent::new(rt.alloc(), counting, false);
+    if !has_blocked(rt, Limited { timer, event }) || !is_one(executors) {
+        return false;
+    }
+    let moment = Moment {
+        rt: &counting,
+        time,
+        timer,
+    };
+    has_blocked(rt, moment) && executors.load(Ordering::SeqCst) == 2
+}
+
+#[test]
+fn waits_by_a_timer_block(rt: HostRuntime) {
+    assert!(rt; timer_blocks(&rt));
+}
+
+fn lock_blocks<R, L: Ledger + Send + Sync>(rt: &R, blank: Blank, is_fair: bool) -> bool
+where
+    R: Blocking + Clock + Threads + Copy + Send + Sync,
+    requires blank { IsLockBlank L.Ledger blank }
+{
+    let executors = &AtomicU64::new(0);
+    let counting = Counting::new(rt, executors);
+    let mutex = Mutex::<u64, _, L>::new(rt.alloc(), counting, blank, 7, is_fair);
+    has_blocked(rt, &mutex) && is_one(executors)
+}
+
+#[test]
+fn locks_block(rt: HostRuntime) {
+    assert!(rt; lock_blocks::<HostRuntime, Brand>(&rt, Blank::new(1), true));
+    assert!(rt; lock_blocks::<HostRuntime, Brand>(&rt, Blank::new(1), false));
+}
+
+fn acquire_blocks<R, L: Ledger + Send + Sync>(rt: &R, blank: Blank, is_fair: bool) -> bool
+where
+    R: Blocking + Clock + Threads + Copy + Send + Sync,
+    requires blank { IsPermitBlank L.Ledger blank }
+{
+    let executors = &AtomicU64::new(0);
+    let counting = Counting::new(rt, executors);
+    let semaphore = Semaphore::<_, L>::new(rt.alloc(), counting, blank, is_fair, 2);
+    has_blocked(rt, &semaphore) && is_one(executors)
+}
+
+fn shared_blocks<R, L: Ledger + Send + Sync>(rt: &R, blank: Blank, is_fair: bool) -> Option<bool>
+where
+    R: Blocking + Clock + Threads + Copy + Drop + Send + Sync,
+    requires blank { IsPermitBlank L.Ledger blank }
+{
+    let executors = &AtomicU64::new(0);
+    let counting = Counting::new(rt, executors);
+    let made = SharedSemaphore::<_, L>::new(rt.alloc(), counting, blank, is_fair, 2);
+    let semaphore = made.ok()?;
+    Some(has_blocked(rt, &semaphore) && is_one(executors))
+}
+
+#[test]
+fn acquires_block(rt: HostRuntime) {
+    assert!(rt; acquire_blocks::<HostRuntime, Brand>(&rt, Blank::new(u64::MAX), true));
+    assert!(rt; acquire_blocks::<HostRuntime, Brand>(&rt, Blank::new(u64::MAX), false));
+}
+
+#[test]
+fn acquires_of_owners_block(rt: HostRuntime) {
+    let fair = shared_blocks::<HostRuntime, Brand>(&rt, Blank::new(u64::MAX), true);
+    assert!(rt; fair == Some(true));
+    let unfair = shared_blocks::<HostRuntime, Brand>(&rt, Blank::new(u64::MAX), false);
+    assert!(rt; unfair == Some(true));
 }
 
 // A runtime without random bytes, so that no executor can be made.

@@ -1,17 +1,11 @@
 //! The thread-safe channel of many values.
 
-use crate::threads::{sends, shares};
 use fi_channels::TrySendError;
 use fi_parts::buffer::{FixedHeapBuf, GrowingHeapBuf, RingBuf};
 use fi_sync::{Channel, GenericChannel};
-use futures::executor::block_on;
 use futures::test::MockTask;
 use std::alloc::AllocGlobal;
-use std::process::Abort;
-use std::random::RandomSource;
 use std::sync::Wait;
-use std::thread;
-use std::thread::Threads;
 
 // Whether a channel counts so many values, and says that it is full.
 fn is_filled<R: Wait, B: RingBuf<Item = u64>>(
@@ -74,39 +68,4 @@ fn a_cancelled_send_gives_its_value_back(rt: HostRuntime) {
     assert!(rt; first.cancel() == Some(2) && first.is_terminated());
     assert!(rt; channel.try_receive() == Ok(1));
     assert!(rt; second.cancel().is_none() && channel.try_receive() == Ok(3));
-}
-
-// The channel is moved, shared by reference, and its futures are moved to other threads.
-fn crosses<R>(rt: R)
-where
-    R: Wait + Threads + Abort + Copy + RandomSource + AllocGlobal + Send + Sync,
-{
-    let channel = sends(Channel::<u64, 1, R>::new(rt.alloc(), rt));
-    let channel = shares(&channel);
-    let receive = sends(channel.receive().expect(&rt, "memory"));
-    let send = sends(channel.send(7).ok().expect(&rt, "memory"));
-    let rt = &rt;
-    let (received, is_sent) = thread::join(
-        rt,
-        move || block_on(rt, receive).ok(),
-        move || matches!(block_on(rt, send), Ok(Ok(()))),
-    );
-    assert!(*rt; is_sent && received == Some(Ok(Some(7))));
-}
-
-// A stream is moved to another thread.
-fn stream_crosses<R>(rt: R)
-where
-    R: Wait + Threads + Abort + Copy + RandomSource + AllocGlobal + Send + Sync,
-{
-    let channel = Channel::<u64, 1, R>::new(rt.alloc(), rt);
-    let stream = sends(channel.stream().expect(&rt, "memory"));
-    let (is_open, ()) = thread::join(&rt, move || !stream.is_terminated(), || ());
-    assert!(rt; is_open);
-}
-
-#[test]
-fn channel_crosses_threads(rt: HostRuntime) {
-    crosses(rt);
-    stream_crosses(rt)
 }

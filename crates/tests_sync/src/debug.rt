@@ -20,54 +20,57 @@ fn shows<D: fmt::Debug>(alloc: Global, value: &D, wanted: &str) -> bool {
     }
 }
 
+fn an_event_shows<R: Wait + AllocGlobal + Copy>(rt: R) -> Option<bool> {
+    let event = ManualResetEvent::new(rt.alloc(), rt, false);
+    let wait = event.wait().ok()?;
+    let is_event = shows(rt.alloc(), &event, "ManualResetEvent");
+    Some(is_event && shows(rt.alloc(), &wait, "GenericWaitForEventFuture"))
+}
+
+fn a_timer_shows<R: Wait + AllocGlobal + Copy>(rt: R) -> Option<bool> {
+    let timer = TimerService::new(rt.alloc(), rt, MockClock::new());
+    let deadline = timer.deadline(5).ok()?;
+    let is_timer = shows(rt.alloc(), &timer, "TimerService");
+    Some(is_timer && shows(rt.alloc(), &deadline, "TimerFuture"))
+}
+
 #[test]
 fn an_event_and_a_timer_show_their_names(rt: HostRuntime) {
-    let event = ManualResetEvent::new(rt.alloc(), rt, false);
-    assert!(rt; shows(rt.alloc(), &event, "ManualResetEvent"));
-    let wait = event.wait().expect(&rt, "memory");
-    assert!(rt; shows(rt.alloc(), &wait, "GenericWaitForEventFuture"));
-    let timer = TimerService::new(rt.alloc(), rt, MockClock::new());
-    assert!(rt; shows(rt.alloc(), &timer, "TimerService"));
-    let deadline = timer.deadline(5).expect(&rt, "memory");
-    assert!(rt; shows(rt.alloc(), &deadline, "TimerFuture"));
+    assert!(rt; an_event_shows(rt) == Some(true) && a_timer_shows(rt) == Some(true));
+}
+
+fn states_show<R: Wait + AllocGlobal + Copy>(rt: R) -> Option<bool> {
+    let states = StateBroadcastChannel::<u64, R>::new(rt.alloc(), rt);
+    let receive = states.receive(StateId::new()).ok()?;
+    let is_state = shows(rt.alloc(), &states, "GenericStateBroadcastChannel");
+    Some(is_state && shows(rt.alloc(), &receive, "ChannelReceiveFuture"))
 }
 
 #[test]
 fn channels_of_one_value_show_their_names(rt: HostRuntime) {
-    let oneshot: OneshotChannel<u64, HostRuntime> = OneshotChannel::new(rt.alloc(), rt);
+    let oneshot = OneshotChannel::<u64, _>::new(rt.alloc(), rt);
     assert!(rt; shows(rt.alloc(), &oneshot, "GenericOneshotChannel"));
-    let broadcast: OneshotBroadcastChannel<u64, HostRuntime> = OneshotBroadcastChannel::new(
-        rt.alloc(),
-        rt,
-    );
+    let broadcast = OneshotBroadcastChannel::<u64, _>::new(rt.alloc(), rt);
     assert!(rt; shows(rt.alloc(), &broadcast, "GenericOneshotBroadcastChannel"));
-    let states: StateBroadcastChannel<u64, HostRuntime> = StateBroadcastChannel::new(
-        rt.alloc(),
-        rt,
-    );
-    assert!(rt; shows(rt.alloc(), &states, "GenericStateBroadcastChannel"));
-    let receive = states.receive(StateId::new()).expect(&rt, "memory");
-    assert!(rt; shows(rt.alloc(), &receive, "ChannelReceiveFuture"));
+    assert!(rt; states_show(rt) == Some(true));
+}
+
+fn a_send_shows<R: Wait + AllocGlobal + Copy>(rt: R) -> Option<bool> {
+    let channel = Channel::<u64, 2, R>::new(rt.alloc(), rt);
+    let send = channel.send(5).ok()?;
+    let is_channel = shows(rt.alloc(), &channel, "Channel");
+    Some(is_channel && shows(rt.alloc(), &send, "ChannelSendFuture"))
+}
+
+fn a_stream_shows<R: Wait + AllocGlobal + Copy>(rt: R) -> Option<bool> {
+    let channel = Channel::<u64, 2, R>::new(rt.alloc(), rt);
+    let stream = channel.stream().ok()?;
+    Some(shows(rt.alloc(), &stream, "ChannelStream"))
 }
 
 #[test]
-fn a_channel_shows_its_name(rt: HostRuntime) {
-    let channel: Channel<u64, 2, HostRuntime> = Channel::new(rt.alloc(), rt);
-    assert!(rt; shows(rt.alloc(), &channel, "Channel"));
-}
-
-#[test]
-fn a_send_shows_its_name(rt: HostRuntime) {
-    let channel: Channel<u64, 2, HostRuntime> = Channel::new(rt.alloc(), rt);
-    let send = channel.send(5).ok().expect(&rt, "room");
-    assert!(rt; shows(rt.alloc(), &send, "ChannelSendFuture"));
-}
-
-#[test]
-fn a_stream_shows_its_name(rt: HostRuntime) {
-    let channel: Channel<u64, 2, HostRuntime> = Channel::new(rt.alloc(), rt);
-    let stream = channel.stream().expect(&rt, "memory");
-    assert!(rt; shows(rt.alloc(), &stream, "ChannelStream"));
+fn a_channel_and_its_futures_show_their_names(rt: HostRuntime) {
+    assert!(rt; a_send_shows(rt) == Some(true) && a_stream_shows(rt) == Some(true));
 }
 
 fn mutex_shows<R: Wait + AllocGlobal + Copy, L: Ledger>(rt: R, blank: Blank) -> Option<bool>

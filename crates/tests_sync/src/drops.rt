@@ -2,11 +2,13 @@
 //! dropped with no lock taken.
 
 use fi_parts::StateId;
-use fi_sync::{Channel, StateBroadcastChannel};
+use fi_sync::{Blocking, Channel, StateBroadcastChannel, StateReceiveFuture};
 use futures::test::MockTask;
-use std::alloc::AllocError;
+use std::alloc::{AllocError, AllocGlobal};
+use std::sync::Wait;
 use std::sync::atomic::{AtomicBool, Ordering};
 use std::thread;
+use std::thread::Threads;
 
 // Where two threads meet: one in a value's drop, the other with a call.
 #[derive(Drop)]
@@ -59,43 +61,103 @@ impl Drop for Guest<'_> {
     }
 }
 
+/// What lets a value go, or clones it.
+trait Begins {
+    /// Whether it was answered as it should be.
+    fn begin(&self) -> bool;
+}
+
+/// What another thread calls meanwhile.
+trait Calls {
+    fn call(self);
+}
+
+// Whether the call came to its end meanwhile.
+fn have_met<R, B, C>(rt: &R, meeting: &Meeting, begins: &B, calls: C) -> bool
+where
+    R: Wait + Threads,
+    B: Begins + Sync,
+    C: Calls + Drop + Send,
+{
+    let other = move || {
+        let _ = was_set(&meeting.has_begun);
+        calls.call();
+        meeting.was_called.store(true, Ordering::SeqCst);
+    };
+    let (is_right, ()) = thread::join(rt, move || begins.begin(), other);
+    is_right && meeting.was_met.load(Ordering::SeqCst)
+}
+
+/// The replacement of a state.
+#[derive(Drop)]
+struct Replaces<'a, 'b, R> {
+    channel: &'a StateBroadcastChannel<Guest<'b>, R>,
+}
+
+impl<R: Wait> Begins for Replaces<'_, '_, R> {
+    fn begin(&self) -> bool {
+        self.channel.send(Guest { meeting: None }).is_ok()
+    }
+}
+
+/// A close.
+#[derive(Drop)]
+struct Closes<C>(C);
+
+impl<R: Wait> Calls for Closes<&StateBroadcastChannel<Guest<'_>, R>> {
+    fn call(self) {
+        let _ = self.0.close();
+    }
+}
+
 // The state that is replaced is let go while another thread closes the channel.
-#[test]
-fn a_replaced_state_is_let_go_without_the_lock(rt: HostRuntime) {
+fn is_replaced<R: Wait + Threads + AllocGlobal + Copy + Send + Sync>(rt: R) -> bool {
     let meeting = &Meeting::new();
     let channel = &StateBroadcastChannel::new(rt.alloc(), rt);
     let first = Guest {
         meeting: Some(meeting),
     };
-    assert!(rt; channel.send(first).is_ok());
-    let replaces = move || channel.send(Guest { meeting: None }).is_ok();
-    let closes = move || {
-        let _ = was_set(&meeting.has_begun);
-        channel.close();
-        meeting.was_called.store(true, Ordering::SeqCst);
-    };
-    let (is_sent, ()) = thread::join(&rt, replaces, closes);
-    assert!(rt; is_sent);
-    assert!(rt; meeting.was_met.load(Ordering::SeqCst));
+    let is_sent = channel.send(first).is_ok();
+    is_sent && have_met(&rt, meeting, &Replaces { channel }, Closes(channel))
+}
+
+#[test]
+fn a_replaced_state_is_let_go_without_the_lock(rt: HostRuntime) {
+    assert!(rt; is_replaced(rt));
+}
+
+/// A send that is dropped before its first poll.
+#[derive(Drop)]
+struct Unsent<'a, 'b, R> {
+    meeting: &'b Meeting,
+    channel: &'a Channel<Guest<'b>, 1, R>,
+}
+
+impl<R: Wait> Begins for Unsent<'_, '_, R> {
+    fn begin(&self) -> bool {
+        let guest = Guest {
+            meeting: Some(self.meeting),
+        };
+        self.channel.send(guest).is_ok()
+    }
+}
+
+impl<R: Wait> Calls for Closes<&Channel<Guest<'_>, 1, R>> {
+    fn call(self) {
+        let _ = self.0.close();
+    }
 }
 
 // The value of a send that is dropped is let go while another thread closes the channel.
+fn is_unsent<R: Wait + Threads + AllocGlobal + Copy + Send + Sync>(rt: R) -> bool {
+    let meeting = &Meeting::new();
+    let channel = &Channel::new(rt.alloc(), rt);
+    have_met(&rt, meeting, &Unsent { meeting, channel }, Closes(channel))
+}
+
 #[test]
 fn an_unsent_value_is_let_go_without_the_lock(rt: HostRuntime) {
-    let meeting = &Meeting::new();
-    let channel: &Channel<Guest, 1, HostRuntime> = &Channel::new(rt.alloc(), rt);
-    let guest = Guest {
-        meeting: Some(meeting),
-    };
-    let send = channel.send(guest).ok().expect(&rt, "room");
-    let drops = move || drop(send);
-    let closes = move || {
-        let _ = was_set(&meeting.has_begun);
-        channel.close();
-        meeting.was_called.store(true, Ordering::SeqCst);
-    };
-    let ((), ()) = thread::join(&rt, drops, closes);
-    assert!(rt; meeting.was_met.load(Ordering::SeqCst));
+    assert!(rt; is_unsent(rt));
 }
 
 // A state whose clone lasts until the other thread's call is over, unless that never comes. Its clones are cloned at once.
@@ -115,26 +177,52 @@ impl Clone for Host<'_> {
     }
 }
 
+/// A clone of a state.
+#[derive(Drop)]
+struct Clones<'a, 'b, R> {
+    channel: &'a StateBroadcastChannel<Host<'b>, R>,
+}
+
+impl<R: Wait> Begins for Clones<'_, '_, R> {
+    fn begin(&self) -> bool {
+        matches!(self.channel.try_receive(StateId::new()), Ok(Some(_)))
+    }
+}
+
+/// The drop of a receive.
+#[derive(Drop)]
+struct Drops<F: Drop>(F);
+
+impl<F: Drop> Calls for Drops<F> {
+    fn call(self) {
+        drop(self);
+    }
+}
+
+// A receive that has ended.
+fn ended<'a, 'b, R: Wait>(
+    channel: &'a StateBroadcastChannel<Host<'b>, R>,
+    task: &MockTask,
+) -> Option<StateReceiveFuture<'a, Host<'b>, R>> {
+    channel.send(Host { meeting: None }).ok()?;
+    let mut receive = channel.receive(StateId::new()).ok()?;
+    task.poll(&mut receive).is_ready().then_some(receive)
+}
+
 // A receive that has ended is dropped while another thread clones the state, for which it holds the lock.
-#[test]
-fn an_ended_receive_is_dropped_without_the_lock(rt: HostRuntime) {
+fn is_dropped<R: Blocking + Threads + Copy + Send + Sync>(rt: R) -> Option<bool> {
     let meeting = &Meeting::new();
-    let task = MockTask::new(&rt).expect(&rt, "memory");
     let channel = &StateBroadcastChannel::new(rt.alloc(), rt);
-    assert!(rt; channel.send(Host { meeting: None }).is_ok());
-    let mut receive = channel.receive(StateId::new()).expect(&rt, "memory");
-    assert!(rt; task.poll(&mut receive).is_ready());
+    let task = MockTask::new(&rt).ok()?;
+    let receive = ended(channel, &task)?;
     let host = Host {
         meeting: Some(meeting),
     };
-    assert!(rt; channel.send(host).is_ok());
-    let clones = move || matches!(channel.try_receive(StateId::new()), Ok(Some(_)));
-    let drops = move || {
-        let _ = was_set(&meeting.has_begun);
-        drop(receive);
-        meeting.was_called.store(true, Ordering::SeqCst);
-    };
-    let (is_received, ()) = thread::join(&rt, clones, drops);
-    assert!(rt; is_received);
-    assert!(rt; meeting.was_met.load(Ordering::SeqCst));
+    channel.send(host).ok()?;
+    Some(have_met(&rt, meeting, &Clones { channel }, Drops(receive)))
+}
+
+#[test]
+fn an_ended_receive_is_dropped_without_the_lock(rt: HostRuntime) {
+    assert!(rt; is_dropped(rt) == Some(true));
 }

@@ -1,22 +1,20 @@
 //! The event that threads share: executors, and threads that meet at it.
 ghost use Rattle.fi_channels.specs.Event.{IsSound, OwesNoWake};
 
-use crate::threads::{sends, shares};
 use fi_channels::EventState;
-use fi_sync::{ManualResetEvent, Monitor, PollWaker};
+use fi_sync::{Blocking, ManualResetEvent, Monitor, PollWaker};
 use futures::Future;
 use futures::executor::block_on;
 use futures::future::join;
 use futures::task::{Context, Poll};
 use futures::test::MockTask;
 use std::alloc::AllocGlobal;
-use std::process::Abort;
 use std::random::RandomSource;
 use std::sync::Wait;
 use std::sync::atomic::{AtomicU64, Ordering};
 use std::thread;
 use std::thread::Threads;
-use std::time::Duration;
+use std::time::{Clock, Duration};
 
 // Counts the polls of a future.
 #[derive(Drop)]
@@ -41,27 +39,41 @@ impl<F: Future> Future for Counting<'_, F> {
     }
 }
 
-// A task that waits for two events is polled when it starts, and at most twice for each event.
-#[test]
-fn a_join_does_not_spin(rt: HostRuntime) {
+// Waits for both events.
+fn wait_for_both<R: Blocking>(
+    rt: &R,
+    first: &ManualResetEvent<R>,
+    second: &ManualResetEvent<R>,
+    polls: &AtomicU64,
+) -> Option<bool> {
+    let future = join(first.wait().ok()?, second.wait().ok()?);
+    Some(block_on(rt, Counting { future, polls }).is_ok())
+}
+
+// How often a task is polled that waits for two events, which are set one after the other. None if it doesn't come to an end.
+fn polls_of_a_join<R>(rt: R) -> Option<u64>
+where
+    R: Blocking + Threads + Clock + Copy + Send + Sync,
+{
     let first = &ManualResetEvent::new(rt.alloc(), rt, false);
     let second = &ManualResetEvent::new(rt.alloc(), rt, false);
-    let polls = &AtomicU64::new(0);
-    let rt = &rt;
-    let waiter = move || -> Option<bool> {
-        let future = join(first.wait().ok()?, second.wait().ok()?);
-        Some(block_on(rt, Counting { future, polls }).is_ok())
-    };
+    let (rt, polls) = (&rt, &AtomicU64::new(0));
+    let waiter = move || wait_for_both(rt, first, second, polls);
     let setter = move || {
         thread::sleep(rt, Duration::from_millis(20));
         first.set();
         thread::sleep(rt, Duration::from_millis(20));
         second.set();
     };
-    let (done, ()) = thread::join(rt, waiter, setter);
-    assert_eq!(*rt; done, Some(true));
-    let count = polls.load(Ordering::SeqCst);
-    assert!(*rt; count <= 5, "{count} polls");
+    let (is_over, ()) = thread::join(rt, waiter, setter);
+    is_over?.then_some(polls.load(Ordering::SeqCst))
+}
+
+// A task that waits for two events is polled when it starts, and at most twice for each event.
+#[test]
+fn a_join_does_not_spin(rt: HostRuntime) {
+    let polls = polls_of_a_join(rt);
+    assert!(rt; polls.is_some_and(|polls| polls <= 5), "{polls:?} polls");
 }
 
 // Whether so many polls were made in the end. It looks a bounded number of times.
@@ -75,24 +87,23 @@ fn were_polled(polls: &AtomicU64, count: u64) -> bool {
     false
 }
 
-// The event is set once the wait is registered.
-#[test]
-fn an_executor_waits(rt: HostRuntime) {
+// Whether an executor's wait ends by a set that comes once the wait is registered.
+fn executor_waits<R: Blocking + Threads + Copy + Send + Sync>(rt: R) -> bool {
     let event = &ManualResetEvent::new(rt.alloc(), rt, false);
-    let polls = &AtomicU64::new(0);
-    let rt = &rt;
-    let wait = move || {
-        let future = event.wait().ok()?;
-        block_on(rt, Counting { future, polls }).ok()
-    };
+    let (rt, polls) = (&rt, &AtomicU64::new(0));
+    let wait = move || is_told_to_stop(rt, event, polls);
     let setter = move || {
         let was_polled = were_polled(polls, 1);
         event.set();
         was_polled
     };
-    let (answer, was_polled) = thread::join(rt, wait, setter);
-    assert_eq!(*rt; answer, Some(Ok(())));
-    assert!(*rt; was_polled);
+    let (is_told, was_polled) = thread::join(rt, wait, setter);
+    is_told && was_polled
+}
+
+#[test]
+fn an_executor_waits(rt: HostRuntime) {
+    assert!(rt; executor_waits(rt));
 }
 
 fn meet<R: Wait>(mine: &ManualResetEvent<R>, other: &ManualResetEvent<R>, task: &MockTask) -> bool {
@@ -109,36 +120,22 @@ fn meet<R: Wait>(mine: &ManualResetEvent<R>, other: &ManualResetEvent<R>, task: 
     false
 }
 
-#[test]
-fn two_threads_meet(rt: HostRuntime) {
+fn both_meet<R: Blocking + Threads + Copy + Send + Sync>(rt: R) -> Option<bool> {
     let first = &ManualResetEvent::new(rt.alloc(), rt, false);
     let second = &ManualResetEvent::new(rt.alloc(), rt, false);
-    let a = &MockTask::new(&rt).expect(&rt, "memory");
-    let b = &MockTask::new(&rt).expect(&rt, "memory");
+    let a = &MockTask::new(&rt).ok()?;
+    let b = &MockTask::new(&rt).ok()?;
     let (left, right) = thread::join(
         &rt,
         move || meet(first, second, a),
         move || meet(second, first, b),
     );
-    assert!(rt; left && right);
-}
-
-// The event is moved, shared by reference, and its future is moved to another thread, under any runtime.
-fn crosses<R>(rt: R)
-where
-    R: Wait + Threads + Abort + Copy + RandomSource + AllocGlobal + Send + Sync,
-{
-    let event = sends(ManualResetEvent::new(rt.alloc(), rt, false));
-    let event = shares(&event);
-    let wait = sends(event.wait().expect(&rt, "memory"));
-    let rt = &rt;
-    let (answer, ()) = thread::join(rt, move || block_on(rt, wait).ok(), move || event.set());
-    assert_eq!(*rt; answer, Some(Ok(())));
+    Some(left && right)
 }
 
 #[test]
-fn crosses_threads(rt: HostRuntime) {
-    crosses(rt);
+fn two_threads_meet(rt: HostRuntime) {
+    assert!(rt; both_meet(rt) == Some(true));
 }
 
 // Whenever the lock is got, the event behind it is sound and owes no wake.
@@ -172,9 +169,8 @@ where
     }
 }
 
-// Three workers wait, and once all are registered one thread tells them to stop.
-#[test]
-fn shutdown_signal(rt: HostRuntime) {
+// Three workers wait, and once all are registered one thread tells them to stop. How many stop, and how many polls they make.
+fn stop_workers<R: Blocking + Threads + Copy + Send + Sync>(rt: R) -> (u64, u64) {
     let rt = &rt;
     let shutdown = &ManualResetEvent::new(rt.alloc(), *rt, false);
     let stopped = &AtomicU64::new(0);
@@ -191,6 +187,14 @@ fn shutdown_signal(rt: HostRuntime) {
         let _ = were_polled(polls, 3);
         shutdown.set();
     });
-    assert_eq!(*rt; stopped.load(Ordering::SeqCst), 3);
-    assert!(*rt; polls.load(Ordering::SeqCst) >= 6);
+    (stopped.load(Ordering::SeqCst), polls.load(Ordering::SeqCst))
+}
+
+#[test]
+fn shutdown_signal(rt: HostRuntime) {
+    let (stopped, polls) = stop_workers(rt);
+    assert!(rt;
+        stopped == 3 && polls >= 6,
+        "{stopped} stopped, {polls} polls"
+    );
 }

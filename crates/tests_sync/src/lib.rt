@@ -8,6 +8,8 @@ mod channel;
 #[cfg(test)]
 mod contention;
 #[cfg(test)]
+mod crosses;
+#[cfg(test)]
 mod debug;
 #[cfg(test)]
 mod drops;
@@ -18,20 +20,14 @@ mod many;
 #[cfg(test)]
 mod mutex;
 #[cfg(test)]
-mod one_value;
-#[cfg(test)]
 mod polls;
 #[cfg(test)]
-mod semaphore;
-#[cfg(test)]
 mod shared_semaphore;
-#[cfg(test)]
-mod state_broadcast;
-#[cfg(test)]
-mod threads;
 #[cfg(test)]
 mod timer;
 #[cfg(test)]
 mod timer_runs;
+#[cfg(test)]
+mod waited;
 #[cfg(test)]
 mod wakes;

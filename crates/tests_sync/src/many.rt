@@ -1,26 +1,31 @@
 //! A call that wakes many wakes each of them, however many there are.
 ghost use Rattle.fi_sync.specs.Blanks.{IsPermitBlank};
 
-use fi_parts::{MockClock, StateId};
+use crate::timer::Shown;
+use fi_channels::ChannelState;
+use fi_parts::StateId;
+use fi_parts::buffer::ArrayBuf;
 use fi_sync::{
-    Blocking, Channel, ManualResetEvent, Semaphore, StateBroadcastChannel, TimerService,
+    Blocking, Channel, ChannelReceiveFuture, ManualResetEvent, PollWaker, Semaphore,
+    SemaphoreAcquireFuture, StateBroadcastChannel, StateReceiveFuture, TimerFuture, TimerService,
+    WaitForEventFuture,
 };
 use futures::test::MockTask;
 use std::marker::Brand;
-use std::sync::Arc;
+use std::sync::atomic::{AtomicU64, Ordering};
 use std::sync::ledger::{Blank, Ledger};
 
 const MANY: usize = 100;
 
-// So many tasks; fewer where there is no memory.
-fn tasks<R: Blocking>(rt: &R) -> Vec<MockTask> {
-    let mut tasks = Vec::new(rt.alloc());
-    for _ in 0..MANY {
-        if let Ok(task) = MockTask::new(rt) {
-            let _ = tasks.push(task);
-        }
-    }
-    tasks
+/// What many wait for.
+trait Crowd {
+    type Wait: Drop;
+
+    /// Makes a future, which this task polls once.
+    fn begin(&self, task: &MockTask) -> Option<Self::Wait>;
+
+    /// Wakes all.
+    fn wake(&self);
 }
 
 // How many of the tasks are woken.
@@ -28,112 +33,133 @@ fn woken(tasks: &[MockTask]) -> usize {
     tasks.iter().filter(|task| task.is_woken()).count()
 }
 
-// The waits for an event that is set.
-fn set_wakes<R: Blocking + Copy>(rt: R) -> bool {
-    let event = ManualResetEvent::new(rt.alloc(), rt, false);
-    let (tasks, mut waits) = (tasks(&rt), Vec::new(rt.alloc()));
-    for task in tasks.as_slice() {
-        if let Ok(mut wait) = event.wait() {
-            let _ = task.poll(&mut wait);
-            let _ = waits.push(wait);
-        }
+// Whether a hundred who wait are woken by the call, and none before.
+fn wakes_all<R: Blocking, C: Crowd>(rt: &R, crowd: &C) -> Option<bool> {
+    let (mut tasks, mut waits) = (Vec::new(rt.alloc()), Vec::new(rt.alloc()));
+    for _ in 0..MANY {
+        let task = MockTask::new(rt).ok()?;
+        waits.push(crowd.begin(&task)?).ok()?;
+        tasks.push(task).ok()?;
     }
     let before = woken(&tasks);
-    event.set();
-    before == 0 && woken(&tasks) == MANY
+    crowd.wake();
+    Some(before == 0 && woken(&tasks) == MANY)
 }
 
-// The receives from a channel that is closed.
-fn close_wakes<R: Blocking + Copy>(rt: R) -> bool {
-    let channel = Channel::<u64, 1, R>::new(rt.alloc(), rt);
-    let (tasks, mut waits) = (tasks(&rt), Vec::new(rt.alloc()));
-    for task in tasks.as_slice() {
-        if let Ok(mut receive) = channel.receive() {
-            let _ = task.poll(&mut receive);
-            let _ = waits.push(receive);
-        }
+impl<'a, R: Blocking> Crowd for &'a ManualResetEvent<R> {
+    type Wait = WaitForEventFuture<'a, R>;
+
+    fn begin(&self, task: &MockTask) -> Option<WaitForEventFuture<'a, R>> {
+        let event = *self;
+        let mut wait = event.wait().ok()?;
+        task.poll(&mut wait).is_pending().then_some(wait)
     }
-    let before = woken(&tasks);
-    channel.close();
-    before == 0 && woken(&tasks) == MANY
+
+    fn wake(&self) {
+        self.set();
+    }
 }
 
-// The receives from a state broadcast that gets a state.
-fn state_wakes<R: Blocking + Copy>(rt: R) -> bool {
-    let states = StateBroadcastChannel::<u64, R>::new(rt.alloc(), rt);
-    let (tasks, mut waits) = (tasks(&rt), Vec::new(rt.alloc()));
-    for task in tasks.as_slice() {
-        if let Ok(mut receive) = states.receive(StateId::new()) {
-            let _ = task.poll(&mut receive);
-            let _ = waits.push(receive);
-        }
+type Receiving<'a, R> = ChannelReceiveFuture<'a, ChannelState<u64, ArrayBuf<u64, 1>, PollWaker>, R>;
+
+impl<'a, R: Blocking> Crowd for &'a Channel<u64, 1, R> {
+    type Wait = Receiving<'a, R>;
+
+    fn begin(&self, task: &MockTask) -> Option<Receiving<'a, R>> {
+        let channel = *self;
+        let mut receive = channel.receive().ok()?;
+        task.poll(&mut receive).is_pending().then_some(receive)
     }
-    let before = woken(&tasks);
-    let _ = states.send(7);
-    before == 0 && woken(&tasks) == MANY
+
+    fn wake(&self) {
+        let _ = self.close();
+    }
 }
 
-// The futures of a timer whose moment has come.
-fn check_wakes<R: Blocking + Copy>(rt: R) -> bool {
-    let Ok(clock) = Arc::new(rt.alloc(), MockClock::new()) else {
-        return false;
-    };
-    let Ok(shared) = Arc::try_clone(&clock) else {
-        return false;
-    };
-    let timer = TimerService::new(rt.alloc(), rt, shared);
-    let (tasks, mut waits) = (tasks(&rt), Vec::new(rt.alloc()));
-    for task in tasks.as_slice() {
-        if let Ok(mut wait) = timer.deadline(5) {
-            let _ = task.poll(&mut wait);
-            let _ = waits.push(wait);
-        }
+impl<'a, R: Blocking> Crowd for &'a StateBroadcastChannel<u64, R> {
+    type Wait = StateReceiveFuture<'a, u64, R>;
+
+    fn begin(&self, task: &MockTask) -> Option<StateReceiveFuture<'a, u64, R>> {
+        let states = *self;
+        let mut receive = states.receive(StateId::new()).ok()?;
+        task.poll(&mut receive).is_pending().then_some(receive)
     }
-    let before = woken(&tasks);
-    clock.set_time(5);
-    timer.check_expirations();
-    before == 0 && woken(&tasks) == MANY
+
+    fn wake(&self) {
+        let _ = self.send(7);
+    }
 }
 
-// The acquires of a semaphore that gets a permit for each.
-fn release_wakes<R: Blocking + Copy, L: Ledger>(rt: R, blank: Blank) -> bool
-where
-    requires blank { IsPermitBlank L.Ledger blank }
-{
-    let semaphore = Semaphore::<R, L>::new(rt.alloc(), rt, blank, true, 0);
-    let (tasks, mut waits) = (tasks(&rt), Vec::new(rt.alloc()));
-    for task in tasks.as_slice() {
-        if let Ok(mut acquire) = semaphore.acquire(1) {
-            let _ = task.poll(&mut acquire);
-            let _ = waits.push(acquire);
-        }
+/// A timer, and its time.
+#[derive(Drop)]
+struct Timed<'a, 'b, R> {
+    time: &'b AtomicU64,
+    timer: &'a TimerService<Shown<'b>, R>,
+}
+
+impl<'a, 'b, R: Blocking> Crowd for Timed<'a, 'b, R> {
+    type Wait = TimerFuture<'a, Shown<'b>, R>;
+
+    fn begin(&self, task: &MockTask) -> Option<TimerFuture<'a, Shown<'b>, R>> {
+        let mut wait = self.timer.deadline(5).ok()?;
+        task.poll(&mut wait).is_pending().then_some(wait)
     }
-    let before = woken(&tasks);
-    let _ = semaphore.release(MANY);
-    before == 0 && woken(&tasks) == MANY
+
+    fn wake(&self) {
+        self.time.store(5, Ordering::SeqCst);
+        self.timer.check_expirations();
+    }
+}
+
+impl<'a, R: Blocking, L: Ledger> Crowd for &'a Semaphore<R, L> {
+    type Wait = SemaphoreAcquireFuture<'a, R, L>;
+
+    fn begin(&self, task: &MockTask) -> Option<SemaphoreAcquireFuture<'a, R, L>> {
+        let semaphore = *self;
+        let mut acquire = semaphore.acquire(1).ok()?;
+        task.poll(&mut acquire).is_pending().then_some(acquire)
+    }
+
+    fn wake(&self) {
+        let _ = self.release(MANY);
+    }
 }
 
 #[test]
 fn an_event_wakes_a_hundred(rt: HostRuntime) {
-    assert!(rt; set_wakes(rt));
+    let event = &ManualResetEvent::new(rt.alloc(), rt, false);
+    assert!(rt; wakes_all(&rt, &event) == Some(true));
 }
 
 #[test]
 fn a_close_wakes_a_hundred(rt: HostRuntime) {
-    assert!(rt; close_wakes(rt));
+    let channel = &Channel::<u64, 1, HostRuntime>::new(rt.alloc(), rt);
+    assert!(rt; wakes_all(&rt, &channel) == Some(true));
 }
 
 #[test]
 fn a_state_wakes_a_hundred(rt: HostRuntime) {
-    assert!(rt; state_wakes(rt));
+    let states = &StateBroadcastChannel::<u64, HostRuntime>::new(rt.alloc(), rt);
+    assert!(rt; wakes_all(&rt, &states) == Some(true));
 }
 
 #[test]
 fn a_check_wakes_a_hundred(rt: HostRuntime) {
-    assert!(rt; check_wakes(rt));
+    let time = &AtomicU64::new(0);
+    let timer = &TimerService::new(rt.alloc(), rt, Shown { time });
+    assert!(rt; wakes_all(&rt, &Timed { time, timer }) == Some(true));
+}
+
+fn release_wakes<R: Blocking + Copy, L: Ledger>(rt: R, blank: Blank) -> Option<bool>
+where
+    requires blank { IsPermitBlank L.Ledger blank }
+{
+    let semaphore = &Semaphore::<R, L>::new(rt.alloc(), rt, blank, true, 0);
+    wakes_all(&rt, &semaphore)
 }
 
 #[test]
 fn a_release_wakes_a_hundred(rt: HostRuntime) {
-    assert!(rt; release_wakes::<HostRuntime, Brand>(rt, Blank::new(u64::MAX)));
+    let wakes = release_wakes::<HostRuntime, Brand>(rt, Blank::new(u64::MAX));
+    assert!(rt; wakes == Some(true));
 }

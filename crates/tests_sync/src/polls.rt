@@ -2,13 +2,12 @@
 ghost use Rattle.fi_sync.specs.Blanks.{IsLockBlank};
 
 use fi_parts::MockClock;
-use fi_sync::{Channel, ManualResetEvent, Mutex, TimerService};
+use fi_sync::{Blocking, Channel, ManualResetEvent, Mutex, TimerService, WaitForEventFuture};
 use futures::Future;
 use futures::task::Poll;
 use futures::test::MockTask;
 use std::alloc::AllocGlobal;
 use std::marker::Brand;
-use std::process::Abort;
 use std::sync::Wait;
 use std::sync::ledger::{Blank, Ledger};
 
@@ -24,98 +23,234 @@ where
     is_ready && !task.is_woken()
 }
 
+/// What makes futures that are ready at once.
+trait Ready {
+    /// Makes some, and answers whether they are ready in peace.
+    fn are_ready(&self, task: &MockTask) -> bool;
+}
+
+impl<R: Wait> Ready for ManualResetEvent<R> {
+    fn are_ready(&self, task: &MockTask) -> bool {
+        match self.wait() {
+            Ok(wait) => is_ready_in_peace(task, wait),
+            Err(_) => false,
+        }
+    }
+}
+
+// Whether a send is accepted in peace.
+fn is_sent<R: Wait>(channel: &Channel<u64, 1, R>, task: &MockTask) -> bool {
+    match channel.send(5) {
+        Ok(send) => is_ready_in_peace(task, send),
+        Err(_) => false,
+    }
+}
+
+impl<R: Wait> Ready for Channel<u64, 1, R> {
+    fn are_ready(&self, task: &MockTask) -> bool {
+        if !is_sent(self, task) {
+            return false;
+        }
+        match self.receive() {
+            Ok(receive) => is_ready_in_peace(task, receive),
+            Err(_) => false,
+        }
+    }
+}
+
+impl<R: Wait> Ready for TimerService<MockClock, R> {
+    fn are_ready(&self, task: &MockTask) -> bool {
+        match self.deadline(0) {
+            Ok(deadline) => is_ready_in_peace(task, deadline),
+            Err(_) => false,
+        }
+    }
+}
+
+impl<R: Wait, L: Ledger> Ready for Mutex<u64, R, L> {
+    fn are_ready(&self, task: &MockTask) -> bool {
+        match self.lock() {
+            Ok(lock) => is_ready_in_peace(task, lock),
+            Err(_) => false,
+        }
+    }
+}
+
+// Whether the futures of a thousand makings are ready in peace.
+fn wake_nobody<R: Blocking, M: Ready>(rt: &R, makes: &M) -> Option<bool> {
+    let task = MockTask::new(rt).ok()?;
+    for _ in 0..1_000u64 {
+        if !makes.are_ready(&task) {
+            return Some(false);
+        }
+    }
+    Some(true)
+}
+
 #[test]
 fn ready_waits_wake_nobody(rt: HostRuntime) {
-    let task = &MockTask::new(&rt).expect(&rt, "memory");
     let event = ManualResetEvent::new(rt.alloc(), rt, true);
-    for _ in 0..1_000u64 {
-        let wait = event.wait().expect(&rt, "memory");
-        assert!(rt; is_ready_in_peace(task, wait));
-    }
+    assert!(rt; wake_nobody(&rt, &event) == Some(true));
 }
 
 #[test]
 fn ready_sends_and_receives_wake_nobody(rt: HostRuntime) {
-    let task = &MockTask::new(&rt).expect(&rt, "memory");
     let channel = Channel::<u64, 1, HostRuntime>::new(rt.alloc(), rt);
-    for value in 0..1_000u64 {
-        let send = channel.send(value).ok().expect(&rt, "memory");
-        assert!(rt; is_ready_in_peace(task, send));
-        let receive = channel.receive().expect(&rt, "memory");
-        assert!(rt; is_ready_in_peace(task, receive));
-    }
+    assert!(rt; wake_nobody(&rt, &channel) == Some(true));
 }
 
 #[test]
 fn ready_deadlines_wake_nobody(rt: HostRuntime) {
-    let task = &MockTask::new(&rt).expect(&rt, "memory");
     let timer = TimerService::new(rt.alloc(), rt, MockClock::new());
-    for _ in 0..1_000u64 {
-        let deadline = timer.deadline(0).expect(&rt, "memory");
-        assert!(rt; is_ready_in_peace(task, deadline));
-    }
+    assert!(rt; wake_nobody(&rt, &timer) == Some(true));
 }
 
-fn lock_in_peace<R: Wait + Abort + Copy + AllocGlobal, L: Ledger>(
-    rt: R,
-    task: &MockTask,
-    blank: Blank,
-)
+fn lock_in_peace<R: Blocking + Copy, L: Ledger>(rt: R, blank: Blank) -> Option<bool>
     requires blank { IsLockBlank L.Ledger blank }
 {
     let mutex = Mutex::<u64, R, L>::new(rt.alloc(), rt, blank, 7, false);
-    for _ in 0..1_000u64 {
-        let lock = mutex.lock().expect(&rt, "memory");
-        assert!(rt; is_ready_in_peace(task, lock));
-    }
+    wake_nobody(&rt, &mutex)
 }
 
 #[test]
 fn ready_locks_wake_nobody(rt: HostRuntime) {
-    let task = &MockTask::new(&rt).expect(&rt, "memory");
-    lock_in_peace::<HostRuntime, Brand>(rt, task, Blank::new(1))
+    assert!(rt; lock_in_peace::<HostRuntime, Brand>(rt, Blank::new(1)) == Some(true));
 }
 
-// The poll that ends a future keeps the wakers of the polls before it, which were made for the same task: their drop would wake it.
-#[test]
-fn a_ready_poll_after_others_wakes_nobody(rt: HostRuntime) {
-    let task = MockTask::new(&rt).expect(&rt, "memory");
-    let event = ManualResetEvent::new(rt.alloc(), rt, false);
-    let mut wait = event.wait().expect(&rt, "memory");
-    assert!(rt; task.poll(&mut wait).is_pending() && task.poll(&mut wait).is_pending());
-    assert!(rt; !task.is_woken());
-    event.set();
-    assert!(rt; task.is_woken() && task.poll(&mut wait) == Poll::Ready(Ok(())));
-    assert!(rt; !task.is_woken());
+/// An event with one wait.
+trait Signal {
+    fn set(&self);
+
+    fn reset(&self);
+
+    /// Polls the wait. None if its answer is neither ready nor pending.
+    fn is_ready(&mut self, task: &MockTask) -> Option<bool>;
 }
+
+#[derive(Drop)]
+struct Waiting<'a, R: Wait> {
+    event: &'a ManualResetEvent<R>,
+    wait: WaitForEventFuture<'a, R>,
+}
+
+impl<R: Wait> Signal for Waiting<'_, R> {
+    fn set(&self) {
+        self.event.set();
+    }
+
+    fn reset(&self) {
+        self.event.reset();
+    }
+
+    fn is_ready(&mut self, task: &MockTask) -> Option<bool> {
+        match task.poll(&mut self.wait) {
+            Poll::Ready(Ok(())) => Some(true),
+            Poll::Ready(Err(_)) => None,
+            Poll::Pending => Some(false),
+        }
+    }
+}
+
+#[derive(Clone, Copy)]
+enum Call {
+    /// A poll by the task of this number.
+    Poll(usize),
+    Set,
+    Reset,
+}
+
+/// A call, whether it is a poll that is ready, and which of the three tasks are woken then.
+type Step = (Call, bool, [bool; 3]);
+
+// Makes the call. Whether it is a poll that is ready.
+fn make<S: Signal>(signal: &mut S, tasks: &[MockTask], call: Call) -> Option<bool> {
+    match call {
+        Call::Poll(number) => return signal.is_ready(tasks.get(number)?),
+        Call::Set => signal.set(),
+        Call::Reset => signal.reset(),
+    }
+    Some(false)
+}
+
+// Whether just these tasks are woken.
+fn are_woken(tasks: &[MockTask], woken: [bool; 3]) -> bool {
+    for (task, is_woken) in tasks.iter().zip(woken) {
+        if task.is_woken() != is_woken {
+            return false;
+        }
+    }
+    true
+}
+
+// Makes the calls on a wait that three tasks poll. Answers how many went as they should, one after another.
+fn steps<R: Blocking, S: Signal>(rt: &R, signal: &mut S, steps: &[Step]) -> Option<usize> {
+    let mut tasks = Vec::new(rt.alloc());
+    for _ in 0..3 {
+        tasks.push(MockTask::new(rt).ok()?).ok()?;
+    }
+    for (number, step) in steps.iter().enumerate() {
+        let (call, is_ready, woken) = *step;
+        if make(signal, tasks.as_slice(), call) != Some(is_ready)
+            || !are_woken(tasks.as_slice(), woken)
+        {
+            return Some(number);
+        }
+    }
+    Some(steps.len())
+}
+
+// The same on an event.
+fn play<R: Blocking + Copy>(rt: R, is_set: bool, list: &[Step]) -> Option<usize> {
+    let event = &ManualResetEvent::new(rt.alloc(), rt, is_set);
+    let mut waiting = Waiting {
+        event,
+        wait: event.wait().ok()?,
+    };
+    steps(&rt, &mut waiting, list)
+}
+
+// A task counts as woken until its first poll.
+const READY_AFTER_OTHERS: [Step; 4] = [
+    (Call::Poll(0), false, [false, true, true]),
+    (Call::Poll(0), false, [false, true, true]),
+    (Call::Set, false, [true, true, true]),
+    // This poll keeps the wakers of the polls before it, which were made for the same task: their drop would wake it.
+    (Call::Poll(0), true, [false, true, true]),
+];
 
 // The newest waker is the one that is woken. One that a poll displaced is kept, and is let go when another comes, which has its task
 // polled once.
+const THREE_TASKS: [Step; 5] = [
+    (Call::Poll(0), false, [false, true, true]),
+    (Call::Poll(1), false, [false, false, true]),
+    (Call::Poll(2), false, [true, false, false]),
+    (Call::Set, false, [true, false, true]),
+    // The other waker that a poll displaced is let go.
+    (Call::Poll(2), true, [true, true, false]),
+];
+
+const ENDED: [Step; 5] = [
+    (Call::Poll(0), true, [false, true, true]),
+    (Call::Poll(0), false, [false, true, true]),
+    (Call::Poll(1), false, [true, false, true]),
+    (Call::Reset, false, [true, false, true]),
+    (Call::Set, false, [true, false, true]),
+];
+
+#[test]
+fn a_ready_poll_after_others_wakes_nobody(rt: HostRuntime) {
+    let right = play(rt, false, &READY_AFTER_OTHERS);
+    assert!(rt; right == Some(4), "{right:?} are right");
+}
+
 #[test]
 fn a_future_that_three_tasks_poll(rt: HostRuntime) {
-    let first = MockTask::new(&rt).expect(&rt, "memory");
-    let second = MockTask::new(&rt).expect(&rt, "memory");
-    let third = MockTask::new(&rt).expect(&rt, "memory");
-    let event = ManualResetEvent::new(rt.alloc(), rt, false);
-    let mut wait = event.wait().expect(&rt, "memory");
-    assert!(rt; first.poll(&mut wait).is_pending() && second.poll(&mut wait).is_pending());
-    assert!(rt; !first.is_woken() && third.poll(&mut wait).is_pending());
-    assert!(rt; first.is_woken() && !second.is_woken() && !third.is_woken());
-    event.set();
-    assert!(rt; third.is_woken() && !second.is_woken());
-    assert!(rt; third.poll(&mut wait) == Poll::Ready(Ok(())));
+    let right = play(rt, false, &THREE_TASKS);
+    assert!(rt; right == Some(5), "{right:?} are right");
 }
 
 #[test]
 fn an_ended_future_that_two_tasks_poll(rt: HostRuntime) {
-    let first = MockTask::new(&rt).expect(&rt, "memory");
-    let second = MockTask::new(&rt).expect(&rt, "memory");
-    let event = ManualResetEvent::new(rt.alloc(), rt, true);
-    let mut wait = event.wait().expect(&rt, "memory");
-    assert!(rt; first.poll(&mut wait) == Poll::Ready(Ok(())) && !first.is_woken());
-    assert!(rt; first.poll(&mut wait).is_pending() && second.poll(&mut wait).is_pending());
-    assert!(rt; first.is_woken() && !second.is_woken());
-    event.reset();
-    event.set();
-    assert!(rt; !second.is_woken());
+    let right = play(rt, true, &ENDED);
+    assert!(rt; right == Some(5), "{right:?} are right");
 }

@@ -6,16 +6,15 @@
 //! channels of `channel` where all users can borrow one value.
 //!
 //! ```
-//! use futures_intrusive::channel::TryReceiveError;
+//! use futures_intrusive::channel::TrySendError;
 //! use futures_intrusive::channel::shared::channel;
 //!
-//! let (sender, receiver) = channel::<u64, HostRuntime>(rt.alloc(), rt, 2).expect(&rt, "memory");
-//! let other = sender.clone().expect(&rt, "memory");
-//! drop(other);                                                     // one sender is left
-//! assert!(rt; sender.try_send(1).is_ok());
-//! drop(sender);                                                    // the last one: the channel closes
-//! assert!(rt; receiver.try_receive() == Ok(1));
-//! assert!(rt; receiver.try_receive() == Err(TryReceiveError::Closed));
+//! let (sender, receiver) = channel::<u64, HostRuntime>(rt.alloc(), rt, 1).expect(&rt, "memory");
+//! let other = receiver.clone().expect(&rt, "memory");
+//! drop(receiver);                                                  // one receiver is left
+//! assert!(rt; sender.try_send(1).is_ok() && other.try_receive() == Ok(1));
+//! drop(other);                                                     // the last one: the channel closes
+//! assert!(rt; sender.try_send(2) == Err(TrySendError::Closed(2)));
 //! ```
 
 pub use crate::channel_ends::{

@@ -41,6 +41,31 @@ where
     }
 }
 
+/// The same while nothing was sent: a refusal leaves the channel open.
+pub fn receive_of_open_one_value<P>() -> Plain<'static, P>
+where
+    P: Primitive<Opening = (), Call = OneshotCall<u64, u64>, Answer = Answer<u64, u64>>,
+{
+    Plain {
+        opening: (),
+        before: &[
+            OneshotCall::Receive,
+            OneshotCall::Receive,
+            OneshotCall::Receive,
+            OneshotCall::Receive,
+            OneshotCall::Poll(A, 1),
+        ],
+        call: OneshotCall::Receive,
+        refusal: REFUSED,
+        after: &[
+            OneshotCall::Poll(FIFTH, 2),
+            OneshotCall::Send(5),
+            OneshotCall::Poll(A, 3),
+            OneshotCall::Poll(FIFTH, 4),
+        ],
+    }
+}
+
 /// A call on a channel, what leads to it, and what comes after it.
 #[derive(Clone, Copy)]
 pub struct Case<'a> {
@@ -102,7 +127,64 @@ const SEND: Case<'static> = Case {
     ],
 };
 
-pub const MAKINGS: [Case<'static>; 3] = [RECEIVE, STREAM, SEND];
+// The same while nothing was sent.
+const RECEIVE_OF_OPEN: Case<'static> = Case {
+    before: &[
+        ChannelCall::Receive,
+        ChannelCall::Receive,
+        ChannelCall::Receive,
+        ChannelCall::Receive,
+        ChannelCall::PollReceive(A, 1),
+    ],
+    call: ChannelCall::Receive,
+    refusal: REFUSED,
+    after: &[
+        ChannelCall::PollReceive(FIFTH, 2),
+        ChannelCall::TrySend(4),
+        ChannelCall::PollReceive(A, 3),
+        ChannelCall::TrySend(6),
+        ChannelCall::PollReceive(FIFTH, 4),
+    ],
+};
+
+const STREAM_OF_OPEN: Case<'static> = Case {
+    before: &[
+        ChannelCall::Stream,
+        ChannelCall::Stream,
+        ChannelCall::Stream,
+        ChannelCall::Stream,
+        ChannelCall::PollNext(A, 1),
+    ],
+    call: ChannelCall::Stream,
+    refusal: REFUSED,
+    after: &[
+        ChannelCall::PollNext(FIFTH, 2),
+        ChannelCall::TrySend(4),
+        ChannelCall::PollNext(A, 3),
+        ChannelCall::TrySend(6),
+        ChannelCall::PollNext(FIFTH, 4),
+    ],
+};
+
+const SEND_OF_OPEN: Case<'static> = Case {
+    before: &[ChannelCall::Receive, ChannelCall::PollReceive(A, 1)],
+    call: ChannelCall::Send(5),
+    refusal: Refusal::Back(5),
+    after: &[
+        ChannelCall::PollSend(A, 2),
+        ChannelCall::PollReceive(A, 3),
+        ChannelCall::TryReceive,
+    ],
+};
+
+pub const MAKINGS: [Case<'static>; 6] = [
+    RECEIVE,
+    STREAM,
+    SEND,
+    RECEIVE_OF_OPEN,
+    STREAM_OF_OPEN,
+    SEND_OF_OPEN,
+];
 
 // A send for which the buffer has to grow.
 pub const GROWS: [Case<'static>; 3] = [

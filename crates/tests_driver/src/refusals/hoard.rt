@@ -26,16 +26,30 @@ pub struct Hoard {
     alloc: Global,
     kept: Vec<Vec<u8>>,
     taken: Vec<Vec<u8>>,
+    has_end: bool,
 }
 
 impl Hoard {
-    /// Takes all large blocks but one.
+    /// Takes all large blocks but one, and tries once whether memory comes to an end.
     pub fn new(alloc: Global) -> Result<Self, AllocError> {
         let mut kept = Vec::with_capacity(alloc, PLACES)?;
         let taken = Vec::with_capacity(alloc, PLACES)?;
         take_down(alloc, &mut kept, LARGEST, WORKING);
         kept.pop();
-        Ok(Hoard { alloc, kept, taken })
+        let mut hoard = Hoard {
+            alloc,
+            kept,
+            taken,
+            has_end: false,
+        };
+        hoard.has_end = hoard.leave(0);
+        hoard.let_go();
+        Ok(hoard)
+    }
+
+    /// Whether memory came to an end at the first try. Where it has one, each later try has to find it too.
+    pub fn has_end(&self) -> bool {
+        self.has_end
     }
 
     /// Takes all but so many bytes, at most half of a region. Answers whether nothing more can be had; where the allocator has no end (as

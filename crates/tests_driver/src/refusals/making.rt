@@ -16,7 +16,7 @@ pub fn tries<M: Making>(hoard: &mut Hoard, making: &mut M) -> Tried {
         let is_refused = making.is_refused();
         hoard.let_go();
         if !is_used_up {
-            return Tried::HasNoEnd;
+            return Tried::unused(hoard, refusals);
         }
         if !is_refused {
             return Tried::Refused(refusals);

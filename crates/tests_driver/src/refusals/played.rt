@@ -141,7 +141,7 @@ where
             return Tried::Differs(refusals);
         }
         if !is_used_up {
-            return Tried::HasNoEnd;
+            return Tried::unused(hoard, refusals);
         }
         if !is_refused {
             return Tried::Refused(refusals);

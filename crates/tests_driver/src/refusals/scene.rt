@@ -98,13 +98,22 @@ where
 pub enum Tried {
     /// So many tries were refused memory and changed nothing, and then one was not.
     Refused(u64),
-    /// Memory was not used up, so nothing was tried.
+    /// Memory has no end in this build, so nothing was tried.
     HasNoEnd,
-    /// There was no memory to begin with, or an answer was another one, so many refusals in.
+    /// There was no memory to begin with, it was not used up though it has an end, or an answer was another one, so many refusals in.
     Differs(u64),
 }
 
 impl Tried {
+    /// Of a try that found memory left, so many refusals in.
+    pub fn unused(hoard: &Hoard, refusals: u64) -> Self {
+        if hoard.has_end() {
+            Tried::Differs(refusals)
+        } else {
+            Tried::HasNoEnd
+        }
+    }
+
     /// Whether at least so many tries were refused before one was not, or memory has no end here.
     pub fn is_right(self, least: u64) -> bool {
         match self {
@@ -156,7 +165,7 @@ where
         match one_refusal(scene, alloc, hoard, drains, STEP * step) {
             Some(Try::Refused) => refusals = refusals.wrapping_add(1),
             Some(Try::Answered) => return Tried::Refused(refusals),
-            Some(Try::HasNoEnd) => return Tried::HasNoEnd,
+            Some(Try::HasNoEnd) => return Tried::unused(hoard, refusals),
             Some(Try::Differs) | None => return Tried::Differs(refusals),
         }
     }

@@ -1,5 +1,6 @@
 //! The texts of `Debug`: those of the Rust crate, and a name alone where it has none.
 
+use super::Made;
 use fi_channels::{OneValueState, TakesValue};
 use fi_sync::PollWaker;
 use futures_intrusive::channel::shared::{
@@ -7,6 +8,7 @@ use futures_intrusive::channel::shared::{
 };
 use std::alloc::{AllocGlobal, Global};
 use std::fmt;
+use tests_ends_calls::ReceivingEnd;
 
 fn shows<D: fmt::Debug>(alloc: Global, value: &D, wanted: &str) -> bool {
     match format!(in alloc; "{value:?}") {
@@ -15,33 +17,64 @@ fn shows<D: fmt::Debug>(alloc: Global, value: &D, wanted: &str) -> bool {
     }
 }
 
+// Whether the sender and the receiver show these names.
+fn show<S, E>(alloc: Global, ends: Made<S, E>, sender: &str, receiver: &str) -> bool
+where
+    S: fmt::Debug + Drop,
+    E: fmt::Debug + Drop,
+{
+    match ends {
+        Ok(ends) => shows(alloc, &ends.0, sender) && shows(alloc, &ends.1, receiver),
+        Err(_) => false,
+    }
+}
+
 #[test]
 fn ends_of_a_channel_show_their_names(rt: HostRuntime) {
-    let (sender, receiver) = channel::<u64, HostRuntime>(rt.alloc(), rt, 1).expect(&rt, "memory");
-    assert!(rt; shows(rt.alloc(), &sender, "Sender"));
-    assert!(rt; shows(rt.alloc(), &receiver, "Receiver"));
-    let stream = receiver.into_stream().ok().expect(&rt, "memory");
-    assert!(rt; shows(rt.alloc(), &stream, "SharedStream"));
+    let ends = channel::<u64, HostRuntime>(rt.alloc(), rt, 1);
+    assert!(rt; show(rt.alloc(), ends, "Sender", "Receiver"));
+}
+
+fn stream_shows<S, E>(alloc: Global, ends: Made<S, E>, wanted: &str) -> Option<bool>
+where
+    S: Drop,
+    E: ReceivingEnd<u64>,
+    E::Items: fmt::Debug,
+{
+    let (_sender, receiver) = ends.ok()?;
+    let stream = receiver.stream().ok()?;
+    Some(shows(alloc, &stream, wanted))
+}
+
+#[test]
+fn a_shared_stream_shows_its_name(rt: HostRuntime) {
+    let ends = channel::<u64, HostRuntime>(rt.alloc(), rt, 1);
+    assert!(rt; stream_shows(rt.alloc(), ends, "SharedStream") == Some(true));
 }
 
 #[test]
 fn ends_of_one_value_show_their_names(rt: HostRuntime) {
     let ends = oneshot_channel::<u64, HostRuntime>(rt.alloc(), rt);
-    let (sender, receiver) = ends.expect(&rt, "memory");
-    assert!(rt; shows(rt.alloc(), &sender, "OneshotSender"));
-    assert!(rt; shows(rt.alloc(), &receiver, "OneshotReceiver"));
+    assert!(rt; show(rt.alloc(), ends, "OneshotSender", "OneshotReceiver"));
+}
+
+#[test]
+fn ends_of_a_broadcast_show_their_names(rt: HostRuntime) {
     let ends = oneshot_broadcast_channel::<u64, HostRuntime>(rt.alloc(), rt);
-    let (sender, receiver) = ends.expect(&rt, "memory");
-    assert!(rt; shows(rt.alloc(), &sender, "OneshotBroadcastSender"));
-    assert!(rt; shows(rt.alloc(), &receiver, "OneshotBroadcastReceiver"));
+    assert!(rt;
+        show(
+            rt.alloc(),
+            ends,
+            "OneshotBroadcastSender",
+            "OneshotBroadcastReceiver"
+        )
+    );
 }
 
 #[test]
 fn ends_of_states_show_their_names(rt: HostRuntime) {
     let ends = state_broadcast_channel::<u64, HostRuntime>(rt.alloc(), rt);
-    let (sender, receiver) = ends.expect(&rt, "memory");
-    assert!(rt; shows(rt.alloc(), &sender, "StateSender"));
-    assert!(rt; shows(rt.alloc(), &receiver, "StateReceiver"));
+    assert!(rt; show(rt.alloc(), ends, "StateSender", "StateReceiver"));
 }
 
 #[test]

@@ -1,12 +1,14 @@
 //! What ends say of their channel: what a borrowed channel says that gets the same calls.
 
-use fi_channels::{TryReceiveError, TrySendError};
-use fi_parts::CloseStatus;
+use super::Made;
+use fi_channels::TrySendError;
+use fi_parts::Fault;
 use fi_parts::buffer::GrowingHeapBuf;
 use futures_intrusive::channel::GenericChannel;
-use futures_intrusive::channel::shared::{Receiver, Sender, channel};
+use futures_intrusive::channel::shared::{Receiver, Sender, channel, unbuffered_channel};
 use std::alloc::AllocGlobal;
 use std::sync::Wait;
+use tests_ends_calls::{TriesToReceive, TriesToSend};
 
 /// What is said of a channel.
 #[derive(Clone, Copy, PartialEq, Eq)]
@@ -20,16 +22,6 @@ struct Said {
 
 trait Says {
     fn said(&self) -> Said;
-
-    fn close(&self) -> CloseStatus;
-}
-
-trait Sends: Says {
-    fn try_send(&self, value: u64) -> Result<(), TrySendError<u64>>;
-}
-
-trait Receives: Says {
-    fn try_receive(&self) -> Result<u64, TryReceiveError>;
 }
 
 impl<R: Wait + Drop> Says for Sender<u64, R> {
@@ -42,16 +34,6 @@ impl<R: Wait + Drop> Says for Sender<u64, R> {
             is_full: Sender::is_full(self),
         }
     }
-
-    fn close(&self) -> CloseStatus {
-        Sender::close(self)
-    }
-}
-
-impl<R: Wait + Drop> Sends for Sender<u64, R> {
-    fn try_send(&self, value: u64) -> Result<(), TrySendError<u64>> {
-        Sender::try_send(self, value)
-    }
 }
 
 impl<R: Wait + Drop> Says for Receiver<u64, R> {
@@ -63,16 +45,6 @@ impl<R: Wait + Drop> Says for Receiver<u64, R> {
             is_empty: Receiver::is_empty(self),
             is_full: Receiver::is_full(self),
         }
-    }
-
-    fn close(&self) -> CloseStatus {
-        Receiver::close(self)
-    }
-}
-
-impl<R: Wait + Drop> Receives for Receiver<u64, R> {
-    fn try_receive(&self) -> Result<u64, TryReceiveError> {
-        Receiver::try_receive(self)
     }
 }
 
@@ -88,22 +60,6 @@ impl<R: Wait> Says for Borrowed<R> {
             is_full: GenericChannel::is_full(self),
         }
     }
-
-    fn close(&self) -> CloseStatus {
-        GenericChannel::close(self)
-    }
-}
-
-impl<R: Wait> Sends for Borrowed<R> {
-    fn try_send(&self, value: u64) -> Result<(), TrySendError<u64>> {
-        GenericChannel::try_send(self, value)
-    }
-}
-
-impl<R: Wait> Receives for Borrowed<R> {
-    fn try_receive(&self) -> Result<u64, TryReceiveError> {
-        GenericChannel::try_receive(self)
-    }
 }
 
 /// The ends of a channel, and a borrowed one that gets the same calls.
@@ -114,7 +70,12 @@ struct Beside<S, E, B> {
     borrowed: B,
 }
 
-impl<S: Sends, E: Receives, B: Sends + Receives> Beside<S, E, B> {
+impl<S, E, B> Beside<S, E, B>
+where
+    S: TriesToSend<u64> + Says,
+    E: TriesToReceive<u64> + Says,
+    B: TriesToSend<u64> + TriesToReceive<u64> + Says,
+{
     // Whether both ends say of their channel what the borrowed one says.
     fn say_the_same(&self) -> bool {
         let said = self.borrowed.said();
@@ -130,7 +91,7 @@ impl<S: Sends, E: Receives, B: Sends + Receives> Beside<S, E, B> {
     }
 
     fn close(&self) -> bool {
-        self.sender.close() == self.borrowed.close() && self.say_the_same()
+        self.sender.close() == TriesToSend::close(&self.borrowed) && self.say_the_same()
     }
 
     // Whether they do so before and after each of these calls.
@@ -141,21 +102,42 @@ impl<S: Sends, E: Receives, B: Sends + Receives> Beside<S, E, B> {
     }
 }
 
+// Whether the ends say so of their channel.
+fn say_what_it_says<S, E, B>(ends: Made<S, E>, borrowed: Result<B, Fault>) -> Option<bool>
+where
+    S: TriesToSend<u64> + Says,
+    E: TriesToReceive<u64> + Says,
+    B: TriesToSend<u64> + TriesToReceive<u64> + Says,
+{
+    let (sender, receiver) = ends.ok()?;
+    let beside = Beside {
+        sender,
+        receiver,
+        borrowed: borrowed.ok()?,
+    };
+    Some(beside.agree())
+}
+
 #[test]
 fn ends_say_what_the_channel_says(rt: HostRuntime) {
     for capacity in 0..3 {
         let ends = channel::<u64, HostRuntime>(rt.alloc(), rt, capacity);
-        let (sender, receiver) = ends.expect(&rt, "memory");
-        let borrowed: Borrowed<HostRuntime> = GenericChannel::with_capacity(
-            rt.alloc(),
-            rt,
-            capacity,
-        ).expect(&rt, "memory");
-        let both = Beside {
-            sender,
-            receiver,
-            borrowed,
-        };
-        assert!(rt; both.agree(), "capacity {capacity}");
+        let borrowed = Borrowed::<HostRuntime>::with_capacity(rt.alloc(), rt, capacity);
+        assert!(rt;
+            say_what_it_says(ends, borrowed) == Some(true),
+            "capacity {capacity}"
+        );
     }
+}
+
+fn has_no_room<S: TriesToSend<u64> + Says, E: Says + Drop>(ends: Made<S, E>) -> Option<bool> {
+    let (sender, receiver) = ends.ok()?;
+    let are_of_none = sender.said().capacity == 0 && receiver.said().capacity == 0;
+    Some(are_of_none && sender.try_send(1) == Err(TrySendError::Full(1)))
+}
+
+#[test]
+fn an_unbuffered_channel_has_no_room(rt: HostRuntime) {
+    let ends = unbuffered_channel::<u64, HostRuntime>(rt.alloc(), rt);
+    assert!(rt; has_no_room(ends) == Some(true));
 }

@@ -1,37 +1,45 @@
 //! Ends, futures and streams in several threads.
 
-use crate::crossing::sends;
+use super::Made;
 use fi_channels::TrySendError;
-use fi_parts::StateId;
+use fi_parts::{Fault, StateId};
+use fi_run::Answer;
+use futures::Future;
 use futures::executor::block_on;
 use futures::task::Poll;
 use futures::test::MockTask;
+use futures_intrusive::blocking::Blocking;
 use futures_intrusive::channel::shared::{
-    Receiver, Sender, channel, oneshot_broadcast_channel, oneshot_channel, state_broadcast_channel,
+    channel, oneshot_broadcast_channel, oneshot_channel, state_broadcast_channel,
 };
 use std::alloc::AllocGlobal;
-use std::process::Abort;
-use std::random::RandomSource;
 use std::sync::Wait;
 use std::thread;
 use std::thread::Threads;
+use tests_driver::answers::IntoAnswer;
+use tests_driver::pollable::Pollable;
+use tests_ends_calls::{
+    ClonedEnd, ReceivesOne, ReceivesStates, ReceivingEnd, SendsAtOnce, TriesToReceive, TriesToSend,
+};
 
 const ROUNDS: u32 = 10_000;
 
 // Clones both ends and drops the clones, in each round. The ends that it was given are dropped at the end.
-fn clones<R: Wait + Drop>(sender: Sender<u64, R>, receiver: Receiver<u64, R>) {
+fn clones<S: ClonedEnd, E: ClonedEnd>(sender: S, receiver: E) {
     for _ in 0..ROUNDS {
-        let _ = (sender.clone(), receiver.clone());
+        let _ = (sender.try_clone(), receiver.try_clone());
     }
 }
 
-fn clone_all<'a, R>(rt: &'a R, sender: &'a Sender<u64, R>, receiver: &'a Receiver<u64, R>)
+fn clone_all<'a, R, S, E>(rt: &'a R, sender: &'a S, receiver: &'a E)
 where
-    R: Wait + Threads + Abort + RandomSource + AllocGlobal + Drop + Send + Sync,
+    R: Wait + Threads,
+    S: ClonedEnd + Send,
+    E: ClonedEnd + Send,
 {
     thread::scope(thread::scope_env(), rt, |scope| {
         for _ in 0..4 {
-            if let (Ok(sender), Ok(receiver)) = (sender.clone(), receiver.clone()) {
+            if let (Ok(sender), Ok(receiver)) = (sender.try_clone(), receiver.try_clone()) {
                 let _ = scope.spawn(move || clones(sender, receiver));
             }
         }
@@ -40,108 +48,115 @@ where
 
 // Four threads clone and drop ends. The senders are counted exactly: the channel stays open until the last one goes, and then closes
 // once.
-fn counts_senders<R>(rt: R)
+fn counts_senders<R, S, E>(rt: &R, ends: Made<S, E>) -> Option<bool>
 where
-    R: Wait + Threads + Abort + Drop + Copy + RandomSource + AllocGlobal + Send + Sync,
+    R: Blocking + Threads,
+    S: ClonedEnd + Send,
+    E: ReceivingEnd<u64> + ClonedEnd + Send,
+    E::Receive: Pollable + Future<Output = Result<Option<u64>, Fault>>,
 {
-    let task = MockTask::new(&rt).expect(&rt, "memory");
-    let (sender, receiver) = channel::<u64, R>(rt.alloc(), rt, 1).expect(&rt, "memory");
-    let mut receive = receiver.receive().expect(&rt, "memory");
-    clone_all(&rt, &sender, &receiver);
-    assert!(rt; task.poll(&mut receive).is_pending() && !task.is_woken());
+    let task = MockTask::new(rt).ok()?;
+    let (sender, receiver) = ends.ok()?;
+    let mut receive = receiver.receive().ok()?;
+    clone_all(rt, &sender, &receiver);
+    let waits = task.poll(&mut receive).is_pending() && !task.is_woken();
     drop(sender);
-    assert!(rt; task.is_woken() && task.poll(&mut receive) == Poll::Ready(Ok(None)));
-    assert!(rt; !receiver.close().is_newly_closed());
+    let ends = task.is_woken() && task.poll(&mut receive) == Poll::Ready(Ok(None));
+    Some(waits && ends && !receiver.close().is_newly_closed())
 }
 
 // And so are the receivers.
-fn counts_receivers<R>(rt: R)
+fn counts_receivers<R, S, E>(rt: &R, ends: Made<S, E>) -> Option<bool>
 where
-    R: Wait + Threads + Abort + Drop + Copy + RandomSource + AllocGlobal + Send + Sync,
+    R: Wait + Threads,
+    S: TriesToSend<u64> + ClonedEnd + Send,
+    E: ClonedEnd + Send,
 {
-    let (sender, receiver) = channel::<u64, R>(rt.alloc(), rt, 1).expect(&rt, "memory");
-    clone_all(&rt, &sender, &receiver);
-    assert!(rt; sender.try_send(1) == Ok(()));
+    let (sender, receiver) = ends.ok()?;
+    clone_all(rt, &sender, &receiver);
+    let is_open = sender.try_send(1) == Ok(());
     drop(receiver);
-    assert!(rt; sender.try_send(2) == Err(TrySendError::Closed(2)));
-    assert!(rt; !sender.close().is_newly_closed());
+    let is_closed = sender.try_send(2) == Err(TrySendError::Closed(2));
+    Some(is_open && is_closed && !sender.close().is_newly_closed())
 }
 
 #[test]
 fn four_threads_clone_and_drop_ends(rt: HostRuntime) {
-    counts_senders(rt);
-    counts_receivers(rt);
+    let ends = channel::<u64, HostRuntime>(rt.alloc(), rt, 1);
+    assert!(rt; counts_senders(&rt, ends) == Some(true));
+    let ends = channel::<u64, HostRuntime>(rt.alloc(), rt, 1);
+    assert!(rt; counts_receivers(&rt, ends) == Some(true));
 }
 
-// A stream is moved to another thread.
-fn stream_crosses<R>(rt: R)
+// A stream is moved to another thread, and dropped there.
+fn stream_crosses<R, S, E>(rt: &R, ends: Made<S, E>) -> Option<bool>
 where
-    R: Wait + Threads + Abort + Drop + Copy + RandomSource + AllocGlobal + Send + Sync,
+    R: Threads,
+    S: TriesToSend<u64>,
+    E: ReceivingEnd<u64>,
+    E::Items: Send,
 {
-    let (sender, receiver) = channel::<u64, R>(rt.alloc(), rt, 1).expect(&rt, "memory");
-    let stream = sends(receiver.into_stream().ok().expect(&rt, "memory"));
-    let (is_open, ()) = thread::join(&rt, move || !stream.is_terminated(), || ());
-    assert!(rt; is_open && sender.try_send(1).is_err());
-}
-
-// Ends and a receive of a channel of one value are moved to other threads.
-fn oneshot_crosses<R>(rt: R)
-where
-    R: Wait + Threads + Abort + Drop + Copy + RandomSource + AllocGlobal + Send + Sync,
-{
-    let (sender, receiver) = oneshot_channel::<u64, R>(rt.alloc(), rt).expect(&rt, "memory");
-    let receive = sends(receiver.receive().expect(&rt, "memory"));
-    let rt = &rt;
-    let (received, is_sent) = thread::join(
-        rt,
-        move || block_on(rt, receive).ok(),
-        move || sender.send(7).is_ok(),
-    );
-    assert!(*rt; is_sent && received == Some(Ok(Some(7))));
-}
-
-// The same of a broadcast.
-fn broadcast_crosses<R>(rt: R)
-where
-    R: Wait + Threads + Abort + Drop + Copy + RandomSource + AllocGlobal + Send + Sync,
-{
-    let ends = oneshot_broadcast_channel::<u64, R>(rt.alloc(), rt);
-    let (sender, receiver) = ends.expect(&rt, "memory");
-    let receive = sends(receiver.receive().expect(&rt, "memory"));
-    let rt = &rt;
-    let (received, is_sent) = thread::join(
-        rt,
-        move || block_on(rt, receive).ok(),
-        move || sender.send(7).is_ok(),
-    );
-    assert!(*rt; is_sent && received == Some(Ok(Some(7))));
-}
-
-// The same of states.
-fn state_crosses<R>(rt: R)
-where
-    R: Wait + Threads + Abort + Drop + Copy + RandomSource + AllocGlobal + Send + Sync,
-{
-    let ends = state_broadcast_channel::<u64, R>(rt.alloc(), rt);
-    let (sender, receiver) = ends.expect(&rt, "memory");
-    let receive = sends(receiver.receive(StateId::new()).expect(&rt, "memory"));
-    let rt = &rt;
-    let received = move || match block_on(rt, receive) {
-        Ok(Ok(Some((_, value)))) => value,
-        _ => 0,
-    };
-    let (value, is_sent) = thread::join(rt, received, move || sender.send(7).is_ok());
-    assert!(*rt; is_sent && value == 7);
+    let (sender, receiver) = ends.ok()?;
+    let stream = receiver.stream().ok()?;
+    drop(receiver);
+    let is_open = sender.try_send(1).is_ok();
+    let ((), ()) = thread::join(rt, move || drop(stream), || ());
+    Some(is_open && sender.try_send(2).is_err())
 }
 
 #[test]
 fn a_stream_crosses_threads(rt: HostRuntime) {
-    stream_crosses(rt);
+    let ends = channel::<u64, HostRuntime>(rt.alloc(), rt, 1);
+    assert!(rt; stream_crosses(&rt, ends) == Some(true));
+}
+
+// A sender and a receive are moved to other threads: whether the receive is answered so.
+fn crosses<R, S, F>(rt: &R, sender: S, receive: F, wanted: Answer<u64, u64>) -> bool
+where
+    R: Blocking + Threads + Sync,
+    S: SendsAtOnce<u64> + Send,
+    F: Pollable + Send,
+    F::Output: IntoAnswer,
+{
+    let receives = move || match block_on(rt, receive) {
+        Ok(received) => received.into_answer() == wanted,
+        Err(_) => false,
+    };
+    let (is_received, is_sent) = thread::join(rt, receives, move || sender.send(7).is_ok());
+    is_received && is_sent
+}
+
+fn one_value_crosses<R, S, E>(rt: &R, ends: Made<S, E>) -> Option<bool>
+where
+    R: Blocking + Threads + Sync,
+    S: SendsAtOnce<u64> + Send,
+    E: ReceivesOne<u64>,
+    E::Receive: Pollable + Future<Output = Result<Option<u64>, Fault>> + Send,
+{
+    let (sender, receiver) = ends.ok()?;
+    let receive = receiver.receive().ok()?;
+    Some(crosses(rt, sender, receive, Answer::Item(7)))
+}
+
+fn state_crosses<R, S, E>(rt: &R, ends: Made<S, E>) -> Option<bool>
+where
+    R: Blocking + Threads + Sync,
+    S: SendsAtOnce<u64> + Send,
+    E: ReceivesStates<u64>,
+    E::Receive: Pollable + Future<Output = Result<Option<(StateId, u64)>, Fault>> + Send,
+{
+    let (sender, receiver) = ends.ok()?;
+    let receive = receiver.receive(0).ok()?;
+    let wanted = Answer::State(StateId::from_value(1), 7);
+    Some(crosses(rt, sender, receive, wanted))
 }
 
 #[test]
 fn other_ends_cross_threads(rt: HostRuntime) {
-    oneshot_crosses(rt);
-    broadcast_crosses(rt);
-    state_crosses(rt);
+    let ends = oneshot_channel::<u64, HostRuntime>(rt.alloc(), rt);
+    assert!(rt; one_value_crosses(&rt, ends) == Some(true));
+    let ends = oneshot_broadcast_channel::<u64, HostRuntime>(rt.alloc(), rt);
+    assert!(rt; one_value_crosses(&rt, ends) == Some(true));
+    let ends = state_broadcast_channel::<u64, HostRuntime>(rt.alloc(), rt);
+    assert!(rt; state_crosses(&rt, ends) == Some(true));
 }

@@ -2,11 +2,13 @@
 //! `tests_sync`.
 ghost use Rattle.std.specs.Prelude.{◌≡◌};
 
-use futures::StreamExt;
+use crate::ends::Made;
+use fi_parts::Fault;
 use futures::task::Poll;
 use futures::test::MockTask;
+use futures::{Future, Stream, StreamExt};
 use futures_intrusive::blocking::{Blocking, wait_for};
-use futures_intrusive::channel::shared::{Receiver, Sender, channel};
+use futures_intrusive::channel::shared::{Sender, channel};
 use futures_intrusive::channel::{OneshotChannel, StateBroadcastChannel, StateId};
 use futures_intrusive::sync::SharedSemaphore;
 use std::alloc::AllocGlobal;
@@ -16,6 +18,8 @@ use std::sync::atomic::{AtomicU64, Ordering};
 use std::sync::ledger::{Blank, Ledger};
 use std::thread;
 use std::thread::Threads;
+use tests_driver::pollable::Pollable;
+use tests_ends_calls::{ClonedEnd, ReceivingEnd, StreamingEnd};
 
 const ROUNDS: u64 = 1000;
 
@@ -143,11 +147,24 @@ fn four_threads_share_a_semaphore(rt: HostRuntime) {
     shares::<HostRuntime, Brand>(rt, Blank::new(u64::MAX))
 }
 
+/// A sender that blocks.
+trait SendsBlocking: Drop {
+    fn send_blocking(&self, value: u64) -> bool;
+}
+
+impl<R: Blocking + Drop> SendsBlocking for Sender<u64, R> {
+    fn send_blocking(&self, value: u64) -> bool {
+        Sender::send_blocking(self, value).is_ok()
+    }
+}
+
 // Adds up what a stream gives, until no sender is left.
-fn adds_up<R: Blocking + Drop>(rt: &R, receiver: Receiver<u64, R>, sum: &AtomicU64) {
-    let Ok(mut stream) = receiver.into_stream() else {
-        return;
-    };
+fn adds_up<R, T>(rt: &R, stream: T, sum: &AtomicU64)
+where
+    R: Blocking,
+    T: StreamingEnd + Stream<Item = Result<u64, Fault>>,
+{
+    let mut stream = stream;
     for _ in 0..4 * ROUNDS + 1 {
         match wait_for(rt, stream.next()) {
             Ok(Some(Ok(value))) => sum.fetch_add(value, Ordering::SeqCst),
@@ -156,60 +173,65 @@ fn adds_up<R: Blocking + Drop>(rt: &R, receiver: Receiver<u64, R>, sum: &AtomicU
     }
 }
 
-// Sends a one in each round. Before it, a receive is polled and dropped; what it was told of it passes on, and what it was given is sent
-// again.
-fn sends_ones<R: Blocking + Drop>(rt: &R, sender: Sender<u64, R>, receiver: Receiver<u64, R>) {
-    let Ok(task) = MockTask::new(rt) else {
-        return;
-    };
-    for _ in 0..ROUNDS {
-        let Ok(mut receive) = receiver.receive() else {
-            return;
-        };
-        if let Poll::Ready(Ok(Some(value))) = task.poll(&mut receive) {
-            let _ = sender.send_blocking(value);
-        }
-        drop(receive);
-        let _ = sender.send_blocking(1);
+// A receive is polled and dropped; what it was told of it passes on, and what it was given is sent again.
+fn receives_in_vain<S, E>(task: &MockTask, sender: &S, receiver: &E) -> Option<bool>
+where
+    S: SendsBlocking,
+    E: ReceivingEnd<u64>,
+    E::Receive: Pollable + Future<Output = Result<Option<u64>, Fault>>,
+{
+    let mut receive = receiver.receive().ok()?;
+    match task.poll(&mut receive) {
+        Poll::Ready(Ok(Some(value))) => Some(sender.send_blocking(value)),
+        _ => Some(true),
     }
 }
 
-fn stream_all<'a, R>(
-    rt: &'a R,
-    sender: Sender<u64, R>,
-    receiver: Receiver<u64, R>,
-    sum: &'a AtomicU64,
-)
+// Sends a one in each round, behind a receive in vain.
+fn sends_ones<S, E>(task: &MockTask, sender: S, receiver: E)
 where
-    R: Blocking + Threads + Drop + Send + Sync,
+    S: SendsBlocking,
+    E: ReceivingEnd<u64>,
+    E::Receive: Pollable + Future<Output = Result<Option<u64>, Fault>>,
 {
+    for _ in 0..ROUNDS {
+        if receives_in_vain(task, &sender, &receiver) == Some(true) {
+            let _ = sender.send_blocking(1);
+        }
+    }
+}
+
+fn stream_all<'a, R, S, E>(rt: &'a R, ends: Made<S, E>, sum: &'a AtomicU64) -> Option<()>
+where
+    R: Blocking + Threads + Sync,
+    S: SendsBlocking + ClonedEnd + Send,
+    E: ReceivingEnd<u64> + ClonedEnd + Send,
+    E::Receive: Pollable + Future<Output = Result<Option<u64>, Fault>>,
+    E::Items: StreamingEnd + Stream<Item = Result<u64, Fault>> + Send,
+{
+    let (sender, receiver) = ends.ok()?;
     thread::scope(thread::scope_env(), rt, |scope| {
         for _ in 0..2 {
-            if let (Ok(own), Ok(streamed), Ok(other)) = (
-                sender.clone(),
-                receiver.clone(),
-                receiver.clone(),
+            if let (Ok(own), Ok(other), Ok(stream), Ok(task)) = (
+                sender.try_clone(),
+                receiver.try_clone(),
+                receiver.stream(),
+                MockTask::new(rt),
             ) {
-                let _ = scope.spawn(move || sends_ones(rt, own, other));
-                let _ = scope.spawn(move || adds_up(rt, streamed, sum));
+                let _ = scope.spawn(move || sends_ones(&task, own, other));
+                let _ = scope.spawn(move || adds_up(rt, stream, sum));
             }
         }
         drop(sender);
         drop(receiver);
     });
-}
-
-fn streams<R>(rt: R)
-where
-    R: Blocking + Threads + Abort + Drop + Copy + Send + Sync,
-{
-    let (sender, receiver) = channel::<u64, R>(rt.alloc(), rt, 3).expect(&rt, "memory");
-    let sum = AtomicU64::new(0);
-    stream_all(&rt, sender, receiver, &sum);
-    assert_eq!(rt; sum.load(Ordering::SeqCst), 2 * ROUNDS);
+    Some(())
 }
 
 #[test]
 fn two_streams_share_what_two_threads_send(rt: HostRuntime) {
-    streams(rt)
+    let sum = AtomicU64::new(0);
+    let ends = channel::<u64, HostRuntime>(rt.alloc(), rt, 3);
+    assert!(rt; stream_all(&rt, ends, &sum).is_some());
+    assert_eq!(rt; sum.load(Ordering::SeqCst), 2 * ROUNDS);
 }

@@ -1,76 +1,74 @@
 //! Bytes that ends deliver, whose clone takes memory: refused until there is enough, and then the same as to anybody else.
-use fi_channels::{ClonesValue, OneValueState};
 use fi_parts::{Fault, StateId};
-use fi_sync::PollWaker;
+use futures::Future;
 use futures::task::Poll;
 use futures::test::MockTask;
-use futures_intrusive::channel::shared::{
-    ChannelReceiveFuture, StateReceiveFuture, StateReceiver, oneshot_broadcast_channel,
-    state_broadcast_channel,
-};
-use std::alloc::AllocGlobal;
-use std::process::Abort;
-use std::random::RandomSource;
-use std::sync::Wait;
+use futures_intrusive::channel::shared::{oneshot_broadcast_channel, state_broadcast_channel};
+use std::alloc::{AllocGlobal, Global};
+use std::test::Fail;
+use tests_driver::pollable::Pollable;
 use tests_driver::refusals::hoard::Hoard;
 use tests_driver::refusals::making::{Making, tries};
+use tests_ends_calls::{ReceivesOne, ReceivesStates, SendsAtOnce};
 
 const BYTES: &[u8] = b"seven and seventy bytes";
 
-/// A receive, and whether it has delivered the bytes.
+/// What a receive delivers.
+#[derive(Clone, Copy, PartialEq, Eq, Drop)]
+enum Delivery {
+    Bytes,
+    NoMemory,
+    Other,
+}
+
+impl Delivery {
+    fn of(received: &Result<Option<Vec<u8>>, Fault>) -> Self {
+        match received {
+            Ok(Some(value)) if value.as_slice() == BYTES => Delivery::Bytes,
+            Err(Fault::NoMemory { .. }) => Delivery::NoMemory,
+            _ => Delivery::Other,
+        }
+    }
+}
+
+trait Delivers: Drop {
+    fn delivery(self) -> Delivery;
+}
+
+impl Delivers for Result<Option<Vec<u8>>, Fault> {
+    fn delivery(self) -> Delivery {
+        Delivery::of(&self)
+    }
+}
+
+impl Delivers for Result<Option<(StateId, Vec<u8>)>, Fault> {
+    fn delivery(self) -> Delivery {
+        match self {
+            Ok(Some((_, value))) => Delivery::of(&Ok(Some(value))),
+            Ok(None) => Delivery::Other,
+            Err(fault) => Delivery::of(&Err(fault)),
+        }
+    }
+}
+
+/// A receive, and what it delivered when it was polled last.
 #[derive(Drop)]
-struct Polls<F> {
-    task: MockTask,
+struct Polls<'a, F: Drop> {
+    task: &'a MockTask,
     receive: F,
-    is_delivered: bool,
+    delivery: Delivery,
 }
 
-impl<F> Polls<F> {
-    fn new<R: Abort + RandomSource + AllocGlobal>(rt: &R, receive: F) -> Self {
-        Polls {
-            task: MockTask::new(rt).expect(rt, "memory"),
-            receive,
-            is_delivered: false,
-        }
-    }
-}
-
-type OneValue<R> = ChannelReceiveFuture<OneValueState<Vec<u8>, PollWaker, ClonesValue>, R>;
-
-impl<R: Wait + Drop> Making for Polls<OneValue<R>> {
+impl<F: Pollable> Making for Polls<'_, F>
+where
+    F::Output: Delivers,
+{
     fn is_refused(&mut self) -> bool {
-        match self.task.poll(&mut self.receive) {
-            Poll::Ready(Ok(Some(value))) => {
-                self.is_delivered = value.as_slice() == BYTES;
-                false
-            }
-            Poll::Ready(Err(Fault::NoMemory { .. })) => true,
-            _ => false,
-        }
-    }
-}
-
-impl<R: Wait + Drop> Making for Polls<StateReceiveFuture<Vec<u8>, R>> {
-    fn is_refused(&mut self) -> bool {
-        match self.task.poll(&mut self.receive) {
-            Poll::Ready(received) => is_state_refused(received, &mut self.is_delivered),
-            Poll::Pending => false,
-        }
-    }
-}
-
-// Whether a receive of a state was refused; else notes whether it delivered the bytes.
-fn is_state_refused(
-    received: Result<Option<(StateId, Vec<u8>)>, Fault>,
-    is_delivered: &mut bool,
-) -> bool {
-    match received {
-        Ok(Some((_, value))) => {
-            *is_delivered = value.as_slice() == BYTES;
-            false
-        }
-        Err(Fault::NoMemory { .. }) => true,
-        _ => false,
+        self.delivery = match self.task.poll(&mut self.receive) {
+            Poll::Ready(received) => received.delivery(),
+            Poll::Pending => Delivery::Other,
+        };
+        self.delivery == Delivery::NoMemory
     }
 }
 
@@ -78,46 +76,99 @@ fn is_state_refused(
 #[derive(Drop)]
 struct AtOnce<'a, E> {
     receiver: &'a E,
-    is_delivered: bool,
+    delivery: Delivery,
 }
 
-impl<R: Wait + Drop> Making for AtOnce<'_, StateReceiver<Vec<u8>, R>> {
+impl<E: ReceivesStates<Vec<u8>>> Making for AtOnce<'_, E> {
     fn is_refused(&mut self) -> bool {
-        let received = self.receiver.try_receive(StateId::new());
-        is_state_refused(received, &mut self.is_delivered)
+        self.delivery = self.receiver.try_receive(0).delivery();
+        self.delivery == Delivery::NoMemory
     }
 }
 
-fn bytes(rt: &(impl Abort + AllocGlobal)) -> Vec<u8> {
-    Vec::from_slice(rt.alloc(), BYTES).expect(rt, "memory")
+// Whether a receive that waits is told of the bytes, refused until there is enough memory, and then given them.
+fn waits_for_bytes<S, F>(
+    alloc: Global,
+    task: &MockTask,
+    hoard: &mut Hoard,
+    sender: &S,
+    receive: F,
+) -> Option<bool>
+where
+    S: SendsAtOnce<Vec<u8>>,
+    F: Pollable,
+    F::Output: Delivers,
+{
+    let mut polls = Polls {
+        task,
+        receive,
+        delivery: Delivery::Other,
+    };
+    let waits = !polls.is_refused() && polls.delivery == Delivery::Other;
+    sender.send(Vec::from_slice(alloc, BYTES).ok()?).ok()?;
+    let is_told = waits && task.is_woken();
+    let is_right = tries(hoard, &mut polls).is_right(1);
+    Some(is_told && is_right && polls.delivery == Delivery::Bytes)
+}
+
+// Of one value, which a second receive gets too.
+fn delivers_one_value<S, E>(
+    alloc: Global,
+    task: &MockTask,
+    hoard: &mut Hoard,
+    ends: Result<(S, E), Fault>,
+) -> Option<bool>
+where
+    S: SendsAtOnce<Vec<u8>>,
+    E: ReceivesOne<Vec<u8>>,
+    E::Receive: Pollable + Future<Output = Result<Option<Vec<u8>>, Fault>>,
+{
+    let (sender, receiver) = ends.ok()?;
+    let receive = receiver.receive().ok()?;
+    let comes = waits_for_bytes(alloc, task, hoard, &sender, receive)?;
+    let mut again = Polls {
+        task,
+        receive: receiver.receive().ok()?,
+        delivery: Delivery::Other,
+    };
+    Some(comes && !again.is_refused() && again.delivery == Delivery::Bytes)
 }
 
 #[test]
-fn deliveries_of_one_value(rt: HostRuntime) {
-    let mut hoard = Hoard::new(rt.alloc()).expect(&rt, "memory");
+fn deliveries_of_one_value(rt: HostRuntime) -> Result<(), Fail> {
+    let (mut hoard, task) = (Hoard::new(rt.alloc())?, MockTask::new(&rt)?);
     let ends = oneshot_broadcast_channel::<Vec<u8>, HostRuntime>(rt.alloc(), rt);
-    let (sender, receiver) = ends.expect(&rt, "memory");
-    let mut polls = Polls::new(&rt, receiver.receive().expect(&rt, "memory"));
-    assert!(rt; !polls.is_refused() && sender.send(bytes(&rt)).is_ok() && polls.task.is_woken());
-    let tried = tries(&mut hoard, &mut polls);
-    assert!(rt; tried.is_right(1) && polls.is_delivered, "{tried:?}");
-    let mut again = Polls::new(&rt, receiver.receive().expect(&rt, "memory"));
-    assert!(rt; !again.is_refused() && again.is_delivered);
+    assert!(rt; delivers_one_value(rt.alloc(), &task, &mut hoard, ends) == Some(true));
+    Ok(())
 }
 
-#[test]
-fn deliveries_of_states(rt: HostRuntime) {
-    let mut hoard = Hoard::new(rt.alloc()).expect(&rt, "memory");
-    let ends = state_broadcast_channel::<Vec<u8>, HostRuntime>(rt.alloc(), rt);
-    let (sender, receiver) = ends.expect(&rt, "memory");
-    let mut polls = Polls::new(&rt, receiver.receive(StateId::new()).expect(&rt, "memory"));
-    assert!(rt; !polls.is_refused() && sender.send(bytes(&rt)).is_ok() && polls.task.is_woken());
-    let tried = tries(&mut hoard, &mut polls);
-    assert!(rt; tried.is_right(1) && polls.is_delivered, "{tried:?}");
+// Of a state, which a receive at once gets too, refused until there is enough memory.
+fn delivers_states<S, E>(
+    alloc: Global,
+    task: &MockTask,
+    hoard: &mut Hoard,
+    ends: Result<(S, E), Fault>,
+) -> Option<bool>
+where
+    S: SendsAtOnce<Vec<u8>>,
+    E: ReceivesStates<Vec<u8>>,
+    E::Receive: Pollable + Future<Output = Result<Option<(StateId, Vec<u8>)>, Fault>>,
+{
+    let (sender, receiver) = ends.ok()?;
+    let receive = receiver.receive(0).ok()?;
+    let comes = waits_for_bytes(alloc, task, hoard, &sender, receive)?;
     let mut at_once = AtOnce {
         receiver: &receiver,
-        is_delivered: false,
+        delivery: Delivery::Other,
     };
-    let tried = tries(&mut hoard, &mut at_once);
-    assert!(rt; tried.is_right(1) && at_once.is_delivered, "{tried:?}");
+    let is_right = tries(hoard, &mut at_once).is_right(1);
+    Some(comes && is_right && at_once.delivery == Delivery::Bytes)
+}
+
+#[test]
+fn deliveries_of_states(rt: HostRuntime) -> Result<(), Fail> {
+    let (mut hoard, task) = (Hoard::new(rt.alloc())?, MockTask::new(&rt)?);
+    let ends = state_broadcast_channel::<Vec<u8>, HostRuntime>(rt.alloc(), rt);
+    assert!(rt; delivers_states(rt.alloc(), &task, &mut hoard, ends) == Some(true));
+    Ok(())
 }

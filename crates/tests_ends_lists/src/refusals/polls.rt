@@ -1,34 +1,35 @@
 //! Worked rows played on ends with no memory left, but for the makings: all other calls are answered, and wake, as ever.
-use std::alloc::AllocGlobal;
-use std::process::Abort;
-use std::random::RandomSource;
-use std::sync::Wait;
+use fi_channels::{ChannelState, OneshotBroadcastState, OneshotState, StateBroadcastState};
+use fi_parts::buffer::GrowingHeapBuf;
+use tests_driver::Played;
 use tests_driver::refusals::rows::play_starved;
-use tests_driver::rows::{channel, one_value, state, streams};
-use tests_driver::worked::Entry;
-use tests_driver::{Flavour, Played};
 use tests_ends_driver::channel_ends::{ChannelEnds, Closer};
 use tests_ends_driver::ends::{BroadcastEnds, OneshotEnds, StateEnds};
-
-// Asserts that each call of the row but a making is answered as it says with no memory left, and wakes whom it says.
-fn assert_starves<R, F: Flavour<R>>(rt: &R, flavour: &F, row: &[Entry<F::Call>])
-where
-    R: Wait + Abort + RandomSource + AllocGlobal,
-{
-    let played = play_starved(rt, flavour, row);
-    assert!(*rt; played == Played::AsListed, "{played:?}");
-}
+use tests_rows::{channel, one_value, state, text_of};
 
 #[test]
 fn calls_on_channels_of_one_value_take_no_memory(rt: HostRuntime) {
-    assert_starves(&rt, &OneshotEnds, &one_value::ONE_VALUE[..8]);
-    assert_starves(&rt, &BroadcastEnds, &one_value::CLONES[..7]);
+    let row = text_of(&one_value::ONESHOT, "oneshot_one_value");
+    let oneshot = play_starved::<_, OneshotState<u64, u64>, _>(&rt, &OneshotEnds, (), row);
+    let row = text_of(&one_value::BROADCAST, "broadcast_clones");
+    let broadcast = play_starved::<_, OneshotBroadcastState<u64, u64>, _>(
+        &rt,
+        &BroadcastEnds,
+        (),
+        row,
+    );
+    let played = oneshot.and(broadcast);
+    assert!(rt; played == Played::AsListed, "{played:?}");
 }
 
 #[test]
 fn calls_on_a_state_broadcast_take_no_memory(rt: HostRuntime) {
-    assert_starves(&rt, &StateEnds, &state::numbers()[..8]);
+    let row = text_of(&state::ROWS, "state_broadcast_numbers");
+    let played = play_starved::<_, StateBroadcastState<u64, u64>, _>(&rt, &StateEnds, (), row);
+    assert!(rt; played == Played::AsListed, "{played:?}");
 }
+
+type Growing = ChannelState<u64, GrowingHeapBuf<u64>, u64>;
 
 #[test]
 fn calls_on_channels_take_no_memory(rt: HostRuntime) {
@@ -36,6 +37,9 @@ fn calls_on_channels_take_no_memory(rt: HostRuntime) {
         capacity: 0,
         closer: Closer::Stream,
     };
-    assert_starves(&rt, ends, &channel::CANCELS_HELD);
-    assert_starves(&rt, ends, &streams::RENDEZVOUS);
+    let row = text_of(&channel::ROWS, "channel_cancels_held");
+    let receives = play_starved::<_, Growing, _>(&rt, ends, 0, row);
+    let row = text_of(&channel::ROWS, "stream_rendezvous");
+    let played = receives.and(play_starved::<_, Growing, _>(&rt, ends, 0, row));
+    assert!(rt; played == Played::AsListed, "{played:?}");
 }

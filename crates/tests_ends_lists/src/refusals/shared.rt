@@ -1,4 +1,5 @@
 //! Pairs of ends, and a receiver that is made into a stream, refused until there is enough memory.
+use fi_parts::Fault;
 use fi_parts::buffer::FixedHeapBuf;
 use futures_intrusive::channel::shared::{
     Receiver, channel, generic_channel, oneshot_broadcast_channel, oneshot_channel,
@@ -22,14 +23,19 @@ impl<R: Wait + Drop + Copy> Making for Ends<R> {
     fn is_refused(&mut self) -> bool {
         let (alloc, rt) = (self.alloc, self.rt);
         match self.kind {
-            0 => channel::<u64, R>(alloc, rt, 1).is_err(),
-            1 => unbuffered_channel::<u64, R>(alloc, rt).is_err(),
-            2 => oneshot_channel::<u64, R>(alloc, rt).is_err(),
-            3 => oneshot_broadcast_channel::<u64, R>(alloc, rt).is_err(),
-            4 => state_broadcast_channel::<u64, R>(alloc, rt).is_err(),
-            _ => generic_channel::<u64, FixedHeapBuf<u64>, R>(alloc, rt, 40).is_err(),
+            0 => is_refused(channel::<u64, R>(alloc, rt, 1)),
+            1 => is_refused(unbuffered_channel::<u64, R>(alloc, rt)),
+            2 => is_refused(oneshot_channel::<u64, R>(alloc, rt)),
+            3 => is_refused(oneshot_broadcast_channel::<u64, R>(alloc, rt)),
+            4 => is_refused(state_broadcast_channel::<u64, R>(alloc, rt)),
+            _ => is_refused(generic_channel::<u64, FixedHeapBuf<u64>, R>(alloc, rt, 40)),
         }
     }
+}
+
+// Drops what was made.
+fn is_refused<T: Drop>(made: Result<T, Fault>) -> bool {
+    made.is_err()
 }
 
 #[test]

@@ -5,7 +5,8 @@ ghost use Rattle.futures_intrusive.specs.Blanks.{IsPermitBlank};
 use futures_intrusive::blocking::Blocking;
 use futures_intrusive::buffer::GrowingHeapBuf;
 use futures_intrusive::channel::{
-    Channel, ChannelSendError, GenericChannel, OneshotChannel, TrySendError,
+    Channel, ChannelSendError, GenericChannel, OneshotBroadcastChannel, OneshotChannel,
+    TrySendError,
 };
 use futures_intrusive::sync::SharedSemaphore;
 use std::marker::Brand;
@@ -23,6 +24,14 @@ fn try_send_error(rt: HostRuntime) {
 fn channel_send_error(rt: HostRuntime) {
     let channel = OneshotChannel::<u64, HostRuntime>::new(rt.alloc(), rt);
     assert!(rt; channel.send(5) == Ok(()) && channel.send(6) == Err(ChannelSendError(6)));
+}
+
+#[test]
+fn oneshot_broadcast_channel(rt: HostRuntime) {
+    let news = OneshotBroadcastChannel::<u64, HostRuntime>::new(rt.alloc(), rt);
+    assert!(rt; news.send(5).is_ok());
+    assert!(rt; news.receive_blocking() == Ok(Some(5))); // a clone, for each who asks
+    assert!(rt; news.receive_blocking() == Ok(Some(5)));
 }
 
 #[test]

@@ -7,7 +7,7 @@ use std::alloc::AllocGlobal;
 use std::random::RandomSource;
 use std::sync::Wait;
 use tests_driver::drawn::{Calls, Lists, play_lists};
-use tests_driver::mutex::MutexOfSeven;
+use tests_driver::mutex::MutexOf;
 
 const MAKINGS: [MutexCall<u64, u64>; 4] = [MutexCall::Lock; 4];
 
@@ -33,7 +33,7 @@ where
         makings: &MAKINGS,
         choices: &CHOICES,
     };
-    let mutex = &MutexOfSeven { is_fair };
+    let mutex = &MutexOf { value: 7, is_fair };
     let opening = (7, is_fair);
     let short = play_lists::<R, MutexState<u64, u64>, _>(rt, mutex, opening, calls, 2_000, 3);
     let long = play_lists::<R, MutexState<u64, u64>, _>(rt, mutex, opening, calls, 2_000, 6);

@@ -1,0 +1,127 @@
+//! What a thread waits for, and what another thread does then.
+
+use fi_sync::Blocking;
+use futures::Future;
+use futures::executor::block_on;
+use std::alloc::{Alloc, AllocGlobal, Global};
+use std::random::RandomSource;
+use std::sync::Wait;
+use std::sync::atomic::{AtomicBool, AtomicU64, Ordering};
+use std::thread::Threads;
+use std::time::{Clock, Duration};
+use std::{io, thread};
+
+mod channels;
+mod locks;
+mod signals;
+
+pub(crate) use channels::{Receives, SendWaits, Sends};
+pub(crate) use signals::{Limited, Moment};
+
+/// What another thread brings about.
+pub(crate) trait Waited {
+    /// What that thread needs for it: a guard, a releaser, or nothing.
+    type Means;
+
+    /// Takes what stands in the way of the wait.
+    fn hold(&self) -> Option<Self::Means>;
+
+    fn bring(&self, means: Self::Means);
+}
+
+/// A call that blocks until then.
+pub(crate) trait Blocks: Waited {
+    /// Makes the call. Answers whether it is given what it should be.
+    fn blocks(&self) -> bool;
+}
+
+/// A future that is ready then.
+pub(crate) trait Crosses: Waited {
+    type Future;
+
+    fn future(&self) -> Option<Self::Future>;
+
+    /// Whether an executor is given what it should be.
+    fn is_given<R: Blocking>(&self, rt: &R, future: Self::Future) -> bool;
+}
+
+// What an executor is given by this future. None where no executor can be made. No clause says more, which keeps the proofs of those who
+// look at it small.
+fn given<R: Blocking, F: Future>(rt: &R, future: F) -> Option<F::Output>
+    requires { F.can_poll future }
+{
+    block_on(rt, future).ok()
+}
+
+/// Whether a future that is moved to a thread is ready once another has brought about what it waits for.
+pub(crate) fn has_crossed<R, W>(rt: &R, waited: W) -> bool
+where
+    R: Blocking + Threads + Sync,
+    W: Crosses + Copy + Send,
+    W::Means: Drop + Send,
+    W::Future: Drop + Send,
+{
+    let (Some(means), Some(future)) = (waited.hold(), waited.future()) else {
+        return false;
+    };
+    let waits = move || waited.is_given(rt, future);
+    let (is_given, ()) = thread::join(rt, waits, move || waited.bring(means));
+    is_given
+}
+
+/// Whether a call blocks until another thread, 20 milliseconds later, has brought about what it waits for.
+pub(crate) fn has_blocked<R, W>(rt: &R, waited: W) -> bool
+where
+    R: Clock + Threads + Sync,
+    W: Blocks + Copy + Send,
+    W::Means: Drop + Send,
+{
+    let Some(means) = waited.hold() else {
+        return false;
+    };
+    let is_brought = &AtomicBool::new(false);
+    let waits = move || waited.blocks() && is_brought.load(Ordering::SeqCst);
+    let brings = move || {
+        thread::sleep(rt, Duration::from_millis(20));
+        is_brought.store(true, Ordering::SeqCst);
+        waited.bring(means);
+    };
+    let (is_right, ()) = thread::join(rt, waits, brings);
+    is_right
+}
+
+/// A runtime that counts the executors that are made by it: each takes its random bytes once. A call that only tries, again and again,
+/// makes none; one that blocks anew, again and again, makes many.
+#[derive(Clone, Copy, Drop)]
+pub(crate) struct Counting<'a, R> {
+    rt: R,
+    executors: &'a AtomicU64,
+}
+
+impl<'a, R: Copy> Counting<'a, R> {
+    pub(crate) fn new(rt: &R, executors: &'a AtomicU64) -> Self {
+        Counting { rt: *rt, executors }
+    }
+}
+
+impl<R: Wait> Wait for Counting<'_, R> {}
+
+impl<R: RandomSource> RandomSource for Counting<'_, R> {
+    fn fill_bytes(&self, bytes: &mut [u8]) -> io::Result<()> {
+        self.executors.fetch_add(1, Ordering::SeqCst);
+        self.rt.fill_bytes(bytes)
+    }
+}
+
+impl<R: AllocGlobal> Alloc for Counting<'_, R> {
+    type A = Global;
+
+    fn alloc(&self) -> Global {
+        self.rt.alloc()
+    }
+}
+
+/// Whether one executor was made.
+pub(crate) fn is_one(executors: &AtomicU64) -> bool {
+    executors.load(Ordering::SeqCst) == 1
+}
