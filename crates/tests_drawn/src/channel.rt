@@ -284,12 +284,25 @@ fn agrees<B: RingBuf<Item = u64>>(
     agree::<ChannelState<u64, B, u64>, PlainChannel>(alloc, capacity, reference, &case)
 }
 
+fn agrees_with_each_capacity<B: RingBuf<Item = u64>>(
+    alloc: Global,
+    has_streams: bool,
+) -> Result<bool, Fail> {
+    for capacity in 0..3 {
+        if !agrees::<B>(alloc, capacity, has_streams)? {
+            return Ok(false);
+        }
+    }
+    Ok(true)
+}
+
 fn agrees_over_each(alloc: Global, has_streams: bool) -> Result<bool, Fail> {
     Ok(
         agrees::<ArrayBuf<u64, 0>>(alloc, 0, has_streams)?
             && agrees::<ArrayBuf<u64, 1>>(alloc, 1, has_streams)?
-            && agrees::<FixedHeapBuf<u64>>(alloc, 2, has_streams)?
-            && agrees::<GrowingHeapBuf<u64>>(alloc, 2, has_streams)?,
+            && agrees::<ArrayBuf<u64, 2>>(alloc, 2, has_streams)?
+            && agrees_with_each_capacity::<FixedHeapBuf<u64>>(alloc, has_streams)?
+            && agrees_with_each_capacity::<GrowingHeapBuf<u64>>(alloc, has_streams)?,
     )
 }
 

@@ -124,7 +124,12 @@ fn drawn_schedules_of_a_state_broadcast(rt: HostRuntime) -> Result<(), Fail> {
             StateCall::Cancel(Slot(2)),
             StateCall::Cancel(Slot(3)),
         ],
-        others: &[StateCall::Send(5), StateCall::Close],
+        others: &[
+            StateCall::TryReceive(StateId::from_value(0)),
+            StateCall::TryReceive(StateId::from_value(1)),
+            StateCall::Send(5),
+            StateCall::Close,
+        ],
     };
     assert!(rt;
         agree::<StateBroadcastState<u64, u64>, PlainState>(rt.alloc(), (), reference, &case)?

@@ -1,7 +1,7 @@
 //! The ends of the state broadcast.
 
 use fi_channels::StateBroadcastState;
-use tests_driver::drawn::state::{CHOICES, makings};
+use tests_driver::drawn::state::{choices, makings};
 use tests_driver::drawn::{Calls, play_lists};
 use tests_ends_driver::ends::StateEnds;
 
@@ -9,7 +9,7 @@ use tests_ends_driver::ends::StateEnds;
 fn drawn_calls_on_state_ends(rt: HostRuntime) {
     let calls = Calls {
         makings: &makings(),
-        choices: &CHOICES[..9],
+        choices: &choices()[..11],
     };
     let tried = play_lists::<_, StateBroadcastState<u64, u64>, _>(
         &rt,

@@ -17,6 +17,8 @@ const MAKINGS: [SemaphoreCall<u64>; 4] = [
     SemaphoreCall::Acquire(1),
 ];
 
+const OF_TWO: [SemaphoreCall<u64>; 4] = [SemaphoreCall::Acquire(2); 4];
+
 const CHOICES: [SemaphoreCall<u64>; 11] = [
     SemaphoreCall::Poll(Slot(0), 1),
     SemaphoreCall::Poll(Slot(1), 2),
@@ -41,14 +43,14 @@ const UNFAIR: Opening = Opening {
     permits: 1,
 };
 
-// Two thousand lists of three calls, and as many of eight.
-fn try_calls<R, F>(rt: &R, flavour: &F, is_fair: bool) -> Lists
+// Two thousand lists of three calls behind these makings, and as many of eight.
+fn try_calls<R, F>(rt: &R, flavour: &F, is_fair: bool, makings: &[SemaphoreCall<u64>]) -> Lists
 where
     R: Wait + RandomSource + AllocGlobal,
     F: Flavour<R, Call = SemaphoreCall<u64>>,
 {
     let calls = Calls {
-        makings: &MAKINGS,
+        makings,
         choices: &CHOICES,
     };
     let opening = (1, is_fair);
@@ -59,24 +61,28 @@ where
 
 #[test]
 fn drawn_calls_on_a_fair_semaphore(rt: HostRuntime) {
-    let tried = try_calls(&rt, &ByReference(FAIR), true);
+    let tried = try_calls(&rt, &ByReference(FAIR), true, &MAKINGS);
     assert!(rt; tried.are_right(), "{tried:?}");
 }
 
 #[test]
 fn drawn_calls_on_an_unfair_semaphore(rt: HostRuntime) {
-    let tried = try_calls(&rt, &ByReference(UNFAIR), false);
+    let tried = try_calls(&rt, &ByReference(UNFAIR), false, &MAKINGS);
+    assert!(rt; tried.are_right(), "{tried:?}");
+    let tried = try_calls(&rt, &ByReference(UNFAIR), false, &OF_TWO);
     assert!(rt; tried.are_right(), "{tried:?}");
 }
 
 #[test]
 fn drawn_calls_on_a_fair_shared_semaphore(rt: HostRuntime) {
-    let tried = try_calls(&rt, &ByOwners(FAIR), true);
+    let tried = try_calls(&rt, &ByOwners(FAIR), true, &MAKINGS);
     assert!(rt; tried.are_right(), "{tried:?}");
 }
 
 #[test]
 fn drawn_calls_on_an_unfair_shared_semaphore(rt: HostRuntime) {
-    let tried = try_calls(&rt, &ByOwners(UNFAIR), false);
+    let tried = try_calls(&rt, &ByOwners(UNFAIR), false, &MAKINGS);
+    assert!(rt; tried.are_right(), "{tried:?}");
+    let tried = try_calls(&rt, &ByOwners(UNFAIR), false, &OF_TWO);
     assert!(rt; tried.are_right(), "{tried:?}");
 }

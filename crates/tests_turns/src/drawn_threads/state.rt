@@ -1,7 +1,7 @@
 //! The state broadcast.
 
 use fi_channels::StateBroadcastState;
-use tests_driver::drawn::state::{CHOICES, makings};
+use tests_driver::drawn::state::{choices, makings};
 use tests_driver::drawn::{Calls, play_lists};
 use tests_driver::state::StateBroadcast;
 
@@ -9,7 +9,7 @@ use tests_driver::state::StateBroadcast;
 fn drawn_calls_on_a_state_broadcast(rt: HostRuntime) {
     let calls = Calls {
         makings: &makings(),
-        choices: &CHOICES,
+        choices: &choices(),
     };
     let tried = play_lists::<_, StateBroadcastState<u64, u64>, _>(
         &rt,
