@@ -145,30 +145,37 @@ fn a_wait_blocks_until_the_event_is_set(rt: HostRuntime) {
     assert!(rt; has_blocked(&rt, &event) && is_one(executors));
 }
 
-// Whether waits for a moment, and for an event with a limit that is far off, block.
-fn timer_blocks<R>(rt: &R) -> bool
+// Whether a wait for an event, with a limit that is far off, blocks.
+fn limit_blocks<'a, R>(rt: &R, time: &'a AtomicU64, executors: &'a AtomicU64) -> bool
 where
     R: Blocking + Clock + Threads + Copy + Send + Sync,
 {
-    let time = &AtomicU64::new(0);
-    let executors = &AtomicU64::new(0);
-    let counting = Counting::new(rt, executors);
-    let timer = &TimerService::new(rt.alloc(), counting, Shown { time });
-    let event = &ManualResetEvent::new(rt.alloc(), counting, false);
-    if !has_blocked(rt, Limited { timer, event }) || !is_one(executors) {
-        return false;
-    }
+    let timer = Counting::new(rt, executors);
+    let timer = &TimerService::new(rt.alloc(), timer, Shown { time });
+    let event = Counting::new(rt, executors);
+    let event = &ManualResetEvent::new(rt.alloc(), event, false);
+    has_blocked(rt, Limited { timer, event }) && is_one(executors)
+}
+
+// Whether a wait for a moment blocks.
+fn moment_blocks<'a, R>(rt: &R, time: &'a AtomicU64, executors: &'a AtomicU64) -> bool
+where
+    R: Blocking + Clock + Threads + Copy + Send + Sync,
+{
+    let timer = Counting::new(rt, executors);
+    let timer = &TimerService::new(rt.alloc(), timer, Shown { time });
     let moment = Moment {
-        rt: &counting,
+        rt: &Counting::new(rt, executors),
         time,
         timer,
     };
-    has_blocked(rt, moment) && executors.load(Ordering::SeqCst) == 2
+    has_blocked(rt, moment) && is_one(executors)
 }
 
 #[test]
 fn waits_by_a_timer_block(rt: HostRuntime) {
-    assert!(rt; timer_blocks(&rt));
+    assert!(rt; limit_blocks(&rt, &AtomicU64::new(0), &AtomicU64::new(0)));
+    assert!(rt; moment_blocks(&rt, &AtomicU64::new(0), &AtomicU64::new(0)));
 }
 
 fn lock_blocks<R, L: Ledger + Send + Sync>(rt: &R, blank: Blank, is_fair: bool) -> bool

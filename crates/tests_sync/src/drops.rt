@@ -210,19 +210,23 @@ fn ended<'a, 'b, R: Wait>(
 }
 
 // A receive that has ended is dropped while another thread clones the state, for which it holds the lock.
-fn is_dropped<R: Blocking + Threads + Copy + Send + Sync>(rt: R) -> Option<bool> {
-    let meeting = &Meeting::new();
-    let channel = &StateBroadcastChannel::new(rt.alloc(), rt);
-    let task = MockTask::new(&rt).ok()?;
+fn is_dropped<'a, 'b, R: Blocking + Threads + Send + Sync>(
+    rt: &R,
+    meeting: &'b Meeting,
+    channel: &'a StateBroadcastChannel<Host<'b>, R>,
+) -> Option<bool> {
+    let task = MockTask::new(rt).ok()?;
     let receive = ended(channel, &task)?;
     let host = Host {
         meeting: Some(meeting),
     };
     channel.send(host).ok()?;
-    Some(have_met(&rt, meeting, &Clones { channel }, Drops(receive)))
+    Some(have_met(rt, meeting, &Clones { channel }, Drops(receive)))
 }
 
 #[test]
 fn an_ended_receive_is_dropped_without_the_lock(rt: HostRuntime) {
-    assert!(rt; is_dropped(rt) == Some(true));
+    let meeting = &Meeting::new();
+    let channel = &StateBroadcastChannel::new(rt.alloc(), rt);
+    assert!(rt; is_dropped(&rt, meeting, channel) == Some(true));
 }

@@ -169,8 +169,9 @@ where
     }
 }
 
-// Three workers wait, and once all are registered one thread tells them to stop. How many stop, and how many polls they make.
-fn stop_workers<R: Blocking + Threads + Copy + Send + Sync>(rt: R) -> (u64, u64) {
+// Three workers wait, and once all are registered one thread tells them to stop.
+#[test]
+fn shutdown_signal(rt: HostRuntime) {
     let rt = &rt;
     let shutdown = &ManualResetEvent::new(rt.alloc(), *rt, false);
     let stopped = &AtomicU64::new(0);
@@ -187,14 +188,6 @@ fn stop_workers<R: Blocking + Threads + Copy + Send + Sync>(rt: R) -> (u64, u64)
         let _ = were_polled(polls, 3);
         shutdown.set();
     });
-    (stopped.load(Ordering::SeqCst), polls.load(Ordering::SeqCst))
-}
-
-#[test]
-fn shutdown_signal(rt: HostRuntime) {
-    let (stopped, polls) = stop_workers(rt);
-    assert!(rt;
-        stopped == 3 && polls >= 6,
-        "{stopped} stopped, {polls} polls"
-    );
+    assert_eq!(*rt; stopped.load(Ordering::SeqCst), 3);
+    assert!(*rt; polls.load(Ordering::SeqCst) >= 6);
 }

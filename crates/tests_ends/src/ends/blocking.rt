@@ -135,8 +135,20 @@ fn receives_block_until_a_value_or_the_end_comes(rt: HostRuntime) {
     for wanted in [Answer::Item(7), Answer::Nothing] {
         let ends = channel::<u64, HostRuntime>(rt.alloc(), rt, 1);
         assert!(rt; receives(&rt, ends, wanted));
+    }
+}
+
+#[test]
+fn receives_of_a_oneshot_block_until_its_value_or_the_end_comes(rt: HostRuntime) {
+    for wanted in [Answer::Item(7), Answer::Nothing] {
         let ends = oneshot_channel::<u64, HostRuntime>(rt.alloc(), rt);
         assert!(rt; receives(&rt, ends, wanted));
+    }
+}
+
+#[test]
+fn receives_of_a_broadcast_block_until_its_value_or_the_end_comes(rt: HostRuntime) {
+    for wanted in [Answer::Item(7), Answer::Nothing] {
         let ends = oneshot_broadcast_channel::<u64, HostRuntime>(rt.alloc(), rt);
         assert!(rt; receives(&rt, ends, wanted));
     }

@@ -4,9 +4,10 @@ use super::Made;
 use fi_channels::SendFault;
 use futures::Future;
 use futures::test::MockTask;
-use futures_intrusive::channel::shared::{channel, state_broadcast_channel};
+use futures_intrusive::channel::shared::{StateSender, channel, state_broadcast_channel};
 use std::alloc::{AllocError, AllocGlobal};
 use std::rc::Rc;
+use std::sync::Wait;
 use std::sync::atomic::{AtomicBool, Ordering};
 use std::test::Fail;
 use std::thread::{self, Threads};
@@ -186,6 +187,18 @@ fn calls<S: SaysClosed>(sender: &S, meeting: &Meeting) -> Option<bool> {
     has_begun.then_some(is_closed)
 }
 
+// Drops the last receiver while another thread calls.
+fn drop_meets<R, S, E>(rt: &R, sender: &S, receiver: E, meeting: &Meeting) -> Option<bool>
+where
+    R: Threads,
+    S: SaysClosed + Sync,
+    E: Drop + Send,
+{
+    let call = move || calls(sender, meeting);
+    let ((), is_closed) = thread::join(rt, move || drop(receiver), call);
+    is_closed
+}
+
 // What the last receiver clears is let go while another thread calls.
 fn clears_without_the_lock<'a, R, S, E>(
     rt: &R,
@@ -202,9 +215,7 @@ where
         meeting: Some(meeting),
     };
     sender.try_send(guest).ok()?;
-    let call = || calls(&sender, meeting);
-    let ((), is_closed) = thread::join(rt, move || drop(receiver), call);
-    is_closed
+    drop_meets(rt, &sender, receiver, meeting)
 }
 
 #[test]
@@ -215,6 +226,29 @@ fn cleared_values_are_let_go_without_the_lock(rt: HostRuntime) {
     assert!(rt; is_closed == Some(true) && meeting.was_met.load(Ordering::SeqCst));
 }
 
+/// A sender of guests.
+trait Replaces: Drop {
+    /// Sends a guest who meets nobody.
+    fn replace(&self) -> bool;
+}
+
+impl<R: Wait + Drop> Replaces for StateSender<Guest<'_>, R> {
+    fn replace(&self) -> bool {
+        self.send(Guest { meeting: None }).is_ok()
+    }
+}
+
+// Replaces a guest while another thread calls.
+fn replacement_meets<R, S>(rt: &R, sender: &S, meeting: &Meeting) -> Option<bool>
+where
+    R: Threads,
+    S: Replaces + SaysClosed + Sync,
+{
+    let call = move || calls(sender, meeting);
+    let (is_sent, is_closed) = thread::join(rt, move || sender.replace(), call);
+    Some(is_sent && is_closed? == false)
+}
+
 // The state that another replaces is let go while another thread calls.
 fn replaces_without_the_lock<'a, R, S, E>(
     rt: &R,
@@ -223,7 +257,7 @@ fn replaces_without_the_lock<'a, R, S, E>(
 ) -> Option<bool>
 where
     R: Threads,
-    S: SendsAtOnce<Guest<'a>> + SaysClosed + Sync,
+    S: SendsAtOnce<Guest<'a>> + Replaces + SaysClosed + Sync,
     E: Drop,
 {
     let (sender, _receiver) = ends.ok()?;
@@ -231,9 +265,7 @@ where
         meeting: Some(meeting),
     };
     sender.send(guest).ok()?;
-    let send = || sender.send(Guest { meeting: None }).is_ok();
-    let (is_sent, is_closed) = thread::join(rt, send, || calls(&sender, meeting));
-    Some(is_sent && is_closed? == false)
+    replacement_meets(rt, &sender, meeting)
 }
 
 #[test]

@@ -1,16 +1,20 @@
 //! Ends, futures and streams in several threads.
 
 use super::Made;
-use fi_channels::TrySendError;
+use fi_channels::{OneValueState, TrySendError};
+use fi_parts::buffer::GrowingHeapBuf;
 use fi_parts::{Fault, StateId};
 use fi_run::Answer;
+use fi_sync::PollWaker;
 use futures::Future;
 use futures::executor::block_on;
 use futures::task::Poll;
 use futures::test::MockTask;
 use futures_intrusive::blocking::Blocking;
+use futures_intrusive::channel::GivesValue;
 use futures_intrusive::channel::shared::{
-    channel, oneshot_broadcast_channel, oneshot_channel, state_broadcast_channel,
+    ChannelReceiveFuture, ChannelSendFuture, SharedChannelState, StateReceiveFuture, channel,
+    oneshot_broadcast_channel, oneshot_channel, state_broadcast_channel,
 };
 use std::alloc::AllocGlobal;
 use std::sync::Wait;
@@ -19,7 +23,8 @@ use std::thread::Threads;
 use tests_driver::answers::IntoAnswer;
 use tests_driver::pollable::Pollable;
 use tests_ends_calls::{
-    ClonedEnd, ReceivesOne, ReceivesStates, ReceivingEnd, SendsAtOnce, TriesToReceive, TriesToSend,
+    ClonedEnd, ReceivesOne, ReceivesStates, ReceivingEnd, SendingEnd, SendsAtOnce, TriesToReceive,
+    TriesToSend,
 };
 
 const ROUNDS: u32 = 10_000;
@@ -110,20 +115,79 @@ fn a_stream_crosses_threads(rt: HostRuntime) {
     assert!(rt; stream_crosses(&rt, ends) == Some(true));
 }
 
-// A sender and a receive are moved to other threads: whether the receive is answered so.
+// What a thread is answered that waits for this future.
+fn answer_of<R: Blocking, F: Pollable>(rt: &R, future: F) -> Option<Answer<u64, u64>>
+where
+    F::Output: IntoAnswer,
+{
+    Some(block_on(rt, future).ok()?.into_answer())
+}
+
+/// A future that a thread waits for.
+trait Awaited: Drop {
+    fn answer<R: Blocking>(self, rt: &R) -> Option<Answer<u64, u64>>;
+}
+
+type Shared = SharedChannelState<u64, GrowingHeapBuf<u64>>;
+
+impl<R: Wait + Drop> Awaited for ChannelSendFuture<Shared, R> {
+    fn answer<Q: Blocking>(self, rt: &Q) -> Option<Answer<u64, u64>> {
+        answer_of(rt, self)
+    }
+}
+
+impl<R: Wait + Drop> Awaited for ChannelReceiveFuture<Shared, R> {
+    fn answer<Q: Blocking>(self, rt: &Q) -> Option<Answer<u64, u64>> {
+        answer_of(rt, self)
+    }
+}
+
+type OneValue<G> = OneValueState<u64, PollWaker, G>;
+
+impl<G: GivesValue<u64>, R: Wait + Drop> Awaited for ChannelReceiveFuture<OneValue<G>, R> {
+    fn answer<Q: Blocking>(self, rt: &Q) -> Option<Answer<u64, u64>> {
+        answer_of(rt, self)
+    }
+}
+
+impl<R: Wait + Drop> Awaited for StateReceiveFuture<u64, R> {
+    fn answer<Q: Blocking>(self, rt: &Q) -> Option<Answer<u64, u64>> {
+        answer_of(rt, self)
+    }
+}
+
+// A send and a receive are moved to other threads.
+fn futures_cross<R, S, E>(rt: &R, ends: Made<S, E>) -> Option<bool>
+where
+    R: Blocking + Threads + Sync,
+    S: SendingEnd<u64>,
+    S::Send: Awaited + Send,
+    E: ReceivingEnd<u64>,
+    E::Receive: Awaited + Send,
+{
+    let (sender, receiver) = ends.ok()?;
+    let send = sender.send(7).ok()?;
+    let receive = receiver.receive().ok()?;
+    let (sent, received) = thread::join(rt, move || send.answer(rt), move || receive.answer(rt));
+    Some(sent == Some(Answer::Done) && received == Some(Answer::Item(7)))
+}
+
+#[test]
+fn a_send_and_a_receive_cross_threads(rt: HostRuntime) {
+    let ends = channel::<u64, HostRuntime>(rt.alloc(), rt, 0);
+    assert!(rt; futures_cross(&rt, ends) == Some(true));
+}
+
+// A sender and a receive are moved to other threads. Whether the receive is answered so.
 fn crosses<R, S, F>(rt: &R, sender: S, receive: F, wanted: Answer<u64, u64>) -> bool
 where
     R: Blocking + Threads + Sync,
     S: SendsAtOnce<u64> + Send,
-    F: Pollable + Send,
-    F::Output: IntoAnswer,
+    F: Awaited + Send,
 {
-    let receives = move || match block_on(rt, receive) {
-        Ok(received) => received.into_answer() == wanted,
-        Err(_) => false,
-    };
-    let (is_received, is_sent) = thread::join(rt, receives, move || sender.send(7).is_ok());
-    is_received && is_sent
+    let receives = move || receive.answer(rt);
+    let (received, is_sent) = thread::join(rt, receives, move || sender.send(7).is_ok());
+    received == Some(wanted) && is_sent
 }
 
 fn one_value_crosses<R, S, E>(rt: &R, ends: Made<S, E>) -> Option<bool>
@@ -131,7 +195,7 @@ where
     R: Blocking + Threads + Sync,
     S: SendsAtOnce<u64> + Send,
     E: ReceivesOne<u64>,
-    E::Receive: Pollable + Future<Output = Result<Option<u64>, Fault>> + Send,
+    E::Receive: Awaited + Send,
 {
     let (sender, receiver) = ends.ok()?;
     let receive = receiver.receive().ok()?;
@@ -143,7 +207,7 @@ where
     R: Blocking + Threads + Sync,
     S: SendsAtOnce<u64> + Send,
     E: ReceivesStates<u64>,
-    E::Receive: Pollable + Future<Output = Result<Option<(StateId, u64)>, Fault>> + Send,
+    E::Receive: Awaited + Send,
 {
     let (sender, receiver) = ends.ok()?;
     let receive = receiver.receive(0).ok()?;

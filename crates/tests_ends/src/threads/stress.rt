@@ -3,12 +3,11 @@
 ghost use Rattle.std.specs.Prelude.{◌≡◌};
 
 use crate::ends::Made;
-use fi_parts::Fault;
+use futures::StreamExt;
 use futures::task::Poll;
 use futures::test::MockTask;
-use futures::{Future, Stream, StreamExt};
 use futures_intrusive::blocking::{Blocking, wait_for};
-use futures_intrusive::channel::shared::{Sender, channel};
+use futures_intrusive::channel::shared::{Receiver, Sender, channel};
 use futures_intrusive::channel::{OneshotChannel, StateBroadcastChannel, StateId};
 use futures_intrusive::sync::SharedSemaphore;
 use std::alloc::AllocGlobal;
@@ -18,8 +17,7 @@ use std::sync::atomic::{AtomicU64, Ordering};
 use std::sync::ledger::{Blank, Ledger};
 use std::thread;
 use std::thread::Threads;
-use tests_driver::pollable::Pollable;
-use tests_ends_calls::{ClonedEnd, ReceivingEnd, StreamingEnd};
+use tests_ends_calls::ClonedEnd;
 
 const ROUNDS: u64 = 1000;
 
@@ -158,73 +156,101 @@ impl<R: Blocking + Drop> SendsBlocking for Sender<u64, R> {
     }
 }
 
-// Adds up what a stream gives, until no sender is left.
-fn adds_up<R, T>(rt: &R, stream: T, sum: &AtomicU64)
-where
-    R: Blocking,
-    T: StreamingEnd + Stream<Item = Result<u64, Fault>>,
-{
-    let mut stream = stream;
-    for _ in 0..4 * ROUNDS + 1 {
-        match wait_for(rt, stream.next()) {
-            Ok(Some(Ok(value))) => sum.fetch_add(value, Ordering::SeqCst),
-            _ => return,
-        };
-    }
+/// A receiver whose receives are polled once.
+trait ReceivesInVain: Drop {
+    /// Polls a receive and drops it: what it was told of it passes on. Answers what it was given.
+    fn receive_in_vain(&self, task: &MockTask) -> Option<u64>;
 }
 
-// A receive is polled and dropped; what it was told of it passes on, and what it was given is sent again.
-fn receives_in_vain<S, E>(task: &MockTask, sender: &S, receiver: &E) -> Option<bool>
-where
-    S: SendsBlocking,
-    E: ReceivingEnd<u64>,
-    E::Receive: Pollable + Future<Output = Result<Option<u64>, Fault>>,
-{
-    let mut receive = receiver.receive().ok()?;
-    match task.poll(&mut receive) {
-        Poll::Ready(Ok(Some(value))) => Some(sender.send_blocking(value)),
-        _ => Some(true),
-    }
-}
-
-// Sends a one in each round, behind a receive in vain.
-fn sends_ones<S, E>(task: &MockTask, sender: S, receiver: E)
-where
-    S: SendsBlocking,
-    E: ReceivingEnd<u64>,
-    E::Receive: Pollable + Future<Output = Result<Option<u64>, Fault>>,
-{
-    for _ in 0..ROUNDS {
-        if receives_in_vain(task, &sender, &receiver) == Some(true) {
-            let _ = sender.send_blocking(1);
+impl<R: Blocking + Drop> ReceivesInVain for Receiver<u64, R> {
+    fn receive_in_vain(&self, task: &MockTask) -> Option<u64> {
+        let mut receive = self.receive().ok()?;
+        match task.poll(&mut receive) {
+            Poll::Ready(Ok(value)) => value,
+            _ => None,
         }
     }
 }
 
-fn stream_all<'a, R, S, E>(rt: &'a R, ends: Made<S, E>, sum: &'a AtomicU64) -> Option<()>
+/// A receiver that is made a stream.
+trait AddsUp: Drop {
+    /// Adds up what its stream gives, until no sender is left.
+    fn add_up<R: Blocking>(self, rt: &R, sum: &AtomicU64);
+}
+
+impl<Q: Blocking + Drop> AddsUp for Receiver<u64, Q> {
+    fn add_up<R: Blocking>(self, rt: &R, sum: &AtomicU64) {
+        let Ok(mut stream) = self.into_stream() else {
+            return;
+        };
+        for _ in 0..4 * ROUNDS + 1 {
+            match wait_for(rt, stream.next()) {
+                Ok(Some(Ok(value))) => sum.fetch_add(value, Ordering::SeqCst),
+                _ => return,
+            };
+        }
+    }
+}
+
+// Sends a one in each round. Before it, a receive is polled and dropped, and what it was given is sent again.
+fn sends_ones<S: SendsBlocking, E: ReceivesInVain>(task: &MockTask, sender: S, receiver: E) {
+    for _ in 0..ROUNDS {
+        if let Some(value) = receiver.receive_in_vain(task) {
+            let _ = sender.send_blocking(value);
+        }
+        let _ = sender.send_blocking(1);
+    }
+}
+
+// Two threads send.
+fn send_all<'a, R, S, E>(rt: &'a R, sender: &'a S, receiver: &'a E)
+where
+    R: Blocking + Threads,
+    S: SendsBlocking + ClonedEnd + Send,
+    E: ReceivesInVain + ClonedEnd + Send,
+{
+    thread::scope(thread::scope_env(), rt, |scope| {
+        for _ in 0..2 {
+            if let (Ok(sender), Ok(receiver), Ok(task)) = (
+                sender.try_clone(),
+                receiver.try_clone(),
+                MockTask::new(rt),
+            ) {
+                let _ = scope.spawn(move || sends_ones(&task, sender, receiver));
+            }
+        }
+    });
+}
+
+// Two threads add up what they are given.
+fn add_all<'a, R, E>(rt: &'a R, receiver: &'a E, sum: &'a AtomicU64)
+where
+    R: Blocking + Threads + Sync,
+    E: AddsUp + ClonedEnd + Send,
+{
+    thread::scope(thread::scope_env(), rt, |scope| {
+        for _ in 0..2 {
+            if let Ok(receiver) = receiver.try_clone() {
+                let _ = scope.spawn(move || receiver.add_up(rt, sum));
+            }
+        }
+    });
+}
+
+// The sender is dropped once all is sent, so the streams end.
+fn stream_all<R, S, E>(rt: &R, ends: Made<S, E>, sum: &AtomicU64) -> Option<()>
 where
     R: Blocking + Threads + Sync,
     S: SendsBlocking + ClonedEnd + Send,
-    E: ReceivingEnd<u64> + ClonedEnd + Send,
-    E::Receive: Pollable + Future<Output = Result<Option<u64>, Fault>>,
-    E::Items: StreamingEnd + Stream<Item = Result<u64, Fault>> + Send,
+    E: ReceivesInVain + AddsUp + ClonedEnd + Send,
 {
     let (sender, receiver) = ends.ok()?;
-    thread::scope(thread::scope_env(), rt, |scope| {
-        for _ in 0..2 {
-            if let (Ok(own), Ok(other), Ok(stream), Ok(task)) = (
-                sender.try_clone(),
-                receiver.try_clone(),
-                receiver.stream(),
-                MockTask::new(rt),
-            ) {
-                let _ = scope.spawn(move || sends_ones(&task, own, other));
-                let _ = scope.spawn(move || adds_up(rt, stream, sum));
-            }
-        }
-        drop(sender);
-        drop(receiver);
-    });
+    let other = receiver.try_clone().ok()?;
+    let ((), ()) = thread::join(
+        rt,
+        move || send_all(rt, &sender, &other),
+        move || add_all(rt, &receiver, sum),
+    );
     Some(())
 }
 
