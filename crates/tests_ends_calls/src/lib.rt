@@ -8,7 +8,6 @@ use fi_channels::{GivesValue, OneValueState, TryReceiveError, TrySendError};
 use fi_parts::buffer::RingBuf;
 use fi_parts::{ChannelSendError, CloseStatus, Fault, NoRoom, StateId};
 use fi_sync::{GenericChannel, PollWaker};
-use futures::Stream;
 use futures_intrusive::channel::shared::{
     ChannelReceiveFuture, ChannelSendFuture, CloneSide, ClosesByEnds, End, GenericReceiver,
     GenericSender, OneValueReceiver, OneValueSender, SharedChannelState, SharedStream, Side,
@@ -99,24 +98,14 @@ impl<T: Drop, B: RingBuf<Item = T>, R: Wait + Drop> TriesToReceive<T> for Generi
 
 /// A receiver of many values.
 pub trait ReceivingEnd<T>: TriesToReceive<T> {
-    type Receive: Drop;
-
     type Items: Drop;
-
-    fn receive(&self) -> Result<Self::Receive, Fault>;
 
     /// A stream of a clone of the receiver.
     fn stream(&self) -> Result<Self::Items, Fault>;
 }
 
 impl<T: Drop, B: RingBuf<Item = T>, R: Wait + Drop> ReceivingEnd<T> for GenericReceiver<T, B, R> {
-    type Receive = ChannelReceiveFuture<SharedChannelState<T, B>, R>;
-
     type Items = SharedStream<T, B, R>;
-
-    fn receive(&self) -> Result<ChannelReceiveFuture<SharedChannelState<T, B>, R>, Fault> {
-        GenericReceiver::receive(self)
-    }
 
     fn stream(&self) -> Result<SharedStream<T, B, R>, Fault> {
         let receiver = self.clone()?;
@@ -132,21 +121,6 @@ impl<T: Drop, B: RingBuf<Item = T>, R: Wait + Drop> TriesToReceive<T> for Generi
     fn close(&self) -> CloseStatus {
         GenericReceiver::close(self)
     }
-}
-
-/// A stream of a receiver, which may be polled at any time.
-pub trait StreamingEnd: Stream {
-    fn close(&self) -> CloseStatus;
-
-    ghost is_pollable: { (any : Self) → Self.can_poll any };
-}
-
-impl<T: Drop, B: RingBuf<Item = T>, R: Wait + Drop> StreamingEnd for SharedStream<T, B, R> {
-    fn close(&self) -> CloseStatus {
-        SharedStream::close(self)
-    }
-
-    ghost is_pollable = { λ _. tt };
 }
 
 /// The call of a sender of one value or of states.

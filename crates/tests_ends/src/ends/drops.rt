@@ -1,20 +1,24 @@
 //! Each value is dropped once, whatever is dropped first, and with no lock held.
 
 use super::Made;
-use fi_channels::SendFault;
-use futures::Future;
+use fi_channels::TrySendError;
 use futures::test::MockTask;
-use futures_intrusive::channel::shared::{StateSender, channel, state_broadcast_channel};
+use futures_intrusive::channel::shared::{Sender, StateReceiver, channel, state_broadcast_channel};
 use std::alloc::{AllocError, AllocGlobal};
+use std::process::Abort;
+use std::random::RandomSource;
 use std::rc::Rc;
 use std::sync::Wait;
 use std::sync::atomic::{AtomicBool, Ordering};
 use std::test::Fail;
-use std::thread::{self, Threads};
-use tests_driver::pollable::Pollable;
-use tests_ends_calls::{ReceivingEnd, SaysClosed, SendingEnd, SendsAtOnce, TriesToSend};
+use std::thread;
+use tests_ends_calls::TriesToSend;
 
 type Counted = Rc<u64>;
+
+fn owner(rt: &impl Abort, counted: &Counted) -> Counted {
+    counted.clone().expect(rt, "memory")
+}
 
 // What lives of a channel: two ends and three futures.
 #[derive(Drop)]
@@ -48,62 +52,39 @@ impl<A: Drop, B: Drop, C: Drop, D: Drop, E: Drop> Living<A, B, C, D, E> {
     }
 }
 
-// Fills a channel with room for one: a value is buffered, and one is refused.
-fn fill<S: TriesToSend<Counted>>(sender: &S, counted: &Counted) -> Option<bool> {
-    let is_sent = sender.try_send(counted.clone().ok()?).is_ok();
-    Some(is_sent && sender.try_send(counted.clone().ok()?).is_err())
-}
-
-// A send of a value that waits.
-fn waiting<S>(task: &MockTask, sender: &S, counted: &Counted) -> Option<S::Send>
+// Makes a channel with a value buffered, one waiting and one refused, and drops its parts.
+fn drop_parts<R>(rt: R, counted: &Counted, order: u32)
 where
-    S: SendingEnd<Counted>,
-    S::Send: Pollable + Future<Output = Result<(), SendFault<Counted>>>,
+    R: Wait + Abort + Drop + Copy + RandomSource + AllocGlobal,
 {
-    let mut send = sender.send(counted.clone().ok()?).ok()?;
-    task.poll(&mut send).is_pending().then_some(send)
-}
-
-// Drops the parts of a channel with a value buffered, one waiting and one refused. Whether two values are left before.
-fn drop_parts<S, E>(
-    task: &MockTask,
-    ends: Made<S, E>,
-    counted: &Counted,
-    order: u32,
-) -> Option<bool>
-where
-    S: SendingEnd<Counted>,
-    S::Send: Pollable + Future<Output = Result<(), SendFault<Counted>>>,
-    E: ReceivingEnd<Counted>,
-{
-    let (sender, receiver) = ends.ok()?;
-    let is_filled = fill(&sender, counted)?;
-    let send = waiting(task, &sender, counted)?;
-    let are_kept = Rc::strong_count(counted) == 3;
+    let task = MockTask::new(&rt).expect(&rt, "memory");
+    let ends = channel::<Counted, R>(rt.alloc(), rt, 1);
+    let (sender, receiver) = ends.expect(&rt, "memory");
+    assert!(rt; sender.try_send(owner(&rt, counted)).is_ok());
+    let mut send = sender.send(owner(&rt, counted)).ok().expect(&rt, "memory");
+    assert!(rt; task.poll(&mut send).is_pending());
+    assert!(rt; sender.try_send(owner(&rt, counted)).is_err());
+    assert_eq!(rt; Rc::strong_count(counted), 3);
+    let receive = receiver.receive().expect(&rt, "memory");
+    let other = receiver.clone().expect(&rt, "memory");
+    let stream = other.into_stream().ok().expect(&rt, "memory");
     let living = Living {
-        receive: receiver.receive().ok(),
-        stream: receiver.stream().ok(),
         sender: Some(sender),
         receiver: Some(receiver),
         send: Some(send),
+        receive: Some(receive),
+        stream: Some(stream),
     };
-    let are_made = living.receive.is_some() && living.stream.is_some();
     living.let_all_go(order);
-    Some(is_filled && are_kept && are_made && Rc::strong_count(counted) == 1)
 }
 
 #[test]
-fn each_value_is_dropped_once(rt: HostRuntime) -> Result<(), Fail> {
-    let task = MockTask::new(&rt)?;
-    let counted = Rc::new(rt.alloc(), 7u64)?;
+fn each_value_is_dropped_once(rt: HostRuntime) {
+    let counted = Rc::new(rt.alloc(), 7u64).expect(&rt, "memory");
     for order in 0..625u32 {
-        let ends = channel::<Counted, HostRuntime>(rt.alloc(), rt, 1);
-        assert!(rt;
-            drop_parts(&task, ends, &counted, order) == Some(true),
-            "order {order}"
-        );
+        drop_parts(rt, &counted, order);
+        assert_eq!(rt; Rc::strong_count(&counted), 1);
     }
-    Ok(())
 }
 
 // The last receiver is dropped while a value is buffered: whether that is dropped with it, while the sender is there.
@@ -179,99 +160,51 @@ impl Clone for Guest<'_> {
     }
 }
 
-// Calls once a value's drop has begun, and before it is over: whether it was so, and what the call gave.
-fn calls<S: SaysClosed>(sender: &S, meeting: &Meeting) -> Option<bool> {
+// Whether a send that is made once a value's drop has begun finds the channel closed.
+fn send_is_refused<'a, R: Wait + Drop>(sender: Sender<Guest<'a>, R>, meeting: &'a Meeting) -> bool {
     let has_begun = was_set(&meeting.has_begun);
-    let is_closed = sender.is_closed();
+    let sent = sender.try_send(Guest { meeting: None });
     meeting.was_called.store(true, Ordering::SeqCst);
-    has_begun.then_some(is_closed)
+    has_begun && matches!(sent, Err(TrySendError::Closed(_)))
 }
 
-// Drops the last receiver while another thread calls.
-fn drop_meets<R, S, E>(rt: &R, sender: &S, receiver: E, meeting: &Meeting) -> Option<bool>
-where
-    R: Threads,
-    S: SaysClosed + Sync,
-    E: Drop + Send,
-{
-    let call = move || calls(sender, meeting);
-    let ((), is_closed) = thread::join(rt, move || drop(receiver), call);
-    is_closed
-}
-
-// What the last receiver clears is let go while another thread calls.
-fn clears_without_the_lock<'a, R, S, E>(
-    rt: &R,
-    ends: Made<S, E>,
-    meeting: &'a Meeting,
-) -> Option<bool>
-where
-    R: Threads,
-    S: TriesToSend<Guest<'a>> + SaysClosed + Sync,
-    E: Drop + Send,
-{
-    let (sender, receiver) = ends.ok()?;
-    let guest = Guest {
-        meeting: Some(meeting),
-    };
-    sender.try_send(guest).ok()?;
-    drop_meets(rt, &sender, receiver, meeting)
-}
-
+// What the last receiver clears is let go while another thread sends.
 #[test]
 fn cleared_values_are_let_go_without_the_lock(rt: HostRuntime) {
     let meeting = &Meeting::new();
     let ends = channel::<Guest<'_>, HostRuntime>(rt.alloc(), rt, 2);
-    let is_closed = clears_without_the_lock(&rt, ends, meeting);
-    assert!(rt; is_closed == Some(true) && meeting.was_met.load(Ordering::SeqCst));
-}
-
-/// A sender of guests.
-trait Replaces: Drop {
-    /// Sends a guest who meets nobody.
-    fn replace(&self) -> bool;
-}
-
-impl<R: Wait + Drop> Replaces for StateSender<Guest<'_>, R> {
-    fn replace(&self) -> bool {
-        self.send(Guest { meeting: None }).is_ok()
-    }
-}
-
-// Replaces a guest while another thread calls.
-fn replacement_meets<R, S>(rt: &R, sender: &S, meeting: &Meeting) -> Option<bool>
-where
-    R: Threads,
-    S: Replaces + SaysClosed + Sync,
-{
-    let call = move || calls(sender, meeting);
-    let (is_sent, is_closed) = thread::join(rt, move || sender.replace(), call);
-    Some(is_sent && is_closed? == false)
-}
-
-// The state that another replaces is let go while another thread calls.
-fn replaces_without_the_lock<'a, R, S, E>(
-    rt: &R,
-    ends: Made<S, E>,
-    meeting: &'a Meeting,
-) -> Option<bool>
-where
-    R: Threads,
-    S: SendsAtOnce<Guest<'a>> + Replaces + SaysClosed + Sync,
-    E: Drop,
-{
-    let (sender, _receiver) = ends.ok()?;
+    let (sender, receiver) = ends.expect(&rt, "memory");
     let guest = Guest {
         meeting: Some(meeting),
     };
-    sender.send(guest).ok()?;
-    replacement_meets(rt, &sender, meeting)
+    assert!(rt; sender.try_send(guest).is_ok());
+    let sends = move || send_is_refused(sender, meeting);
+    let ((), is_refused) = thread::join(&rt, move || drop(receiver), sends);
+    assert!(rt; is_refused && meeting.was_met.load(Ordering::SeqCst));
 }
 
+// Whether the channel is found open once a value's drop has begun.
+fn is_open<'a, R: Wait + Drop>(
+    receiver: StateReceiver<Guest<'a>, R>,
+    meeting: &'a Meeting,
+) -> bool {
+    let has_begun = was_set(&meeting.has_begun);
+    let is_open = !receiver.is_closed();
+    meeting.was_called.store(true, Ordering::SeqCst);
+    has_begun && is_open
+}
+
+// The state that another replaces is let go while another thread calls.
 #[test]
 fn replaced_states_are_let_go_without_the_lock(rt: HostRuntime) {
     let meeting = &Meeting::new();
     let ends = state_broadcast_channel::<Guest<'_>, HostRuntime>(rt.alloc(), rt);
-    let is_replaced = replaces_without_the_lock(&rt, ends, meeting);
-    assert!(rt; is_replaced == Some(true) && meeting.was_met.load(Ordering::SeqCst));
+    let (sender, receiver) = ends.expect(&rt, "memory");
+    let guest = Guest {
+        meeting: Some(meeting),
+    };
+    assert!(rt; sender.send(guest).is_ok());
+    let sends = move || sender.send(Guest { meeting: None }).is_ok();
+    let (is_sent, is_open) = thread::join(&rt, sends, move || is_open(receiver, meeting));
+    assert!(rt; is_sent && is_open && meeting.was_met.load(Ordering::SeqCst));
 }

@@ -2,49 +2,44 @@
 
 use super::Made;
 use fi_channels::{OneValueState, TrySendError};
-use fi_parts::buffer::GrowingHeapBuf;
-use fi_parts::{Fault, StateId};
+use fi_parts::StateId;
 use fi_run::Answer;
 use fi_sync::PollWaker;
-use futures::Future;
 use futures::executor::block_on;
 use futures::task::Poll;
 use futures::test::MockTask;
 use futures_intrusive::blocking::Blocking;
 use futures_intrusive::channel::GivesValue;
 use futures_intrusive::channel::shared::{
-    ChannelReceiveFuture, ChannelSendFuture, SharedChannelState, StateReceiveFuture, channel,
-    oneshot_broadcast_channel, oneshot_channel, state_broadcast_channel,
+    ChannelReceiveFuture, Receiver, Sender, StateReceiveFuture, channel, oneshot_broadcast_channel,
+    oneshot_channel, state_broadcast_channel,
 };
 use std::alloc::AllocGlobal;
+use std::process::Abort;
+use std::random::RandomSource;
 use std::sync::Wait;
 use std::thread;
 use std::thread::Threads;
 use tests_driver::answers::IntoAnswer;
 use tests_driver::pollable::Pollable;
-use tests_ends_calls::{
-    ClonedEnd, ReceivesOne, ReceivesStates, ReceivingEnd, SendingEnd, SendsAtOnce, TriesToReceive,
-    TriesToSend,
-};
+use tests_ends_calls::{ReceivesOne, ReceivesStates, ReceivingEnd, SendsAtOnce, TriesToSend};
 
 const ROUNDS: u32 = 10_000;
 
 // Clones both ends and drops the clones, in each round. The ends that it was given are dropped at the end.
-fn clones<S: ClonedEnd, E: ClonedEnd>(sender: S, receiver: E) {
+fn clones<R: Wait + Drop>(sender: Sender<u64, R>, receiver: Receiver<u64, R>) {
     for _ in 0..ROUNDS {
-        let _ = (sender.try_clone(), receiver.try_clone());
+        let _ = (sender.clone(), receiver.clone());
     }
 }
 
-fn clone_all<'a, R, S, E>(rt: &'a R, sender: &'a S, receiver: &'a E)
+fn clone_all<'a, R>(rt: &'a R, sender: &'a Sender<u64, R>, receiver: &'a Receiver<u64, R>)
 where
-    R: Wait + Threads,
-    S: ClonedEnd + Send,
-    E: ClonedEnd + Send,
+    R: Wait + Threads + Abort + RandomSource + AllocGlobal + Drop + Send + Sync,
 {
     thread::scope(thread::scope_env(), rt, |scope| {
         for _ in 0..4 {
-            if let (Ok(sender), Ok(receiver)) = (sender.try_clone(), receiver.try_clone()) {
+            if let (Ok(sender), Ok(receiver)) = (sender.clone(), receiver.clone()) {
                 let _ = scope.spawn(move || clones(sender, receiver));
             }
         }
@@ -53,44 +48,37 @@ where
 
 // Four threads clone and drop ends. The senders are counted exactly: the channel stays open until the last one goes, and then closes
 // once.
-fn counts_senders<R, S, E>(rt: &R, ends: Made<S, E>) -> Option<bool>
+fn counts_senders<R>(rt: R)
 where
-    R: Blocking + Threads,
-    S: ClonedEnd + Send,
-    E: ReceivingEnd<u64> + ClonedEnd + Send,
-    E::Receive: Pollable + Future<Output = Result<Option<u64>, Fault>>,
+    R: Wait + Threads + Abort + Drop + Copy + RandomSource + AllocGlobal + Send + Sync,
 {
-    let task = MockTask::new(rt).ok()?;
-    let (sender, receiver) = ends.ok()?;
-    let mut receive = receiver.receive().ok()?;
-    clone_all(rt, &sender, &receiver);
-    let waits = task.poll(&mut receive).is_pending() && !task.is_woken();
+    let task = MockTask::new(&rt).expect(&rt, "memory");
+    let (sender, receiver) = channel::<u64, R>(rt.alloc(), rt, 1).expect(&rt, "memory");
+    let mut receive = receiver.receive().expect(&rt, "memory");
+    clone_all(&rt, &sender, &receiver);
+    assert!(rt; task.poll(&mut receive).is_pending() && !task.is_woken());
     drop(sender);
-    let ends = task.is_woken() && task.poll(&mut receive) == Poll::Ready(Ok(None));
-    Some(waits && ends && !receiver.close().is_newly_closed())
+    assert!(rt; task.is_woken() && task.poll(&mut receive) == Poll::Ready(Ok(None)));
+    assert!(rt; !receiver.close().is_newly_closed());
 }
 
 // And so are the receivers.
-fn counts_receivers<R, S, E>(rt: &R, ends: Made<S, E>) -> Option<bool>
+fn counts_receivers<R>(rt: R)
 where
-    R: Wait + Threads,
-    S: TriesToSend<u64> + ClonedEnd + Send,
-    E: ClonedEnd + Send,
+    R: Wait + Threads + Abort + Drop + Copy + RandomSource + AllocGlobal + Send + Sync,
 {
-    let (sender, receiver) = ends.ok()?;
-    clone_all(rt, &sender, &receiver);
-    let is_open = sender.try_send(1) == Ok(());
+    let (sender, receiver) = channel::<u64, R>(rt.alloc(), rt, 1).expect(&rt, "memory");
+    clone_all(&rt, &sender, &receiver);
+    assert!(rt; sender.try_send(1) == Ok(()));
     drop(receiver);
-    let is_closed = sender.try_send(2) == Err(TrySendError::Closed(2));
-    Some(is_open && is_closed && !sender.close().is_newly_closed())
+    assert!(rt; sender.try_send(2) == Err(TrySendError::Closed(2)));
+    assert!(rt; !sender.close().is_newly_closed());
 }
 
 #[test]
 fn four_threads_clone_and_drop_ends(rt: HostRuntime) {
-    let ends = channel::<u64, HostRuntime>(rt.alloc(), rt, 1);
-    assert!(rt; counts_senders(&rt, ends) == Some(true));
-    let ends = channel::<u64, HostRuntime>(rt.alloc(), rt, 1);
-    assert!(rt; counts_receivers(&rt, ends) == Some(true));
+    counts_senders(rt);
+    counts_receivers(rt);
 }
 
 // A stream is moved to another thread, and dropped there.
@@ -128,20 +116,6 @@ trait Awaited: Drop {
     fn answer<R: Blocking>(self, rt: &R) -> Option<Answer<u64, u64>>;
 }
 
-type Shared = SharedChannelState<u64, GrowingHeapBuf<u64>>;
-
-impl<R: Wait + Drop> Awaited for ChannelSendFuture<Shared, R> {
-    fn answer<Q: Blocking>(self, rt: &Q) -> Option<Answer<u64, u64>> {
-        answer_of(rt, self)
-    }
-}
-
-impl<R: Wait + Drop> Awaited for ChannelReceiveFuture<Shared, R> {
-    fn answer<Q: Blocking>(self, rt: &Q) -> Option<Answer<u64, u64>> {
-        answer_of(rt, self)
-    }
-}
-
 type OneValue<G> = OneValueState<u64, PollWaker, G>;
 
 impl<G: GivesValue<u64>, R: Wait + Drop> Awaited for ChannelReceiveFuture<OneValue<G>, R> {
@@ -154,28 +128,6 @@ impl<R: Wait + Drop> Awaited for StateReceiveFuture<u64, R> {
     fn answer<Q: Blocking>(self, rt: &Q) -> Option<Answer<u64, u64>> {
         answer_of(rt, self)
     }
-}
-
-// A send and a receive are moved to other threads.
-fn futures_cross<R, S, E>(rt: &R, ends: Made<S, E>) -> Option<bool>
-where
-    R: Blocking + Threads + Sync,
-    S: SendingEnd<u64>,
-    S::Send: Awaited + Send,
-    E: ReceivingEnd<u64>,
-    E::Receive: Awaited + Send,
-{
-    let (sender, receiver) = ends.ok()?;
-    let send = sender.send(7).ok()?;
-    let receive = receiver.receive().ok()?;
-    let (sent, received) = thread::join(rt, move || send.answer(rt), move || receive.answer(rt));
-    Some(sent == Some(Answer::Done) && received == Some(Answer::Item(7)))
-}
-
-#[test]
-fn a_send_and_a_receive_cross_threads(rt: HostRuntime) {
-    let ends = channel::<u64, HostRuntime>(rt.alloc(), rt, 0);
-    assert!(rt; futures_cross(&rt, ends) == Some(true));
 }
 
 // A sender and a receive are moved to other threads. Whether the receive is answered so.

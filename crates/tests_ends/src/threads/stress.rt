@@ -2,7 +2,6 @@
 //! `tests_sync`.
 ghost use Rattle.std.specs.Prelude.{◌≡◌};
 
-use crate::ends::Made;
 use futures::StreamExt;
 use futures::task::Poll;
 use futures::test::MockTask;
@@ -17,7 +16,6 @@ use std::sync::atomic::{AtomicU64, Ordering};
 use std::sync::ledger::{Blank, Ledger};
 use std::thread;
 use std::thread::Threads;
-use tests_ends_calls::ClonedEnd;
 
 const ROUNDS: u64 = 1000;
 
@@ -145,119 +143,73 @@ fn four_threads_share_a_semaphore(rt: HostRuntime) {
     shares::<HostRuntime, Brand>(rt, Blank::new(u64::MAX))
 }
 
-/// A sender that blocks.
-trait SendsBlocking: Drop {
-    fn send_blocking(&self, value: u64) -> bool;
-}
-
-impl<R: Blocking + Drop> SendsBlocking for Sender<u64, R> {
-    fn send_blocking(&self, value: u64) -> bool {
-        Sender::send_blocking(self, value).is_ok()
+// Adds up what a stream gives, until no sender is left.
+fn adds_up<R: Blocking + Drop>(rt: &R, receiver: Receiver<u64, R>, sum: &AtomicU64) {
+    let Ok(mut stream) = receiver.into_stream() else {
+        return;
+    };
+    for _ in 0..4 * ROUNDS + 1 {
+        match wait_for(rt, stream.next()) {
+            Ok(Some(Ok(value))) => sum.fetch_add(value, Ordering::SeqCst),
+            _ => return,
+        };
     }
 }
 
-/// A receiver whose receives are polled once.
-trait ReceivesInVain: Drop {
-    /// Polls a receive and drops it: what it was told of it passes on. Answers what it was given.
-    fn receive_in_vain(&self, task: &MockTask) -> Option<u64>;
-}
-
-impl<R: Blocking + Drop> ReceivesInVain for Receiver<u64, R> {
-    fn receive_in_vain(&self, task: &MockTask) -> Option<u64> {
-        let mut receive = self.receive().ok()?;
-        match task.poll(&mut receive) {
-            Poll::Ready(Ok(value)) => value,
-            _ => None,
-        }
-    }
-}
-
-/// A receiver that is made a stream.
-trait AddsUp: Drop {
-    /// Adds up what its stream gives, until no sender is left.
-    fn add_up<R: Blocking>(self, rt: &R, sum: &AtomicU64);
-}
-
-impl<Q: Blocking + Drop> AddsUp for Receiver<u64, Q> {
-    fn add_up<R: Blocking>(self, rt: &R, sum: &AtomicU64) {
-        let Ok(mut stream) = self.into_stream() else {
+// Sends a one in each round. Before it, a receive is polled and dropped; what it was told of it passes on, and what it was given is sent
+// again.
+fn sends_ones<R: Blocking + Drop>(rt: &R, sender: Sender<u64, R>, receiver: Receiver<u64, R>) {
+    let Ok(task) = MockTask::new(rt) else {
+        return;
+    };
+    for _ in 0..ROUNDS {
+        let Ok(mut receive) = receiver.receive() else {
             return;
         };
-        for _ in 0..4 * ROUNDS + 1 {
-            match wait_for(rt, stream.next()) {
-                Ok(Some(Ok(value))) => sum.fetch_add(value, Ordering::SeqCst),
-                _ => return,
-            };
-        }
-    }
-}
-
-// Sends a one in each round. Before it, a receive is polled and dropped, and what it was given is sent again.
-fn sends_ones<S: SendsBlocking, E: ReceivesInVain>(task: &MockTask, sender: S, receiver: E) {
-    for _ in 0..ROUNDS {
-        if let Some(value) = receiver.receive_in_vain(task) {
+        if let Poll::Ready(Ok(Some(value))) = task.poll(&mut receive) {
             let _ = sender.send_blocking(value);
         }
+        drop(receive);
         let _ = sender.send_blocking(1);
     }
 }
 
-// Two threads send.
-fn send_all<'a, R, S, E>(rt: &'a R, sender: &'a S, receiver: &'a E)
+fn stream_all<'a, R>(
+    rt: &'a R,
+    sender: Sender<u64, R>,
+    receiver: Receiver<u64, R>,
+    sum: &'a AtomicU64,
+)
 where
-    R: Blocking + Threads,
-    S: SendsBlocking + ClonedEnd + Send,
-    E: ReceivesInVain + ClonedEnd + Send,
+    R: Blocking + Threads + Drop + Send + Sync,
 {
     thread::scope(thread::scope_env(), rt, |scope| {
         for _ in 0..2 {
-            if let (Ok(sender), Ok(receiver), Ok(task)) = (
-                sender.try_clone(),
-                receiver.try_clone(),
-                MockTask::new(rt),
+            if let (Ok(own), Ok(streamed), Ok(other)) = (
+                sender.clone(),
+                receiver.clone(),
+                receiver.clone(),
             ) {
-                let _ = scope.spawn(move || sends_ones(&task, sender, receiver));
+                let _ = scope.spawn(move || sends_ones(rt, own, other));
+                let _ = scope.spawn(move || adds_up(rt, streamed, sum));
             }
         }
+        drop(sender);
+        drop(receiver);
     });
 }
 
-// Two threads add up what they are given.
-fn add_all<'a, R, E>(rt: &'a R, receiver: &'a E, sum: &'a AtomicU64)
+fn streams<R>(rt: R)
 where
-    R: Blocking + Threads + Sync,
-    E: AddsUp + ClonedEnd + Send,
+    R: Blocking + Threads + Abort + Drop + Copy + Send + Sync,
 {
-    thread::scope(thread::scope_env(), rt, |scope| {
-        for _ in 0..2 {
-            if let Ok(receiver) = receiver.try_clone() {
-                let _ = scope.spawn(move || receiver.add_up(rt, sum));
-            }
-        }
-    });
-}
-
-// The sender is dropped once all is sent, so the streams end.
-fn stream_all<R, S, E>(rt: &R, ends: Made<S, E>, sum: &AtomicU64) -> Option<()>
-where
-    R: Blocking + Threads + Sync,
-    S: SendsBlocking + ClonedEnd + Send,
-    E: ReceivesInVain + AddsUp + ClonedEnd + Send,
-{
-    let (sender, receiver) = ends.ok()?;
-    let other = receiver.try_clone().ok()?;
-    let ((), ()) = thread::join(
-        rt,
-        move || send_all(rt, &sender, &other),
-        move || add_all(rt, &receiver, sum),
-    );
-    Some(())
+    let (sender, receiver) = channel::<u64, R>(rt.alloc(), rt, 3).expect(&rt, "memory");
+    let sum = AtomicU64::new(0);
+    stream_all(&rt, sender, receiver, &sum);
+    assert_eq!(rt; sum.load(Ordering::SeqCst), 2 * ROUNDS);
 }
 
 #[test]
 fn two_streams_share_what_two_threads_send(rt: HostRuntime) {
-    let sum = AtomicU64::new(0);
-    let ends = channel::<u64, HostRuntime>(rt.alloc(), rt, 3);
-    assert!(rt; stream_all(&rt, ends, &sum).is_some());
-    assert_eq!(rt; sum.load(Ordering::SeqCst), 2 * ROUNDS);
+    streams(rt)
 }
