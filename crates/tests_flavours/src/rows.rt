@@ -1,4 +1,4 @@
-//! Each call of a row is answered as the row says, and wakes whom it says.
+//! Each call of a row has the answer that stands in the row, and wakes the tasks that the row names.
 
 use fi_channels::{
     ChannelState, EventState, OneshotBroadcastState, OneshotState, StateBroadcastState,
