@@ -2,7 +2,7 @@
 
 use crate::rows::answer;
 use fi_scripts::{ScriptFault, report, run_script};
-use std::alloc::{AllocError, Global};
+use std::alloc::Global;
 use std::io;
 use std::io::{ErrorKind, Read, Write};
 use std::process::Abort;
