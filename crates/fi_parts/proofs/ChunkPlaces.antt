@@ -1,22 +1,25 @@
 -- The places of a chunk, and the stack of the pointers to them.
-use Rattle.std.proofs.Common.{◌≡◌, ℕ, zero, suc, ◌+◌, ◌≤◌, List, [], ◌∷◌, ◌++◌, refl, sym, ap, ◌∙◌, subst, arith}
+use Rattle.std.proofs.Common.{◌≡◌, ℕ, zero, suc, ◌+◌, ◌*◌, ◌-◌, ◌<◌, ◌≤◌, ◌==◌, List, [], ◌∷◌, ◌++◌, refl, sym, ap, ◌∙◌, subst, arith}
 use Rattle.std.proofs.Common.{map as each, length, get_or, drop}
 use Rattle.std.proofs.lemmas.List.{map-append, append_assoc, append-nil, length-append, drop-append-le}
-use Rattle.std.proofs.lemmas.List.{get_or_append_left}
+use Rattle.std.proofs.lemmas.List.{get_or_append_left, drop_all}
 use Rattle.std.proofs.Math.Seq.{drop-append_seam, get_or-append_seam}
+use Rattle.std.proofs.lemmas.Bool.{cond-false, ne_eqb}
 use native.Mathlib.Nat.{zero-mul, suc-mul}
 use denote.RattleType.{RattleType}
 use denote.RawPtr.{Ptr, ◌+ₚ◌, block_ptr, null_ptr}
 use Rattle.std.specs.Prelude.{Some, IsSome}
 use Rattle.std.specs.Mem.{type_size}
 use Rattle.std.specs.Vec.Ownership.{FitsInBlock}
+use Rattle.fi_parts.specs.declared.blocks.block.Block.{Block}
 use Rattle.fi_parts.specs.declared.blocks.block.BlockPtr.{BlockPtr}
 use Rattle.fi_parts.specs.declared.blocks.places.BlockPlaces.{BlockPlaces}
-use Rattle.fi_parts.specs.Placed.{at_ptr, without_at}
+use Rattle.fi_parts.specs.Placed.{at_ptr, with_at, without_at}
 use Rattle.fi_parts.specs.BlockOwner.{times, block_row, block_places, block_further}
-use Rattle.fi_parts.specs.Chunks.{chunk_len, pointed, nowhere, chunks_of, IsKept}
+use Rattle.fi_parts.specs.Chunks.{chunk_len, places_in, pointed, nowhere, chunks_of, IsKept}
 use Rattle.fi_parts.proofs.BlockCounts.{once, once_same, times_cons, times_append, times_nil, times_found}
 use Rattle.fi_parts.proofs.BlockCounts.{times_without}
+use Rattle.fi_parts.proofs.Placed.{length-with_at, length-without_at}
 
 -- the pointers that a loop has pushed on the stack `old`, to the last places of the chunk at p
 pub record Pushed (T : RattleType) (old : List (BlockPtr T.Denot)) (p : Ptr) (len left : ℕ) (new : List (BlockPtr T.Denot)) : Type 0 where
@@ -88,63 +91,95 @@ module _ {T : Type 0} where
       ∙ ap (times q) (map-append pointed (drop k xs) (x ∷ [])) ∙ times_append q (each pointed (drop k xs)) (pointed x ∷ []) in
       let one = times_cons q (pointed x) [] in let none = times_nil (Unit {0}) q in omega (arith, parts, one, none)
 
-  -- a place is vacated, and its pointer is pushed or lost
-  pub kept_freed : (h h' : BlockPlaces T) (xs xs' : List (BlockPtr T)) (k : ℕ) (x : BlockPtr T) → IsKept h xs k → xs' ≡ xs ++ x ∷ []
-      → h'.vacant ≡ (x.ptr, tt) ∷ h.vacant → h'.chunks ≡ h.chunks → IsKept h' xs' k
-  kept_freed h h' xs xs' k x kept e vacant chunks = record {
+  -- a place is vacated, and its pointer is pushed
+  pub kept_freed : (h h' : BlockPlaces T) (xs xs' : List (BlockPtr T)) (c c' k : ℕ) (x : BlockPtr T) → IsKept h xs c k → c' ≡ c
+      → xs' ≡ xs ++ x ∷ [] → IsSome (at_ptr h.blocks x.ptr) → h'.blocks ≡ without_at h.blocks x.ptr
+      → h'.vacant ≡ (x.ptr, tt) ∷ h.vacant → h'.chunks ≡ h.chunks → IsKept h' xs' c' k
+  kept_freed h h' xs xs' c c' k x kept same e there blocks vacant chunks = record {
     within = let long = ap length e ∙ length-append xs (x ∷ []) in let le = kept.within in omega (arith, long, le);
     chunks = chunks ∙ kept.chunks ∙ sym (ap (λ l. chunks_of l k) e ∙ chunks_append xs (x ∷ []) k kept.within);
     vacant = λ q.
         let stack = ap (λ l. times q (each pointed (drop k l))) e ∙ above_pushed q xs x k kept.within in
         let more = ap (times q) vacant ∙ times_cons q (x.ptr, tt) h.vacant in
-        let le = kept.vacant q in omega (arith, stack, more, le);
+        let all = kept.vacant q in omega (arith, stack, more, all);
+    count =
+        let long = ap length e ∙ length-append xs (x ∷ []) in let less = ap length blocks in
+        let one = length-without_at h.blocks x.ptr there in let all = kept.count in omega (arith, long, less, one, all);
+    fits = let le = kept.fits in omega (arith, le, same);
   }
 
-  pub kept_lost : (h h' : BlockPlaces T) (xs : List (BlockPtr T)) (k : ℕ) (x : BlockPtr T) → IsKept h xs k
-      → h'.vacant ≡ (x.ptr, tt) ∷ h.vacant → h'.chunks ≡ h.chunks → IsKept h' xs k
-  kept_lost h h' xs k x kept vacant chunks = record {
+  -- there is room for the pointer to a block's place
+  pub room_left : (h : BlockPlaces T) (xs : List (BlockPtr T)) (c k : ℕ) (p : Ptr) → IsKept h xs c k → IsSome (at_ptr h.blocks p)
+      → length xs < c
+  room_left h xs c k p kept there =
+      let one = length-without_at h.blocks p there in let all = kept.count in let le = kept.fits in omega (arith, one, all, le)
+
+  -- a block is written
+  pub kept_written : (h h' : BlockPlaces T) (xs : List (BlockPtr T)) (c k : ℕ) (p : Ptr) (w : Block T) → IsKept h xs c k
+      → h'.blocks ≡ with_at h.blocks p w → h'.vacant ≡ h.vacant → h'.chunks ≡ h.chunks → IsKept h' xs c k
+  kept_written h h' xs c k p w kept blocks vacant chunks = record {
     within = kept.within;
     chunks = chunks ∙ kept.chunks;
-    vacant = λ q. let more = ap (times q) vacant ∙ times_cons q (x.ptr, tt) h.vacant in
-        let le = kept.vacant q in omega (arith, more, le);
+    vacant = λ q. kept.vacant q ∙ sym (ap (times q) vacant);
+    count = let same = ap length blocks ∙ length-with_at h.blocks p w in let all = kept.count in omega (arith, same, all);
+    fits = kept.fits;
   }
 
   -- a pointer is popped that is above the chunks'
-  module _ (h : BlockPlaces T) (xs xs' : List (BlockPtr T)) (k : ℕ) (x : BlockPtr T) (kept : IsKept h xs k) (e : xs ≡ xs' ++ x ∷ [])
+  module _ (h : BlockPlaces T) (xs xs' : List (BlockPtr T)) (c k : ℕ) (x : BlockPtr T) (kept : IsKept h xs c k) (e : xs ≡ xs' ++ x ∷ [])
       (more : ¬ (length xs ≡ k)) where
+    long : length xs ≡ length xs' + 1
+    long = ap length e ∙ length-append xs' (x ∷ [])
+
     still : k ≤ length xs'
-    still = let long = ap length e ∙ length-append xs' (x ∷ []) in let le = kept.within in omega (arith, long, le, more)
+    still = let one = long in let le = kept.within in omega (arith, one, le, more)
 
     above : (q : Ptr) → times q (each pointed (drop k xs)) ≡ times q (each pointed (drop k xs')) + once x.ptr q
     above q = ap (λ l. times q (each pointed (drop k l))) e ∙ above_pushed q xs' x k still
 
     found : (u : Unit {0}) × (at_ptr h.vacant x.ptr ≡ Some u)
     found =
-        let here = above x.ptr in let one = once_same x.ptr in let le = kept.vacant x.ptr in
-        times_found x.ptr h.vacant (omega (arith, here, one, le))
+        let here = above x.ptr in let one = once_same x.ptr in let all = kept.vacant x.ptr in
+        times_found x.ptr h.vacant (omega (arith, here, one, all))
 
     pub popped_vacant : IsSome (at_ptr h.vacant x.ptr)
     popped_vacant = subst IsSome (sym found.1) refl
 
-    pub kept_popped : (h' : BlockPlaces T) → h'.vacant ≡ without_at h.vacant x.ptr → h'.chunks ≡ h.chunks → IsKept h' xs' k
-    kept_popped h' vacant chunks = record {
+    pub kept_popped : (h' : BlockPlaces T) (c' : ℕ) (b : Block T) → c' ≡ c → h'.blocks ≡ (x.ptr, b) ∷ h.blocks
+        → h'.vacant ≡ without_at h.vacant x.ptr → h'.chunks ≡ h.chunks → IsKept h' xs' c' k
+    kept_popped h' c' b same blocks vacant chunks = record {
       within = still;
       chunks = chunks ∙ kept.chunks ∙ ap (λ l. chunks_of l k) e ∙ chunks_append xs' (x ∷ []) k still;
       vacant = λ q.
-          let here = above q in let le = kept.vacant q in let less = times_without q x.ptr h.vacant found.0 found.1 in
-          let now = ap (times q) vacant in omega (arith, here, le, less, now);
+          let here = above q in let all = kept.vacant q in let less = times_without q x.ptr h.vacant found.0 found.1 in
+          let now = ap (times q) vacant in omega (arith, here, all, less, now);
+      count = let one = long in let put = ap length blocks in let all = kept.count in omega (arith, one, put, all);
+      fits = let le = kept.fits in omega (arith, le, same);
     }
 
+  -- more room for pointers, and nothing else
+  pub kept_roomier : (h h' : BlockPlaces T) (xs xs' : List (BlockPtr T)) (c c' k : ℕ) → IsKept h xs c k → h' ≡ h → xs' ≡ xs → c ≤ c'
+      → IsKept h' xs' c' k
+  kept_roomier h h' xs xs' c c' k kept same e more =
+      let there : IsKept h xs c' k = record {
+        within = kept.within;
+        chunks = kept.chunks;
+        vacant = kept.vacant;
+        count = kept.count;
+        fits = let le = kept.fits in omega (arith, le, more);
+      } in
+      subst (λ (l : List (BlockPtr T)). IsKept h' l c' k) (sym e) (subst (λ (p : BlockPlaces T). IsKept p xs c' k) (sym same) there)
+
   -- a chunk is added where no pointer is above the chunks', and the pointers to its places are pushed
-  pub kept_grown : (h h' : BlockPlaces T) (xs ys zs vs : List (BlockPtr T)) (k n : ℕ) (x : BlockPtr T) (run : List (Ptr × Unit {0}))
-      → IsKept h xs k → length xs ≡ k → n ≡ chunk_len k → ys ≡ xs ++ x ∷ [] → zs ≡ ys ++ vs
-      → ((q : Ptr) → times q (each pointed vs) ≡ times q run)
-      → h'.vacant ≡ run ++ h.vacant → h'.chunks ≡ (x.ptr, n) ∷ h.chunks → IsKept h' zs (k + 1)
-  kept_grown h h' xs ys zs vs k n x run kept long size e e' same vacant chunks =
+  pub kept_grown : (h h' : BlockPlaces T) (xs ys zs vs : List (BlockPtr T)) (c c' k n : ℕ) (x : BlockPtr T) (run : List (Ptr × Unit {0}))
+      → IsKept h xs c k → length xs ≡ k → n ≡ chunk_len k → k + (places_in k + n + 1) ≤ c' → ys ≡ xs ++ x ∷ [] → zs ≡ ys ++ vs
+      → length zs ≡ length ys + n → ((q : Ptr) → times q (each pointed vs) ≡ times q run)
+      → h'.blocks ≡ h.blocks → h'.vacant ≡ run ++ h.vacant → h'.chunks ≡ (x.ptr, n) ∷ h.chunks → IsKept h' zs c' (k + 1)
+  kept_grown h h' xs ys zs vs c c' k n x run kept long size room e e' more same blocks vacant chunks =
       let all : zs ≡ xs ++ x ∷ vs = e' ∙ ap (λ l. l ++ vs) e ∙ append_assoc xs (x ∷ []) vs in
       let next : suc k ≡ k + 1 = omega arith in
       let ylong : length ys ≡ suc k = ap length e ∙ length-append xs (x ∷ []) ∙ omega (arith, long) in
-      subst (IsKept h' zs) next (record {
+      subst (IsKept h' zs c') next (record {
         within = let zlong = ap length e' ∙ length-append ys vs in omega (arith, zlong, ylong);
         chunks = chunks ∙ (λ i. (x.ptr, size i) ∷ kept.chunks i)
             ∙ sym (ap (λ l. chunks_of l (suc k)) all
@@ -154,5 +189,29 @@ module _ {T : Type 0} where
             let stack : times q (each pointed (drop (suc k) zs)) ≡ times q (each pointed vs) =
             ap (λ l. times q (each pointed l)) (ap (drop (suc k)) e' ∙ subst (λ j. drop j (ys ++ vs) ≡ vs) ylong
             (drop-append_seam ys vs)) in
-            let run_is = same q in let now = ap (times q) vacant ∙ times_append q run h.vacant in omega (arith, stack, run_is, now);
+            -- no pointer was above the chunks', so no place was vacant
+            let none : times q (each pointed (drop k xs)) ≡ 0 =
+            ap (λ l. times q (each pointed l)) (drop_all k xs (omega (arith, long))) ∙ times_nil (Unit {0}) q in
+            let before = kept.vacant q in
+            let run_is = same q in let now = ap (times q) vacant ∙ times_append q run h.vacant in
+            omega (arith, stack, run_is, now, none, before);
+        count = let held = ap length blocks in let before = kept.count in omega (arith, more, ylong, size, held, before, long);
+        fits = omega (arith, room, size);
       })
+
+-- how many places three chunks and more have
+len_of_more : (k : ℕ) → chunk_len (suc (suc (suc k))) ≡ 256
+len_of_more k =
+    let n : ℕ = suc (suc (suc k)) in
+    cond-false (n == 0) 4 _ (ne_eqb n 0 (λ e. omega (arith, e))) ∙ cond-false (n == 1) 16 _ (ne_eqb n 1 (λ e. omega (arith, e)))
+    ∙ cond-false (n == 2) 64 256 (ne_eqb n 2 (λ e. omega (arith, e)))
+
+from_three : (k : ℕ) → places_in (suc (suc (suc k))) ≡ 84 + k * 256
+from_three zero = refl
+from_three (suc k) = let before = from_three k in let len = len_of_more k in omega (arith, before, len)
+
+pub places_from_three : (k : ℕ) → 3 ≤ k → places_in k ≡ 84 + (k - 3) * 256
+places_from_three zero le = absurd (omega (arith, le))
+places_from_three (suc zero) le = absurd (omega (arith, le))
+places_from_three (suc (suc zero)) le = absurd (omega (arith, le))
+places_from_three (suc (suc (suc k))) le = from_three k ∙ ap (λ n. 84 + n * 256) (omega arith)

@@ -113,6 +113,16 @@ module _ {B : Type 0} where
             ∙ ap suc (length-without_at bs p (subst IsSome (cond-false (same_ptr x.0 p) (Some x.1) (at_ptr bs p) e) some))
       ]) refl
 
+  pub length-with_at : (bs : List (Ptr × B)) (p : Ptr) (w : B) → length (with_at bs p w) ≡ length bs
+  unfolding with_at
+  length-with_at [] p w = refl
+  length-with_at (x ∷ bs) p w =
+      (elim (same_ptr x.0 p) as (λ y. same_ptr x.0 p ≡ y → length (with_at (x ∷ bs) p w) ≡ length (x ∷ bs)) [
+        | true ↦ λ e. ap length (cond-true (same_ptr x.0 p) ((x.0, w) ∷ bs) (x ∷ with_at bs p w) e)
+        | false ↦ λ e.
+            ap length (cond-false (same_ptr x.0 p) ((x.0, w) ∷ bs) (x ∷ with_at bs p w) e) ∙ ap suc (length-with_at bs p w)
+      ]) refl
+
   pub at-cons_same : (p : Ptr) (b : B) (bs : List (Ptr × B)) → at_ptr ((p, b) ∷ bs) p ≡ Some b
   unfolding at_ptr
   at-cons_same p b bs = cond-true (same_ptr p p) _ _ (same_ptr_refl p)

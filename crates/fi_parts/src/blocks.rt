@@ -176,7 +176,7 @@ impl<T> Blocks<T> {
             return Err(NoRoom::of(value, refused));
         }
         let slot = self.slab.vacant_key();
-        match self.linked.claim(value, slot, self.slab.capacity()) {
+        match self.linked.claim(value, slot) {
             Ok(at) => Ok(self.slab.insert_reserved(at)),
             Err(refused) => Err(refused),
         }

@@ -65,6 +65,7 @@ impl Refused {
 pub fn reserve<T>(items: &mut Vec<T>, more: usize) -> Result<(), Refused>
     ensures items { items.new.items ≡ items.old.items }
     ensures len { vec_len items.new ≡ vec_len items.old }
+    ensures capacity { vec_capacity items.old ≤ vec_capacity items.new }
     ensures ok { OnOk result (vec_len items.new + more ≤ vec_capacity items.new) }
     ensures full { OnErr result (vec_capacity items.new < vec_len items.new + more) }
 {

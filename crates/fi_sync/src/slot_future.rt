@@ -70,6 +70,19 @@ fn no_waker(refused: Option<Refused>) -> Fault
     }
 }
 
+// Keeps a waker of no more use as the spare one, or as the second.
+#[inline(always)]
+fn keep(waker: Option<Waker>, spare: &mut Option<Waker>, second: &mut Option<Waker>) {
+    if waker.is_none() {
+        return;
+    }
+    if spare.is_none() {
+        *spare = waker;
+    } else {
+        *second = waker;
+    }
+}
+
 /// A state whose futures of the kind `K` are polled under their slots.
 pub trait PollSlot<K>: Cancel<K> {
     /// What a poll gives that is ready.
@@ -115,6 +128,9 @@ where
     // A waker that the primitive has no use for. Its drop would wake its task, so the next poll uses it again. Where that poll is
     // another task's and can make no waker, this one is registered, and `Context::register` has the task polled again.
     spare: Option<Waker>,
+    // Another one, used once there is no spare. A ready poll can leave two: where an unfair lock is granted to a future that is
+    // registered, or where a notified future's waker was not taken out yet.
+    second: Option<Waker>,
 }
 
 impl<M: HasMonitor, K> Model for SlotFuture<M, K>
@@ -145,6 +161,7 @@ where
             monitor,
             claim: Some(claim),
             spare: None,
+            second: None,
         }
     }
 
@@ -193,16 +210,21 @@ where
         let Some(claim) = self.claim.take() else {
             return cx.register(monitor.source(), &mut self.spare);
         };
+        if self.spare.is_none() {
+            self.spare = self.second.take();
+        }
         let mut refused = None;
         let (polled, fate) = monitor.poll(claim, cx, &mut self.spare, &mut refused);
         fate.settle(&mut self.claim);
         let Some((answer, leftover)) = polled else {
             return Poll::Ready(<M::State as PollSlot<K>>::Output::refused(no_waker(refused)));
         };
-        let back = leftover.displaced.flatten().or(leftover.unused.flatten());
-        if back.is_some() {
-            self.spare = back;
-        }
+        keep(
+            leftover.displaced.flatten(),
+            &mut self.spare,
+            &mut self.second,
+        );
+        keep(leftover.unused.flatten(), &mut self.spare, &mut self.second);
         answer
     }
 }
@@ -217,6 +239,7 @@ where
             monitor,
             claim,
             spare,
+            second,
         } = self;
         let left = match claim {
             Some(claim) => Some(monitor.monitor().cancel::<K>(claim)),
@@ -225,5 +248,6 @@ where
         // With no lock held: the drop of a value may run any code.
         drop(left);
         drop(spare);
+        drop(second);
     }
 }

@@ -24,4 +24,6 @@ mod polls;
 #[cfg(test)]
 mod pool;
 #[cfg(test)]
+mod rounds;
+#[cfg(test)]
 mod values;

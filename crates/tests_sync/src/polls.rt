@@ -1,8 +1,10 @@
 //! How often tasks are polled. A poll that is ready makes no waker, whose drop would have its task polled once more.
-ghost use Rattle.fi_sync.specs.Blanks.{IsLockBlank};
+ghost use Rattle.fi_sync.specs.Blanks.{IsLockBlank, IsPermitBlank};
 
 use fi_parts::MockClock;
-use fi_sync::{Blocking, Channel, ManualResetEvent, Mutex, TimerService, WaitForEventFuture};
+use fi_sync::{
+    Blocking, Channel, ManualResetEvent, Mutex, Semaphore, TimerService, WaitForEventFuture,
+};
 use futures::Future;
 use futures::task::Poll;
 use futures::test::MockTask;
@@ -115,6 +117,38 @@ fn lock_in_peace<R: Blocking + Copy, L: Ledger>(rt: R, blank: Blank) -> Option<b
 #[test]
 fn ready_locks_wake_nobody(rt: HostRuntime) {
     assert!(rt; lock_in_peace::<HostRuntime, Brand>(rt, Blank::new(1)) == Some(true));
+}
+
+// Whether an acquire that is granted while it is registered wakes nobody while it lives: it has two wakers of its own task then.
+// Another that waits before it is told; the semaphore isn't fair.
+fn overtakes_in_peace<R: Wait, L: Ledger>(
+    semaphore: &Semaphore<R, L>,
+    task: &MockTask,
+    other: &MockTask,
+) -> Option<bool> {
+    let mut first = semaphore.acquire(1).ok()?;
+    let mut second = semaphore.acquire(1).ok()?;
+    let mut waited = other.poll(&mut first).is_pending();
+    for _ in 0..2 {
+        waited = task.poll(&mut second).is_pending() && waited;
+    }
+    let is_released = semaphore.release(1).is_ok();
+    let is_granted = task.poll(&mut second).is_ready();
+    Some(waited && is_released && is_granted && !task.is_woken())
+}
+
+fn acquire_in_peace<R: Blocking + Copy, L: Ledger>(rt: R, blank: Blank) -> Option<bool>
+    requires blank { IsPermitBlank L.Ledger blank }
+{
+    let task = MockTask::new(&rt).ok()?;
+    let other = MockTask::new(&rt).ok()?;
+    let semaphore = Semaphore::<R, L>::new(rt.alloc(), rt, blank, false, 0);
+    overtakes_in_peace(&semaphore, &task, &other)
+}
+
+#[test]
+fn an_acquire_that_overtakes_wakes_nobody(rt: HostRuntime) {
+    assert!(rt; acquire_in_peace::<HostRuntime, Brand>(rt, Blank::new(u64::MAX)) == Some(true));
 }
 
 /// An event with one wait.

@@ -65,9 +65,9 @@ impl<T> CountedBlocks<T> {
         &mut self.owner.whole_mut(at).links
     }
 
-    /// A new block that is not in the list, one of at most so many. Where there is no memory the item comes back.
+    /// A new block that is not in the list. Where there is no memory the item comes back.
     #[inline(always)]
-    pub fn claim(&mut self, item: T, slot: usize, most: usize) -> Result<BlockPtr<T>, NoRoom<T>>
+    pub fn claim(&mut self, item: T, slot: usize) -> Result<BlockPtr<T>, NoRoom<T>>
     where
         T: Drop,
         ensures fresh { IfOk result (λ p. block_in self.old p ≡ None) }
@@ -76,7 +76,7 @@ impl<T> CountedBlocks<T> {
         ensures refused { OnErr result (self.new ≡ self.old) }
         ensures handed_back { IfErr result (λ failed. failed.0 ≡ item) }
     {
-        self.owner.put(item, slot, most)
+        self.owner.put(item, slot)
     }
 
     /// Frees a block and gives its item back. Its memory is kept for the next one.

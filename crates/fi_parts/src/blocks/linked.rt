@@ -76,9 +76,9 @@ impl<T> LinkedBlocks<T> {
         self.blocks.item_mut(at)
     }
 
-    /// A new block that is not in the list, one of at most so many. Where there is no memory the item comes back.
+    /// A new block that is not in the list. Where there is no memory the item comes back.
     #[inline(always)]
-    pub fn claim(&mut self, item: T, slot: usize, most: usize) -> Result<BlockPtr<T>, NoRoom<T>>
+    pub fn claim(&mut self, item: T, slot: usize) -> Result<BlockPtr<T>, NoRoom<T>>
     where
         T: Drop,
         ensures fresh { IfOk result (λ p. block_at self.old p ≡ None) }
@@ -87,7 +87,7 @@ impl<T> LinkedBlocks<T> {
         ensures refused { OnErr result (self.new ≡ self.old) }
         ensures handed_back { IfErr result (λ failed. failed.0 ≡ item) }
     {
-        self.blocks.claim(item, slot, most)
+        self.blocks.claim(item, slot)
     }
 
     /// Frees a block and gives its item back. Links that name it are the caller's care.

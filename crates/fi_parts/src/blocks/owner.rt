@@ -1,5 +1,5 @@
 //! The blocks, in chunks of memory. A freed block's place is kept for the next one, and a chunk until the owner ends.
-ghost use Rattle.std.specs.Prelude.{◌≡◌, ◌∷◌, ◌++◌, ◌+◌, ◌<◌, ◌≤◌, List, [], None, Some, length, map as each};
+ghost use Rattle.std.specs.Prelude.{◌≡◌, ◌∷◌, ◌++◌, ◌+◌, ◌^◌, ◌<◌, ◌≤◌, List, [], None, Some, length, map as each};
 ghost use Rattle.std.specs.Prelude.{IsSome, IfOk, IfErr, OnOk, OnErr};
 ghost use Rattle.std.specs.Borrow.{sem};
 ghost use Rattle.std.specs.Vec.{vec_len, vec_capacity};
@@ -8,7 +8,7 @@ ghost use denote.RawPtr.{Ptr, InBlock};
 ghost use Rattle.fi_parts.specs.declared.blocks.block.BlockPtr.{BlockPtr};
 ghost use Rattle.fi_parts.specs.Placed.{at_ptr, without_at, IsAddress};
 ghost use Rattle.fi_parts.specs.BlockOwner.{times, block_places, block_row};
-ghost use Rattle.fi_parts.specs.Chunks.{chunk_len, pointed, IsKept};
+ghost use Rattle.fi_parts.specs.Chunks.{chunk_len, places_in, pointed, IsKept};
 ghost use Rattle.fi_parts.specs.CountedBlocks.{loose_block};
 
 use crate::blocks::block::{Block, BlockPtr, Links};
@@ -35,10 +35,11 @@ impl<T> Model for BlockOwner<T> {
     ghost coded = { owned_code T.code };
 
     ghost use Rattle.fi_parts.specs.Chunks.{IsKept};
+    ghost use Rattle.std.specs.Vec.{vec_capacity};
 
     ghost view = { λ o. record { blocks = o.places.blocks } };
 
-    ghost invariant = { λ o. IsKept o.places o.stack.items o.chunks };
+    ghost invariant = { λ o. IsKept o.places o.stack.items (vec_capacity o.stack) o.chunks };
 }
 
 /// How many places the chunk of this number has.
@@ -53,12 +54,26 @@ fn chunk_len(chunk: usize) -> usize
     }
 }
 
+/// How many places the chunks before the one of this number have.
+fn places_in(chunk: usize) -> usize
+    requires { places_in chunk < 2 ^ 64 }
+    ensures { result ≡ places_in chunk }
+{
+    match chunk {
+        0 => 0,
+        1 => 4,
+        2 => 20,
+        _ => 84 + (chunk - 3) * 256,
+    }
+}
+
 /// Puts the pointers to the places of a chunk on the stack, the first one last.
 fn push_places<T>(stack: &mut Vec<BlockPtr<T>>, first: BlockPtr<T>, len: usize)
     requires place { InBlock first.ptr }
     requires room { vec_len stack.old + len ≤ vec_capacity stack.old }
     requires fits { FitsInBlock (block_row T.row) len }
     ensures count { vec_len stack.new ≡ vec_len stack.old + len }
+    ensures capacity { vec_capacity stack.new ≡ vec_capacity stack.old }
     ensures pushed { (vs : List (BlockPtr T)) × (stack.new.items ≡ stack.old.items ++ vs)
         × ((p : Ptr) → times p (each pointed vs) ≡ times p (block_places T.row first.ptr len)) }
 {
@@ -69,23 +84,22 @@ fn push_places<T>(stack: &mut Vec<BlockPtr<T>>, first: BlockPtr<T>, len: usize)
     }
 }
 
-/// Takes a chunk's memory. The stack's room for the places of at most so many blocks, and of the new chunk, is made here, so that
-/// `take` takes no memory. Where there is none no place changes.
+/// Takes a chunk's memory. The stack's room for the pointers to all places is made here, so that `take` takes no memory. Where there
+/// is none no place changes.
 fn grow<T>(
     places: &mut BlockPlaces<T>,
     stack: &mut Vec<BlockPtr<T>>,
     chunks: &mut usize,
     alloc: &Global,
-    most: usize,
 ) -> Result<(), Refused>
-    requires kept { IsKept places.old stack.old.items chunks.old }
+    requires kept { IsKept places.old stack.old.items (vec_capacity stack.old) chunks.old }
     requires none { length stack.old.items ≡ chunks.old }
-    ensures kept { IsKept places.new stack.new.items chunks.new }
+    ensures kept { IsKept places.new stack.new.items (vec_capacity stack.new) chunks.new }
     ensures blocks { places.new.blocks ≡ places.old.blocks }
     ensures vacant { OnOk result (chunks.new < length stack.new.items) }
 {
     let len = chunk_len(*chunks);
-    reserve(stack, most.saturating_add(len + 1))?;
+    reserve(stack, places_in(*chunks) + len + 1)?;
     let chunk = take_chunk::<Block<T>>(alloc, len)?;
     let first = places.add(chunk);
     stack.push_reserved(first);
@@ -94,24 +108,24 @@ fn grow<T>(
     Ok(())
 }
 
-/// Takes a chunk's memory where no place is vacant, as `grow`.
+/// Takes a chunk's memory, as `grow`, where no place is vacant. Else nothing changes.
 #[inline(always)]
 fn make_room<T>(
     places: &mut BlockPlaces<T>,
     stack: &mut Vec<BlockPtr<T>>,
     chunks: &mut usize,
     alloc: &Global,
-    most: usize,
 ) -> Result<(), Refused>
-    requires { IsKept places.old stack.old.items chunks.old }
-    ensures kept { IsKept places.new stack.new.items chunks.new }
+    requires { IsKept places.old stack.old.items (vec_capacity stack.old) chunks.old }
+    ensures kept { IsKept places.new stack.new.items (vec_capacity stack.new) chunks.new }
     ensures blocks { places.new.blocks ≡ places.old.blocks }
     ensures vacant { OnOk result (chunks.new < length stack.new.items) }
+    ensures only_if_none { chunks.old < length stack.old.items → (places.new ≡ places.old) × (chunks.new ≡ chunks.old) }
 {
     if stack.len() != *chunks {
         return Ok(());
     }
-    grow(places, stack, chunks, alloc, most)
+    grow(places, stack, chunks, alloc)
 }
 
 impl<T> BlockOwner<T> {
@@ -129,9 +143,10 @@ impl<T> BlockOwner<T> {
         }
     }
 
-    /// A new block, one of at most so many. It lies where no other does. Where there is no memory the item comes back.
+    /// A new block, which lies where no other does. A chunk is taken only where no place is vacant. Where there is no memory for it
+    /// the item comes back.
     #[inline(always)]
-    pub fn put(&mut self, item: T, slot: usize, most: usize) -> Result<BlockPtr<T>, NoRoom<T>>
+    pub fn put(&mut self, item: T, slot: usize) -> Result<BlockPtr<T>, NoRoom<T>>
     where
         T: Drop,
         ensures fresh { IfOk result (λ p. at_ptr self.old.blocks p.ptr ≡ None) }
@@ -144,7 +159,6 @@ impl<T> BlockOwner<T> {
             &mut self.stack,
             &mut self.chunks,
             &self.alloc,
-            most,
         );
         if let Err(refused) = made {
             return Err(NoRoom::of(item, refused));
@@ -165,9 +179,7 @@ impl<T> BlockOwner<T> {
         ensures gone { at_ptr self.new.blocks at.ptr ≡ None }
     {
         let block = self.places.take(at);
-        if self.stack.len() < self.stack.capacity() {
-            self.stack.push_reserved(at);
-        }
+        self.stack.push_reserved(at);
         block
     }
 

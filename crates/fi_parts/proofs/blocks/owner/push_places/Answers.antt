@@ -1,10 +1,10 @@
-use Rattle.std.proofs.Common.{◌≡◌, suc, ◌-◌, subst, arith, refl}
+use Rattle.std.proofs.Common.{◌≡◌, suc, ◌-◌, ◌∙◌, subst, arith, refl}
 use denote.Param.{param}
 use Rattle.fi_parts.proofs.ChunkPlaces.{Pushed, pushed_none, pushed_one, pushed_all, fits_within}
 use Rattle.fi_parts.proofs.blocks.owner.push_places.Goals as goal
 
 pub loop-left-init : goal.loop-left-init
-loop-left-init g c = (pushed_none (param 0 g.row.T) c.args.stack.now.items c.args.first.ptr c.args.len, c.requires.room, refl)
+loop-left-init g c = (pushed_none (param 0 g.row.T) c.args.stack.now.items c.args.first.ptr c.args.len, c.requires.room, refl, refl)
 
 pub further-requires-clause-fits : goal.further-requires-clause-fits
 further-requires-clause-fits g c =
@@ -22,6 +22,7 @@ loop-left-preserved g c =
           c.loop-left.invariant.0) c.push_reserved.ensures.items c.further.ensures,
       omega (arith, some, room, len, cap),
       omega (arith, some, count, len),
+      cap ∙ c.loop-left.invariant.3,
     )
 
 pub returns-clause-pushed : goal.returns-clause-pushed
