@@ -3,9 +3,10 @@ ghost use Rattle.fi_sync.specs.Blanks.{IsLockBlank, IsPermitBlank};
 
 use crate::timer::Shown;
 use crate::waited::{Moment, Receives, Sends, has_crossed};
+use fi_parts::buffer::FixedHeapBuf;
 use fi_sync::{
-    Blocking, Channel, ManualResetEvent, Mutex, OneshotBroadcastChannel, OneshotChannel, Semaphore,
-    SharedSemaphore, StateBroadcastChannel, TimerService,
+    Blocking, Channel, GenericChannel, ManualResetEvent, Mutex, OneshotBroadcastChannel,
+    OneshotChannel, Semaphore, SharedSemaphore, StateBroadcastChannel, TimerService,
 };
 use std::alloc::AllocGlobal;
 use std::marker::Brand;
@@ -52,6 +53,14 @@ fn state_crosses_threads(rt: HostRuntime) {
 #[test]
 fn channel_crosses_threads(rt: HostRuntime) {
     let channel = sends(Channel::<u64, 1, _>::new(rt.alloc(), rt));
+    let channel = shares(&channel);
+    assert!(rt; has_crossed(&rt, Receives(channel)) && has_crossed(&rt, Sends(channel)));
+}
+
+#[test]
+fn heap_channel_crosses_threads(rt: HostRuntime) {
+    let made = GenericChannel::<u64, FixedHeapBuf<u64>, _>::with_capacity(rt.alloc(), rt, 1);
+    let channel = sends(made.ok().expect(&rt, "memory"));
     let channel = shares(&channel);
     assert!(rt; has_crossed(&rt, Receives(channel)) && has_crossed(&rt, Sends(channel)));
 }
