@@ -1,7 +1,8 @@
-//! What the primitives are for: six programs as their users would write them. What they print does not depend on which thread runs when.
+//! What the primitives are for: seven programs as their users would write them. What they print does not depend on which thread runs when.
 #![tactic(auto)]
 
 mod connection_pool;
+mod database;
 mod limiter;
 mod pool_service;
 mod replay;
@@ -19,5 +20,6 @@ fn main(rt: HostRuntime) -> io::Result<()> {
     watcher::watch(rt)?;
     scheduler::schedule(rt)?;
     connection_pool::share(rt)?;
+    database::connect::<HostRuntime, Brand>(rt, Blank::new(u64::MAX))?;
     replay::record::<HostRuntime, Brand>(rt, Blank::new(3))
 }
