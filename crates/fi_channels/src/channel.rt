@@ -324,9 +324,11 @@ impl<T: Drop, B: RingBuf<Item = T>, W: Drop> ChannelState<T, B, W> {
         self.fields.can_stream(slot)
     }
 
-    /// Returns `true` if a poll of the stream under this slot would be ready now, so that it needs no waker.
+    /// Returns `true` if a poll of the stream under this slot would be ready now, so that it needs no waker; `false` where none lives.
     pub fn next_ends_now(&self, slot: Slot) -> bool
-        ensures { WouldBeReady (PollsNext self.now slot.0) result }
+        ensures ready { channel.can_stream (kind_of self.now slot.0) (receive_phase self.now slot.0) ≡ true →
+            WouldBeReady (PollsNext self.now slot.0) result }
+        ensures vacant { channel.can_stream (kind_of self.now slot.0) (receive_phase self.now slot.0) ≡ false → result ≡ false }
     {
         self.fields.next_ends_now(slot)
     }
@@ -400,7 +402,8 @@ impl<T: Drop, B: RingBuf<Item = T>, W: Drop> ChannelSendAccess for ChannelState<
     }
 
     fn send_ends_now(&self, slot: Slot) -> bool
-        ensures { WouldBeReady (PollsSend self.now slot.0) result }
+        ensures ready { WouldBeReady (PollsSend self.now slot.0) result }
+        ensures vacant { channel.can_send (send_phase self.now slot.0) ≡ false → result ≡ false }
     {
         self.fields.send_ends_now(slot)
     }
@@ -464,7 +467,9 @@ impl<T: Drop, B: RingBuf<Item = T>, W: Drop> ChannelReceiveAccess for ChannelSta
     }
 
     fn receive_ends_now(&self, slot: Slot) -> bool
-        ensures { WouldBeReady (λ waker. Answered (PollsReceive self.now slot.0 waker) (λ fault state. ⊥)) result }
+        ensures ready { channel.can_receive (kind_of self.now slot.0) (receive_phase self.now slot.0) ≡ true →
+            WouldBeReady (λ waker. Answered (PollsReceive self.now slot.0 waker) (λ fault state. ⊥)) result }
+        ensures vacant { channel.can_receive (kind_of self.now slot.0) (receive_phase self.now slot.0) ≡ false → result ≡ false }
     {
         self.fields.receive_ends_now(slot)
     }

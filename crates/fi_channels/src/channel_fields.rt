@@ -123,9 +123,10 @@ impl<T: Drop, B: RingBuf<Item = T>, W: Drop> ChannelFields<T, B, W> {
         self.waiters.phase::<Receives>(slot).is_some()
     }
 
-    /// Whether a poll of the send under this slot would be ready now.
+    /// Returns `true` if a poll of the send under this slot would be ready now; `false` where none may be polled.
     pub fn send_ends_now(&self, slot: Slot) -> bool
-        ensures { WouldBeReady (PollsSend (machine_of B.bounded self.now) slot.0) result }
+        ensures ready { WouldBeReady (PollsSend (machine_of B.bounded self.now) slot.0) result }
+        ensures vacant { can_send (phase_of self.now.waiters.sends slot.0) ≡ false → result ≡ false }
     {
         match self.waiters.phase::<Sends>(slot) {
             Some(Phase::Fresh) => !self.is_open || self.buffer.can_push(),
@@ -147,24 +148,41 @@ impl<T: Drop, B: RingBuf<Item = T>, W: Drop> ChannelFields<T, B, W> {
         }
     }
 
-    /// Whether a poll of the receive or the stream under this slot would be ready now, if it has not ended.
+    /// Returns `true` if a poll of the receive under this slot would be ready now; `false` where none may be polled, as where a stream
+    /// lives.
     pub fn receive_ends_now(&self, slot: Slot) -> bool
-        ensures { WouldBeReady (PollsReceive (machine_of B.bounded self.now) slot.0) result }
+        // The machine's polls don't ask for the kind.
+        ensures ready { can_receive (asks_of self.now.waiters.receives slot.0) (phase_of self.now.waiters.receives slot.0) ≡ true →
+            WouldBeReady (PollsReceive (machine_of B.bounded self.now) slot.0) result }
+        ensures vacant { can_receive (asks_of self.now.waiters.receives slot.0) (phase_of self.now.waiters.receives slot.0) ≡ false →
+            result ≡ false }
     {
-        match self.waiters.phase::<Receives>(slot) {
-            Some(Phase::Fresh | Phase::Told) => self.has_next() || !self.is_open,
-            None | Some(Phase::Registered(_) | Phase::Complete | Phase::Ended) => false,
+        let future = match self.waiters.future::<Receives>(slot) {
+            Some(future) => future,
+            None => return false,
+        };
+        match (&future.asks, &future.phase) {
+            (ReceiveKind::Single, Phase::Fresh | Phase::Told) => self.has_next() || !self.is_open,
+            _ => false,
         }
     }
 
-    /// Whether a poll of the stream under this slot would be ready now: one that has ended ends again.
+    /// Returns `true` if a poll of the stream under this slot would be ready now (one that has ended ends again); `false` where no
+    /// stream lives.
     pub fn next_ends_now(&self, slot: Slot) -> bool
-        ensures { WouldBeReady (PollsNext (machine_of B.bounded self.now) slot.0) result }
+        ensures ready { can_stream (asks_of self.now.waiters.receives slot.0) (phase_of self.now.waiters.receives slot.0) ≡ true →
+            WouldBeReady (PollsNext (machine_of B.bounded self.now) slot.0) result }
+        ensures vacant { can_stream (asks_of self.now.waiters.receives slot.0) (phase_of self.now.waiters.receives slot.0) ≡ false →
+            result ≡ false }
     {
-        match self.waiters.phase::<Receives>(slot) {
-            Some(Phase::Fresh | Phase::Told) => self.has_next() || !self.is_open,
-            Some(Phase::Ended) => true,
-            None | Some(Phase::Registered(_) | Phase::Complete) => false,
+        let future = match self.waiters.future::<Receives>(slot) {
+            Some(future) => future,
+            None => return false,
+        };
+        match (&future.asks, &future.phase) {
+            (ReceiveKind::Stream, Phase::Fresh | Phase::Told) => self.has_next() || !self.is_open,
+            (ReceiveKind::Stream, Phase::Ended) => true,
+            _ => false,
         }
     }
 

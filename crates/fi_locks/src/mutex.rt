@@ -268,9 +268,11 @@ impl<T: Drop, W: Drop> MutexState<T, W> {
         }
     }
 
-    /// Returns `true` if a poll of the future under this slot would be ready now, so that it needs no waker.
+    /// Returns `true` if a poll of the future under this slot would be ready now, so that it needs no waker; `false` where none may be
+    /// polled.
     pub fn ends_now(&self, slot: Slot) -> bool
-        ensures { WouldBeReady (Polls self.now slot.0) result }
+        ensures ready { WouldBeReady (Polls self.now slot.0) result }
+        ensures vacant { can_be_polled (phase_at self.now slot.0) ≡ false → result ≡ false }
     {
         match self.locks.phase(slot) {
             Some(Phase::Fresh) => self.value.is_some() && !self.is_promised(),

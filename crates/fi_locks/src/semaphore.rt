@@ -231,9 +231,11 @@ impl<W: Drop> SemaphoreState<W> {
         }
     }
 
-    /// Returns `true` if a poll of the future under this slot would be ready now, so that it needs no waker.
+    /// Returns `true` if a poll of the future under this slot would be ready now, so that it needs no waker; `false` where none may be
+    /// polled.
     pub fn ends_now(&self, slot: Slot) -> bool
-        ensures { WouldBeReady (Polls self.now slot.0) result }
+        ensures ready { WouldBeReady (Polls self.now slot.0) result }
+        ensures vacant { can_be_polled (phase_at self.now slot.0) ≡ false → result ≡ false }
     {
         self.fields.ends_now(slot)
     }
@@ -391,7 +393,8 @@ impl<W: Drop> Fields<W> {
     }
 
     fn ends_now(&self, slot: Slot) -> bool
-        ensures { WouldBeReady (Polls (machine_of self.now) slot.0) result }
+        ensures ready { WouldBeReady (Polls (machine_of self.now) slot.0) result }
+        ensures vacant { can_be_polled (phase_of self.now.waits.side slot.0) ≡ false → result ≡ false }
     {
         let future = match self.waits.future(slot) {
             Some(future) => future,

@@ -207,9 +207,11 @@ impl<W: Drop> TimerState<W> {
         }
     }
 
-    /// Returns `true` if a poll of the future under this slot would be ready at this moment, so that it needs no waker.
+    /// Returns `true` if a poll of the future under this slot would be ready at this moment, so that it needs no waker; `false` where
+    /// none may be polled.
     pub fn ends_now(&self, slot: Slot, now: u64) -> bool
-        ensures { WouldBeReady (Polls self.now slot.0 now) result }
+        ensures ready { WouldBeReady (Polls self.now slot.0 now) result }
+        ensures vacant { can_be_polled (phase_at self.now slot.0) ≡ false → result ≡ false }
     {
         let future = match self.deadlines.future(slot) {
             Some(future) => future,
