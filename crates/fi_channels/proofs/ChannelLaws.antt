@@ -39,17 +39,13 @@ use Rattle.fi_channels.specs.declared.channel_errors.TrySendError.{TrySendError}
 use Rattle.fi_channels.specs.declared.channel_errors.TrySendError.TheVariants as not_sent
 use Rattle.fi_channels.specs.declared.channel_fields.ReceiveKind.{ReceiveKind}
 use Rattle.fi_channels.specs.declared.channel_fields.ReceiveKind.TheVariants.{Single, Stream}
-use Rattle.fi_channels.specs.Channel.{ChannelMachine, Buffered, AreTold, rules, is_send_phase, is_receive_phase}
-use Rattle.fi_channels.specs.Channel.{owns_value}
-use Rattle.fi_channels.specs.Channel.{has_room, Stores}
-use Rattle.fi_channels.specs.Channel.{next_of, value_count, send_phase, receive_phase, value_of, kind_of, opened}
-use Rattle.fi_channels.specs.Channel.{finishes, is_given, tells_oldest, completes_oldest, MakesSend, MakesReceive}
-use Rattle.fi_channels.specs.Channel.{FreshSends}
-use Rattle.fi_channels.specs.Channel.{SendsAs, PollsSend}
-use Rattle.fi_channels.specs.Channel.{can_send, can_stream}
-use Rattle.fi_channels.specs.Channel.{CancelsSend, TakesNext, ReceivesAs, PollsReceive, StreamsAs, PollsNext}
-use Rattle.fi_channels.specs.Channel.{CancelsReceiveAs, CancelsReceive}
+use Rattle.fi_channels.specs.Channel.{MakesSend, MakesReceive, FreshSends, SendsAs, PollsSend, CancelsSend, TakesNext}
+use Rattle.fi_channels.specs.Channel.{ReceivesAs, PollsReceive, StreamsAs, PollsNext, CancelsReceiveAs, CancelsReceive}
 use Rattle.fi_channels.specs.Channel.{TriesSend, TriesNext, TriesReceive, ClosesAt, Closes, Wakes, IsSound, OwesNoWake}
+use Rattle.fi_channels.specs.ChannelWords.{ChannelMachine, Buffered, AreTold, rules, is_send_phase, is_receive_phase}
+use Rattle.fi_channels.specs.ChannelWords.{owns_value, has_room, Stores, next_of, value_count, send_phase}
+use Rattle.fi_channels.specs.ChannelWords.{receive_phase, value_of, kind_of, opened, finishes, is_given, tells_oldest}
+use Rattle.fi_channels.specs.ChannelWords.{completes_oldest, can_send, can_stream}
 use Rattle.fi_channels.specs.declared.two_sides.Waiter.{Waiter}
 use Rattle.fi_channels.specs.declared.two_sides.Waiter.TheVariants.{Send, Receive}
 use Rattle.fi_channels.specs.TwoSidedEffects.{TwoSidedEffect, TakesOn}

@@ -14,9 +14,9 @@ use Rattle.fi_channels.specs.declared.channel_errors.SendFault.{SendFault}
 use Rattle.fi_channels.specs.declared.channel_errors.SendFault.TheVariants as send_fault
 use Rattle.fi_channels.specs.declared.channel_fields.ReceiveKind.{ReceiveKind}
 use Rattle.fi_channels.specs.declared.channel_fields.ReceiveKind.TheVariants.{Single, Stream}
-use Rattle.fi_channels.specs.Channel.{ChannelMachine, rules, is_send_phase, is_receive_phase, can_send, can_take}
-use Rattle.fi_channels.specs.Channel.{can_receive, can_stream}
-use Rattle.fi_channels.specs.Channel.{send_phase, receive_phase, kind_of, MakesSend, MakesReceive}
+use Rattle.fi_channels.specs.Channel.{MakesSend, MakesReceive}
+use Rattle.fi_channels.specs.ChannelWords.{ChannelMachine, rules, is_send_phase, is_receive_phase, can_send, can_take}
+use Rattle.fi_channels.specs.ChannelWords.{can_receive, can_stream, send_phase, receive_phase, kind_of}
 use Rattle.fi_channels.specs.ChannelStays.{TheseStay, AllStay, OtherSendsStay, OtherReceivesStay, IsApartFromSends, IsApartFromReceives}
 use Rattle.fi_channels.proofs.ChannelLaws.{Holds, Goes, sent_change, makes_send, makes_receive, unchanged}
 use Rattle.fi_channels.proofs.Results.{either, of_made}

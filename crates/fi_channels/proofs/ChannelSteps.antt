@@ -30,11 +30,11 @@ use Rattle.fi_channels.specs.declared.channel_fields.ReceiveKind.{ReceiveKind}
 use Rattle.fi_channels.specs.declared.channel_fields.ReceiveKind.TheVariants.{Single, Stream}
 use Rattle.fi_channels.specs.declared.two_sides.Waiter.{Waiter}
 use Rattle.fi_channels.specs.declared.two_sides.Waiter.TheVariants.{Send, Receive}
-use Rattle.fi_channels.specs.Channel.{ChannelMachine, Buffered, IsSound, owns_value, is_send_phase, is_receive_phase}
-use Rattle.fi_channels.specs.Channel.{has_room, Stores}
-use Rattle.fi_channels.specs.Channel.{can_take, is_given, finishes, tells_oldest, completes_oldest, next_of}
-use Rattle.fi_channels.specs.Channel.{SendsAs, FreshSends, PollsReceive, ReceivesAs, TakesNext, CancelsReceive}
+use Rattle.fi_channels.specs.Channel.{IsSound, SendsAs, FreshSends, PollsReceive, ReceivesAs, TakesNext, CancelsReceive}
 use Rattle.fi_channels.specs.Channel.{CancelsReceiveAs, Closes, ClosesAt}
+use Rattle.fi_channels.specs.ChannelWords.{ChannelMachine, Buffered, owns_value, is_send_phase, is_receive_phase}
+use Rattle.fi_channels.specs.ChannelWords.{has_room, Stores, can_take, is_given, finishes, tells_oldest}
+use Rattle.fi_channels.specs.ChannelWords.{completes_oldest, next_of}
 use Rattle.fi_channels.specs.ChannelFields.{ChannelWaiters, machine, phase_given, Takes, TakesAt}
 use Rattle.fi_channels.specs.TwoSidedEffects.{TakesOn, TakesTwoSided}
 use Rattle.fi_channels.specs.TwoSidedEffects.TwoSidedEffect.{OnSends}

@@ -4,8 +4,8 @@ use Rattle.std.proofs.lemmas.Bool.{both_ways}
 use Rattle.fi_parts.specs.declared.errors.CloseStatus.{CloseStatus}
 use Rattle.fi_parts.specs.Buffer.{Bounded, empty}
 use Rattle.fi_parts.specs.Waiting.{is_registered}
-use Rattle.fi_channels.specs.Channel.{ChannelMachine, Buffered, ClosesAt, Closes, IsSound, OwesNoWake, with_buffer}
-use Rattle.fi_channels.specs.Channel.{send_phase}
+use Rattle.fi_channels.specs.Channel.{ClosesAt, Closes, IsSound, OwesNoWake}
+use Rattle.fi_channels.specs.ChannelWords.{ChannelMachine, Buffered, with_buffer, send_phase}
 use Rattle.fi_channels.specs.Cleared.{ClosesAndClears, NoSendWaits}
 use Rattle.fi_channels.proofs.ChannelLaws.{closes}
 use Rattle.fi_channels.proofs.ToldReceives.{fewer_told}

@@ -3,7 +3,7 @@ use Rattle.std.proofs.Common.{◌≡◌, ◌+◌, ℕ, suc, nat_lt, drop, ◌⊎
 use Rattle.std.proofs.Common.{refl, sym, ap, subst, ◌∙◌, inl, inr, arith}
 use Rattle.fi_parts.specs.Buffer.{Bounded, Fits, pushed, popped}
 use Rattle.fi_parts.proofs.PairsWithin.{none_some, some_same}
-use Rattle.fi_channels.specs.Channel.{Buffered, has_room, next_value}
+use Rattle.fi_channels.specs.ChannelWords.{Buffered, has_room, next_value}
 
 -- The oldest of this queue owns this value; None if the queue is empty.
 abbrev pub Fronts : {T : Type 0} → List ℕ → Option T → Type 0

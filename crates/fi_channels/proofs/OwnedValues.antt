@@ -15,7 +15,7 @@ use Rattle.fi_parts.proofs.Effects.{registered_as}
 use Rattle.fi_parts.proofs.Oldest.{get-with_asks, get-with_asks_other}
 use Rattle.fi_parts.proofs.Waiting.{noticed_phase, get-with_phase, get-with_phase_other, phase-with_phase, asks-with_phase}
 use Rattle.fi_parts.proofs.Waiting.{asks-with_phases, phase-emptied, lives_as, first_registered}
-use Rattle.fi_channels.specs.Channel.{owns_value}
+use Rattle.fi_channels.specs.ChannelWords.{owns_value}
 use Rattle.fi_channels.proofs.ChannelSteps.{future_there}
 
 module _ {W : Type 0} where

@@ -6,7 +6,7 @@ use Rattle.fi_parts.specs.BufferCode.{bounded_code}
 use Rattle.fi_channels.specs.declared.channel_fields.ReceiveKind.{ReceiveKind}
 use Rattle.fi_channels.specs.declared.channel_fields.ReceiveKind.TheVariants.{Single, Stream}
 use Rattle.fi_channels.specs.TwoSidedCode.{two_sided_code}
-use Rattle.fi_channels.specs.Channel.{Buffered, ChannelMachine}
+use Rattle.fi_channels.specs.ChannelWords.{Buffered, ChannelMachine}
 
 abbrev pub buffered_code : {T : Type 0} → Coded T → Coded (Buffered T)
 buffered_code {T} t =

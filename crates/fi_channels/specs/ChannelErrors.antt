@@ -1,5 +1,5 @@
 -- What the refusals of a channel say.
-use Rattle.std.specs.Prelude.{Bool, true, false}
+use Rattle.std.specs.Prelude.{Bool, true, false, Option, Some, None}
 use Rattle.fi_parts.specs.declared.errors.Fault.{Fault}
 use Rattle.fi_parts.specs.declared.errors.Fault.TheVariants as faults
 use Rattle.fi_channels.specs.declared.channel_errors.SendFault.{SendFault}
@@ -15,6 +15,11 @@ module _ {T : Type 0} where
   value_in (Full value) = value
   value_in (Closed value) = value
   value_in (NoMemory refused) = refused.0
+
+  -- the value that a send's poll hands back
+  abbrev pub value_of_poll : SendFault T → Option T
+  value_of_poll (not_polled.Closed value) = Some value
+  value_of_poll (not_polled.Fault fault) = None
 
   abbrev pub is_full : TrySendError T → Bool
   is_full (Full value) = true

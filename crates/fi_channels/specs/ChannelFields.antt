@@ -8,7 +8,7 @@ use Rattle.fi_parts.specs.declared.phase.Phase.TheVariants.{Fresh, Ended}
 use Rattle.fi_channels.specs.declared.channel_fields.ChannelFields.{ChannelFields}
 use Rattle.fi_channels.specs.declared.channel_fields.ReceiveKind.{ReceiveKind}
 use Rattle.fi_channels.specs.declared.channel_fields.ReceiveKind.TheVariants.{Stream}
-use Rattle.fi_channels.specs.Channel.{ChannelMachine, next_value}
+use Rattle.fi_channels.specs.ChannelWords.{ChannelMachine, next_value}
 use Rattle.fi_channels.specs.TwoSidesModel.{TwoSidesModel}
 use Rattle.fi_channels.specs.Waiter.{of_sends}
 

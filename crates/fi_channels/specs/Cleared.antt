@@ -3,7 +3,8 @@ use Rattle.std.specs.Prelude.{◌≡◌, ℕ, false}
 use Rattle.fi_parts.specs.declared.errors.CloseStatus.{CloseStatus}
 use Rattle.fi_parts.specs.Buffer.{Bounded, empty}
 use Rattle.fi_parts.specs.Waiting.{is_registered}
-use Rattle.fi_channels.specs.Channel.{ChannelMachine, Closes, with_buffer, send_phase}
+use Rattle.fi_channels.specs.Channel.{Closes}
+use Rattle.fi_channels.specs.ChannelWords.{ChannelMachine, with_buffer, send_phase}
 
 module _ {T W : Type 0} where
   -- It is as after a close, and then its buffer is taken out with its items and its memory. An empty one of the same capacity is left.

@@ -3,13 +3,12 @@ ghost use Rattle.std.specs.Prelude.{◌≡◌, ◌==◌, not, true, false, Optio
 ghost use Rattle.futures.specs.Poll.{OnPending};
 ghost use Rattle.fi_parts.specs.Buffer.{empty};
 ghost use Rattle.fi_channels.specs.Polled.{unused_after, Answered, displaced_by, WouldBeReady, LeavesWhere};
-ghost use Rattle.fi_channels.specs.Channel as channel;
-ghost use Rattle.fi_channels.specs.Channel.{opened, send_phase, receive_phase, kind_of, displaced_send};
-ghost use Rattle.fi_channels.specs.Channel.{displaced_receive};
-ghost use Rattle.fi_channels.specs.Channel.{displaced_by_send, MakesSend, MakesReceive, PollsSend};
-ghost use Rattle.fi_channels.specs.Channel.{PollsReceive, PollsNext, CancelsSend, CancelsReceive, TriesSend};
-ghost use Rattle.fi_channels.specs.Channel.{TriesReceive};
-ghost use Rattle.fi_channels.specs.Channel.{Closes, Wakes, IsSound, OwesNoWake, has_room};
+ghost use Rattle.fi_channels.specs.Channel.{MakesSend, MakesReceive, PollsSend, PollsReceive, PollsNext, CancelsSend};
+ghost use Rattle.fi_channels.specs.Channel.{CancelsReceive, TriesSend, TriesReceive, Closes, Wakes, IsSound};
+ghost use Rattle.fi_channels.specs.Channel.{OwesNoWake};
+ghost use Rattle.fi_channels.specs.ChannelWords as words;
+ghost use Rattle.fi_channels.specs.ChannelWords.{opened, send_phase, receive_phase, kind_of, displaced_send};
+ghost use Rattle.fi_channels.specs.ChannelWords.{displaced_receive, displaced_by_send, has_room};
 ghost use Rattle.fi_channels.specs.ChannelStays.{AllStay, OtherSendsStay, OtherReceivesStay, IsApartFromSends, IsApartFromReceives};
 ghost use Rattle.fi_channels.specs.Cleared.{ClosesAndClears, NoSendWaits};
 ghost use Rattle.fi_channels.specs.declared.channel_fields.ReceiveKind.TheVariants.{Single, Stream};
@@ -93,7 +92,8 @@ pub type LocalChannel<T, const N: usize, W> = ChannelState<T, ArrayBuf<T, N>, W>
 pub type LocalUnbufferedChannel<T, W> = LocalChannel<T, 0, W>;
 
 impl<T: Drop, B: RingBuf<Item = T>, W> Model for ChannelState<T, B, W> {
-    ghost use Rattle.fi_channels.specs.Channel.{ChannelMachine, IsSound, OwesNoWake};
+    ghost use Rattle.fi_channels.specs.Channel.{IsSound, OwesNoWake};
+    ghost use Rattle.fi_channels.specs.ChannelWords.{ChannelMachine};
     ghost use Rattle.fi_channels.specs.ChannelCode.{channel_code};
     ghost use Rattle.fi_channels.specs.ChannelFields.{machine_of};
 
@@ -217,7 +217,7 @@ impl<T: Drop, B: RingBuf<Item = T>, W: Drop> ChannelState<T, B, W> {
     pub fn send(&mut self, value: T) -> Result<LocalSendFuture, NoRoom<T>>
         ensures made { IfOk result (λ future. MakesSend self.old value future.name self.new) }
         ensures fresh { IfOk result (λ future. future.has_ended ≡ false) }
-        ensures pollable { IfOk result (λ future. channel.can_send (send_phase self.new future.name) ≡ true) }
+        ensures pollable { IfOk result (λ future. words.can_send (send_phase self.new future.name) ≡ true) }
         ensures refused { OnErr result (self.new ≡ self.old) }
         ensures handed_back { IfErr result (λ failed. failed.0 ≡ value) }
         ensures apart { IfOk result (λ future. IsApartFromSends future.name self.old) }
@@ -233,7 +233,7 @@ impl<T: Drop, B: RingBuf<Item = T>, W: Drop> ChannelState<T, B, W> {
         ensures made { IfOk result (λ future. MakesReceive self.old Single future.name self.new) }
         ensures fresh { IfOk result (λ future. future.has_ended ≡ false) }
         ensures pollable { IfOk result
-            (λ future. channel.can_receive (kind_of self.new future.name) (receive_phase self.new future.name) ≡ true) }
+            (λ future. words.can_receive (kind_of self.new future.name) (receive_phase self.new future.name) ≡ true) }
         ensures refused { OnErr result (self.new ≡ self.old) }
         ensures fault { IfErr result (λ fault. fault ≡ Fault.NoMemory) }
         ensures apart { IfOk result (λ future. IsApartFromReceives future.name self.old) }
@@ -249,7 +249,7 @@ impl<T: Drop, B: RingBuf<Item = T>, W: Drop> ChannelState<T, B, W> {
         ensures made { IfOk result (λ future. MakesReceive self.old Stream future.name self.new) }
         ensures fresh { IfOk result (λ future. future.has_ended ≡ false) }
         ensures pollable { IfOk result
-            (λ future. channel.can_stream (kind_of self.new future.name) (receive_phase self.new future.name) ≡ true) }
+            (λ future. words.can_stream (kind_of self.new future.name) (receive_phase self.new future.name) ≡ true) }
         ensures refused { OnErr result (self.new ≡ self.old) }
         ensures fault { IfErr result (λ fault. fault ≡ Fault.NoMemory) }
         ensures apart { IfOk result (λ future. IsApartFromReceives future.name self.old) }
@@ -281,7 +281,7 @@ impl<T: Drop, B: RingBuf<Item = T>, W: Drop> ChannelState<T, B, W> {
     #[inline(always)]
     pub fn claim_send(&mut self, value: T) -> Result<Slot, NoRoom<T>>
         ensures made { IfOk result (λ slot. MakesSend self.old value slot.0 self.new) }
-        ensures pollable { IfOk result (λ slot. channel.can_send (send_phase self.new slot.0) ≡ true) }
+        ensures pollable { IfOk result (λ slot. words.can_send (send_phase self.new slot.0) ≡ true) }
         ensures refused { OnErr result (self.new ≡ self.old) }
         ensures handed_back { IfErr result (λ failed. failed.0 ≡ value) }
         ensures apart { IfOk result (λ slot. IsApartFromSends slot.0 self.old) }
@@ -295,7 +295,7 @@ impl<T: Drop, B: RingBuf<Item = T>, W: Drop> ChannelState<T, B, W> {
     pub fn claim_receive(&mut self) -> Result<Slot, Fault>
         ensures made { IfOk result (λ slot. MakesReceive self.old Single slot.0 self.new) }
         ensures pollable { IfOk result
-            (λ slot. channel.can_receive (kind_of self.new slot.0) (receive_phase self.new slot.0) ≡ true) }
+            (λ slot. words.can_receive (kind_of self.new slot.0) (receive_phase self.new slot.0) ≡ true) }
         ensures refused { OnErr result (self.new ≡ self.old) }
         ensures fault { IfErr result (λ fault. fault ≡ Fault.NoMemory) }
         ensures apart { IfOk result (λ slot. IsApartFromReceives slot.0 self.old) }
@@ -308,7 +308,7 @@ impl<T: Drop, B: RingBuf<Item = T>, W: Drop> ChannelState<T, B, W> {
     pub fn claim_stream(&mut self) -> Result<Slot, Fault>
         ensures made { IfOk result (λ slot. MakesReceive self.old Stream slot.0 self.new) }
         ensures pollable { IfOk result
-            (λ slot. channel.can_stream (kind_of self.new slot.0) (receive_phase self.new slot.0) ≡ true) }
+            (λ slot. words.can_stream (kind_of self.new slot.0) (receive_phase self.new slot.0) ≡ true) }
         ensures refused { OnErr result (self.new ≡ self.old) }
         ensures fault { IfErr result (λ fault. fault ≡ Fault.NoMemory) }
         ensures apart { IfOk result (λ slot. IsApartFromReceives slot.0 self.old) }
@@ -319,16 +319,16 @@ impl<T: Drop, B: RingBuf<Item = T>, W: Drop> ChannelState<T, B, W> {
 
     /// Returns `true` if a stream lives under this slot, so it may be polled.
     pub fn can_stream(&self, slot: Slot) -> bool
-        ensures { result ≡ channel.can_stream (kind_of self.now slot.0) (receive_phase self.now slot.0) }
+        ensures { result ≡ words.can_stream (kind_of self.now slot.0) (receive_phase self.now slot.0) }
     {
         self.fields.can_stream(slot)
     }
 
     /// Returns `true` if a poll of the stream under this slot would be ready now, so that it needs no waker; `false` where none lives.
     pub fn next_ends_now(&self, slot: Slot) -> bool
-        ensures ready { channel.can_stream (kind_of self.now slot.0) (receive_phase self.now slot.0) ≡ true →
+        ensures ready { words.can_stream (kind_of self.now slot.0) (receive_phase self.now slot.0) ≡ true →
             WouldBeReady (PollsNext self.now slot.0) result }
-        ensures vacant { channel.can_stream (kind_of self.now slot.0) (receive_phase self.now slot.0) ≡ false → result ≡ false }
+        ensures vacant { words.can_stream (kind_of self.now slot.0) (receive_phase self.now slot.0) ≡ false → result ≡ false }
     {
         self.fields.next_ends_now(slot)
     }
@@ -336,12 +336,12 @@ impl<T: Drop, B: RingBuf<Item = T>, W: Drop> ChannelState<T, B, W> {
     /// Polls the stream under this slot: ready with its next item, or with None once the channel is closed and empty, and
     /// ever after; else it is registered with this waker. `remove_receive_waiter` cancels it.
     pub fn next_or_register(&mut self, slot: Slot, waker: W) -> (Poll<Option<T>>, Leftover<W>)
-        requires { channel.can_stream (kind_of self.old slot.0) (receive_phase self.old slot.0) ≡ true }
+        requires { words.can_stream (kind_of self.old slot.0) (receive_phase self.old slot.0) ≡ true }
         ensures polled { PollsNext self.old slot.0 waker result.0 self.new }
         ensures displaced { result.1.displaced ≡ displaced_receive self.old slot.0 }
         ensures unused { result.1.unused ≡ unused_after result.0 waker }
         // The stream still lives, until it is cancelled.
-        ensures live { channel.can_stream (kind_of self.new slot.0) (receive_phase self.new slot.0) ≡ true }
+        ensures live { words.can_stream (kind_of self.new slot.0) (receive_phase self.new slot.0) ≡ true }
         ensures others { OtherReceivesStay slot.0 self.old self.new }
     {
         match self.next_checked(slot, waker) {
@@ -361,11 +361,11 @@ impl<T: Drop, B: RingBuf<Item = T>, W: Drop> ChannelState<T, B, W> {
         ensures displaced { IfOk result (λ polled. polled.1.displaced ≡ displaced_receive self.old slot.0) }
         ensures unused { IfOk result (λ polled. polled.1.unused ≡ unused_after polled.0 waker) }
         ensures live { IfOk result
-            (λ _. channel.can_stream (kind_of self.new slot.0) (receive_phase self.new slot.0) ≡ true) }
+            (λ _. words.can_stream (kind_of self.new slot.0) (receive_phase self.new slot.0) ≡ true) }
         ensures others { OtherReceivesStay slot.0 self.old self.new }
-        ensures pollable { OnOk result (channel.can_stream (kind_of self.old slot.0) (receive_phase self.old slot.0) ≡ true) }
+        ensures pollable { OnOk result (words.can_stream (kind_of self.old slot.0) (receive_phase self.old slot.0) ≡ true) }
         ensures refused { OnErr result
-            ((channel.can_stream (kind_of self.old slot.0) (receive_phase self.old slot.0) ≡ false) × (self.new ≡ self.old)) }
+            ((words.can_stream (kind_of self.old slot.0) (receive_phase self.old slot.0) ≡ false) × (self.new ≡ self.old)) }
         ensures handed_back { IfErr result (λ back. back ≡ waker) }
     {
         self.fields.next_checked(slot, waker)
@@ -375,17 +375,18 @@ impl<T: Drop, B: RingBuf<Item = T>, W: Drop> ChannelState<T, B, W> {
 impl<T: Drop, B: RingBuf<Item = T>, W: Drop> ChannelSendAccess for ChannelState<T, B, W> {
     ghost use Rattle.std.specs.Prelude.{is_some};
     ghost use Rattle.fi_channels.specs.Channel as channel;
+    ghost use Rattle.fi_channels.specs.ChannelWords as words;
     ghost use Rattle.fi_channels.specs.ChannelStays as channel_stays;
 
     type Item = T;
 
     type Waker = W;
 
-    ghost is_sendable = { λ state name. channel.can_send (channel.send_phase state name) };
+    ghost is_sendable = { λ state name. words.can_send (words.send_phase state name) };
 
-    ghost is_sending = { λ state name. is_some (channel.send_phase state name) };
+    ghost is_sending = { λ state name. is_some (words.send_phase state name) };
 
-    ghost waker_of = { channel.displaced_send };
+    ghost waker_of = { words.displaced_send };
 
     ghost sends = { channel.PollsSend };
 
@@ -403,7 +404,7 @@ impl<T: Drop, B: RingBuf<Item = T>, W: Drop> ChannelSendAccess for ChannelState<
 
     fn send_ends_now(&self, slot: Slot) -> bool
         ensures ready { WouldBeReady (PollsSend self.now slot.0) result }
-        ensures vacant { channel.can_send (send_phase self.now slot.0) ≡ false → result ≡ false }
+        ensures vacant { words.can_send (send_phase self.now slot.0) ≡ false → result ≡ false }
     {
         self.fields.send_ends_now(slot)
     }
@@ -415,10 +416,10 @@ impl<T: Drop, B: RingBuf<Item = T>, W: Drop> ChannelSendAccess for ChannelState<
             (λ polled. polled.1.displaced ≡ displaced_by_send polled.0 (displaced_send self.old slot.0)) }
         ensures unused { IfOk result (λ polled. polled.1.unused ≡ unused_after polled.0 waker) }
         ensures live { IfOk result (λ _. is_some (send_phase self.new slot.0) ≡ true) }
-        ensures pending { IfOk result (λ polled. OnPending polled.0 (channel.can_send (send_phase self.new slot.0) ≡ true)) }
+        ensures pending { IfOk result (λ polled. OnPending polled.0 (words.can_send (send_phase self.new slot.0) ≡ true)) }
         ensures others { OtherSendsStay slot.0 self.old self.new }
-        ensures sendable { OnOk result (channel.can_send (send_phase self.old slot.0) ≡ true) }
-        ensures refused { OnErr result ((channel.can_send (send_phase self.old slot.0) ≡ false) × (self.new ≡ self.old)) }
+        ensures sendable { OnOk result (words.can_send (send_phase self.old slot.0) ≡ true) }
+        ensures refused { OnErr result ((words.can_send (send_phase self.old slot.0) ≡ false) × (self.new ≡ self.old)) }
         ensures handed_back { IfErr result (λ back. back ≡ waker) }
     {
         self.fields.send_checked(slot, waker)
@@ -439,17 +440,18 @@ impl<T: Drop, B: RingBuf<Item = T>, W: Drop> ChannelReceiveAccess for ChannelSta
     ghost use Rattle.std.specs.Prelude.{is_some};
     ghost use Rattle.fi_channels.specs.Polled.{Answered};
     ghost use Rattle.fi_channels.specs.Channel as channel;
+    ghost use Rattle.fi_channels.specs.ChannelWords as words;
     ghost use Rattle.fi_channels.specs.ChannelStays as channel_stays;
 
     type Item = T;
 
     type Waker = W;
 
-    ghost is_pollable = { λ state name. channel.can_receive (channel.kind_of state name) (channel.receive_phase state name) };
+    ghost is_pollable = { λ state name. words.can_receive (words.kind_of state name) (words.receive_phase state name) };
 
-    ghost is_receiving = { λ state name. is_some (channel.receive_phase state name) };
+    ghost is_receiving = { λ state name. is_some (words.receive_phase state name) };
 
-    ghost waker_of = { channel.displaced_receive };
+    ghost waker_of = { words.displaced_receive };
 
     // A poll is never refused.
     ghost receives = { λ old name waker answer new. Answered (channel.PollsReceive old name waker) (λ fault state. ⊥) answer new };
@@ -467,9 +469,9 @@ impl<T: Drop, B: RingBuf<Item = T>, W: Drop> ChannelReceiveAccess for ChannelSta
     }
 
     fn receive_ends_now(&self, slot: Slot) -> bool
-        ensures ready { channel.can_receive (kind_of self.now slot.0) (receive_phase self.now slot.0) ≡ true →
+        ensures ready { words.can_receive (kind_of self.now slot.0) (receive_phase self.now slot.0) ≡ true →
             WouldBeReady (λ waker. Answered (PollsReceive self.now slot.0 waker) (λ fault state. ⊥)) result }
-        ensures vacant { channel.can_receive (kind_of self.now slot.0) (receive_phase self.now slot.0) ≡ false → result ≡ false }
+        ensures vacant { words.can_receive (kind_of self.now slot.0) (receive_phase self.now slot.0) ≡ false → result ≡ false }
     {
         self.fields.receive_ends_now(slot)
     }
@@ -482,11 +484,11 @@ impl<T: Drop, B: RingBuf<Item = T>, W: Drop> ChannelReceiveAccess for ChannelSta
         ensures unused { IfOk result (λ polled. polled.1.unused ≡ unused_after polled.0 waker) }
         ensures live { IfOk result (λ _. is_some (receive_phase self.new slot.0) ≡ true) }
         ensures pending { IfOk result (λ polled. OnPending polled.0
-            (channel.can_receive (kind_of self.new slot.0) (receive_phase self.new slot.0) ≡ true)) }
+            (words.can_receive (kind_of self.new slot.0) (receive_phase self.new slot.0) ≡ true)) }
         ensures others { OtherReceivesStay slot.0 self.old self.new }
-        ensures pollable { OnOk result (channel.can_receive (kind_of self.old slot.0) (receive_phase self.old slot.0) ≡ true) }
+        ensures pollable { OnOk result (words.can_receive (kind_of self.old slot.0) (receive_phase self.old slot.0) ≡ true) }
         ensures refused { OnErr result
-            ((channel.can_receive (kind_of self.old slot.0) (receive_phase self.old slot.0) ≡ false) × (self.new ≡ self.old)) }
+            ((words.can_receive (kind_of self.old slot.0) (receive_phase self.old slot.0) ≡ false) × (self.new ≡ self.old)) }
         ensures handed_back { IfErr result (λ back. back ≡ waker) }
     {
         let (answer, leftover) = self.fields.receive_checked(slot, waker)?;

@@ -66,6 +66,21 @@ impl<T: Drop> From<SendFault<T>> for Fault {
     }
 }
 
+impl<T> SendFault<T> {
+    ghost use Rattle.fi_channels.specs.ChannelErrors.{value_of_poll};
+
+    /// Returns the value that was not sent, where the channel is closed; None where the poll was refused, since the send still
+    /// owns its value then. As `TrySendError::into_inner`.
+    pub fn into_inner(self) -> Option<T>
+        ensures { result ≡ value_of_poll self }
+    {
+        match self {
+            SendFault::Closed(value) => Some(value),
+            SendFault::Fault(_) => None,
+        }
+    }
+}
+
 /// Why a value was not sent at once; it is handed back.
 ///
 /// Keeps `TrySendError` of futures-intrusive's `channel`.

@@ -4,11 +4,11 @@ ghost use Rattle.fi_parts.specs.Buffer.{Fits, empty};
 ghost use Rattle.fi_parts.specs.Waiting.{phase_of, asks_of, is_registered};
 ghost use Rattle.fi_parts.specs.declared.phase.Phase.TheVariants.{Fresh, Complete};
 ghost use Rattle.fi_channels.specs.Polled.{unused_after, WouldBeReady, LeavesWhere};
-ghost use Rattle.fi_channels.specs.Channel.{opened, can_send, can_take, can_receive, can_stream, MakesSend};
-ghost use Rattle.fi_channels.specs.Channel.{MakesReceive};
-ghost use Rattle.fi_channels.specs.Channel.{PollsSend, displaced_by_send, CancelsSend, PollsReceive, PollsNext};
-ghost use Rattle.fi_channels.specs.Channel.{CancelsReceive, TriesSend, TriesReceive, Closes, Wakes};
-ghost use Rattle.fi_channels.specs.Channel.{IsSound, has_room, displaced_send, displaced_receive, next_of};
+ghost use Rattle.fi_channels.specs.Channel.{MakesSend, MakesReceive, PollsSend, CancelsSend, PollsReceive, PollsNext};
+ghost use Rattle.fi_channels.specs.Channel.{CancelsReceive, TriesSend, TriesReceive, Closes, Wakes, IsSound};
+ghost use Rattle.fi_channels.specs.ChannelWords.{opened, can_send, can_take, can_receive, can_stream};
+ghost use Rattle.fi_channels.specs.ChannelWords.{displaced_by_send, has_room, displaced_send, displaced_receive};
+ghost use Rattle.fi_channels.specs.ChannelWords.{next_of};
 ghost use Rattle.fi_channels.specs.ChannelFields.{machine_of, phase_given, Takes};
 ghost use Rattle.fi_channels.specs.Cleared.{ClosesAndClears};
 

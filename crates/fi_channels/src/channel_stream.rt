@@ -22,8 +22,8 @@ impl FutureKind for ChannelStreaming {
 
 impl<T: Drop, B: RingBuf<Item = T>, W: Drop> FuturesOf<ChannelState<T, B, W>> for ChannelStreaming {
     ghost use Rattle.std.specs.Prelude.{◌≡◌, true, is_some};
-    ghost use Rattle.fi_channels.specs.Channel.{can_stream, kind_of, receive_phase, PollsNext, CancelsReceive};
-    ghost use Rattle.fi_channels.specs.Channel.{is_end};
+    ghost use Rattle.fi_channels.specs.Channel.{PollsNext, CancelsReceive};
+    ghost use Rattle.fi_channels.specs.ChannelWords.{can_stream, kind_of, receive_phase, is_end};
     ghost use Rattle.fi_channels.specs.ChannelStays.{OtherReceivesStay};
 
     type Waker = W;

@@ -26,7 +26,7 @@ where
     C::Waker: Drop,
 {
     ghost use Rattle.std.specs.Prelude.{None};
-    ghost use Rattle.fi_channels.specs.Channel.{has_sent};
+    ghost use Rattle.fi_channels.specs.ChannelWords.{has_sent};
 
     type Waker = C::Waker;
 

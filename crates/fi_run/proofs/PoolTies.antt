@@ -3,7 +3,8 @@ use Rattle.std.specs.Prelude.{◌≡◌, ◌≤◌, ◌+◌, ◌-◌, ◌∷◌,
 use Rattle.std.proofs.Common.{sym, ◌∙◌, ap, subst, arith, length-append}
 use Rattle.fi_parts.specs.declared.errors.CloseStatus.TheVariants.{NewlyClosed}
 use Rattle.fi_channels.specs.declared.channel_fields.ReceiveKind.{ReceiveKind}
-use Rattle.fi_channels.specs.Channel.{Buffered, ChannelMachine, tells_oldest, TriesSend, TriesReceive, Closes}
+use Rattle.fi_channels.specs.Channel.{TriesSend, TriesReceive, Closes}
+use Rattle.fi_channels.specs.ChannelWords.{Buffered, ChannelMachine, tells_oldest}
 use Rattle.fi_channels.specs.TwoSidedEffects.{TakesTwoSided}
 use Rattle.fi_channels.specs.TwoSidesModel.{TwoSidesModel}
 use Rattle.fi_locks.specs.Semaphore.{Permits, SemaphoreMachine, GivesBack, TriesAcquire}

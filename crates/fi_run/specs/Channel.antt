@@ -9,11 +9,10 @@ use Rattle.fi_parts.specs.Buffer.{Fits, empty}
 use Rattle.fi_channels.specs.declared.channel_errors.SendFault.TheVariants as send_fault
 use Rattle.fi_channels.specs.declared.channel_errors.TrySendError.TheVariants as not_sent
 use Rattle.fi_channels.specs.declared.channel_fields.ReceiveKind.TheVariants as kinds
-use Rattle.fi_channels.specs.Channel.{ChannelMachine, opened, can_send, can_receive, can_stream, IsGrowing}
-use Rattle.fi_channels.specs.Channel.{send_phase, receive_phase, kind_of, next_of, MakesSend, MakesReceive, PollsSend}
-use Rattle.fi_channels.specs.Channel.{PollsReceive, PollsNext, CancelsSend, CancelsReceive, TriesSend, TriesReceive}
-use Rattle.fi_channels.specs.Channel.{Closes}
-use Rattle.fi_channels.specs.Channel.{Wakes, IsSound, OwesNoWake}
+use Rattle.fi_channels.specs.Channel.{MakesSend, MakesReceive, PollsSend, PollsReceive, PollsNext, CancelsSend}
+use Rattle.fi_channels.specs.Channel.{CancelsReceive, TriesSend, TriesReceive, Closes, Wakes, IsSound, OwesNoWake}
+use Rattle.fi_channels.specs.ChannelWords.{ChannelMachine, opened, can_send, can_receive, can_stream, IsGrowing}
+use Rattle.fi_channels.specs.ChannelWords.{send_phase, receive_phase, kind_of, next_of}
 use Rattle.fi_run.specs.Run.{AfterEveryRun}
 use Rattle.fi_run.specs.declared.answer.Answer.{Answer}
 use Rattle.fi_run.specs.declared.answer.Answer.TheVariants.{Made, Pending, Item, Nothing, End, Done, Newly, Already, Woken}

@@ -21,10 +21,10 @@ use Rattle.fi_channels.specs.declared.channel_errors.SendFault.TheVariants as se
 use Rattle.fi_channels.specs.declared.channel_errors.TryReceiveError.{TryReceiveError}
 use Rattle.fi_channels.specs.declared.channel_errors.TrySendError.TheVariants as not_sent
 use Rattle.fi_channels.specs.declared.channel_fields.ReceiveKind.TheVariants as kinds
-use Rattle.fi_channels.specs.Channel.{ChannelMachine, Buffered, rules, has_room, next_value, next_of, send_phase}
-use Rattle.fi_channels.specs.Channel.{receive_phase}
-use Rattle.fi_channels.specs.Channel.{value_of, Stores, FreshSends, SendsAs, TakesNext, ReceivesAs}
-use Rattle.fi_channels.specs.Channel.{StreamsAs, CancelsReceiveAs, TriesNext, ClosesAt, IsSound, OwesNoWake}
+use Rattle.fi_channels.specs.Channel.{FreshSends, SendsAs, TakesNext, ReceivesAs, StreamsAs, CancelsReceiveAs}
+use Rattle.fi_channels.specs.Channel.{TriesNext, ClosesAt, IsSound, OwesNoWake}
+use Rattle.fi_channels.specs.ChannelWords.{ChannelMachine, Buffered, rules, has_room, next_value, next_of, send_phase}
+use Rattle.fi_channels.specs.ChannelWords.{receive_phase, value_of, Stores}
 use Rattle.fi_channels.specs.ChannelFields.{ChannelWaiters}
 use Rattle.fi_channels.specs.TwoSidedEffects.{waiting_sends, waiting_receives}
 use Rattle.fi_channels.proofs.ChannelLaws as laws

@@ -21,7 +21,8 @@ use Rattle.fi_parts.proofs.Queues.{holds-without_same}
 use Rattle.fi_parts.proofs.Slots.{eqb_same, without_absent}
 use Rattle.fi_parts.proofs.Waiting.{noticed_phase, becomes-made, becomes-with_phase, becomes-forgotten, phase-emptied, lives_as}
 use Rattle.fi_parts.proofs.Waiting.{asks-with_phase, asks-with_phases, first_registered, live_if_registered}
-use Rattle.fi_channels.specs.Channel.{ChannelMachine, has_room, next_value, next_of, send_phase, value_of, owns_value}
+use Rattle.fi_channels.specs.ChannelWords.{ChannelMachine, has_room, next_value, next_of, send_phase, value_of}
+use Rattle.fi_channels.specs.ChannelWords.{owns_value}
 use Rattle.fi_channels.specs.Waiter.{sends_in}
 use Rattle.fi_channels.proofs.ChannelLaws.{Holds}
 use Rattle.fi_run.specs.ChannelValues.{Accepted, values_in, one_from, waits_with, withdrawn_by, released_by, accepts_once}

@@ -29,11 +29,10 @@ use Rattle.fi_channels.specs.declared.channel_fields.ReceiveKind.{ReceiveKind}
 use Rattle.fi_channels.specs.declared.channel_fields.ReceiveKind.TheVariants as kinds
 use Rattle.fi_channels.specs.declared.two_sides.Waiter.{Waiter}
 use Rattle.fi_channels.specs.declared.two_sides.Waiter.TheVariants as sides
-use Rattle.fi_channels.specs.Channel.{ChannelMachine, is_receive_phase, can_receive, can_stream, receive_phase, kind_of}
-use Rattle.fi_channels.specs.Channel.{next_of, is_given}
 use Rattle.fi_channels.specs.Channel.{SendsAs, FreshSends, TakesNext, ReceivesAs, StreamsAs, CancelsReceiveAs}
-use Rattle.fi_channels.specs.Channel.{TriesNext}
-use Rattle.fi_channels.specs.Channel.{ClosesAt}
+use Rattle.fi_channels.specs.Channel.{TriesNext, ClosesAt}
+use Rattle.fi_channels.specs.ChannelWords.{ChannelMachine, is_receive_phase, can_receive, can_stream, receive_phase}
+use Rattle.fi_channels.specs.ChannelWords.{kind_of, next_of, is_given}
 use Rattle.fi_channels.specs.ChannelFields.{ChannelWaiters}
 use Rattle.fi_channels.specs.TwoSidedEffects.{TakesOn}
 use Rattle.fi_channels.specs.Waiter.{same_waiter, receives_in}

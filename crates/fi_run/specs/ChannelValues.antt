@@ -6,7 +6,7 @@ use Rattle.std.specs.List.{list_any}
 use Rattle.std.specs.Option.{option_flatten}
 use Rattle.fi_parts.specs.declared.phase.Phase.TheVariants.{Complete}
 use Rattle.fi_parts.specs.Waiting.{Waiters, phase_of, asks_of}
-use Rattle.fi_channels.specs.Channel.{ChannelMachine, value_of}
+use Rattle.fi_channels.specs.ChannelWords.{ChannelMachine, value_of}
 use Rattle.fi_run.specs.declared.answer.Answer.{Answer}
 use Rattle.fi_run.specs.declared.answer.Answer.TheVariants.{Made, Pending, Item, Nothing, Done, Newly, Refused}
 use Rattle.fi_run.specs.declared.channel.ChannelCall.{ChannelCall}

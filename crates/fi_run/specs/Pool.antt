@@ -5,7 +5,7 @@ use Rattle.fi_parts.specs.declared.errors.Fault.{Fault}
 use Rattle.fi_parts.specs.declared.errors.Fault.TheVariants.{NoMemory, NoSlot, Closed, Full, Empty, NotHeld}
 use Rattle.fi_parts.specs.Buffer.{Bounded, Fits, empty, popped}
 use Rattle.fi_parts.specs.Machine.{phase_at}
-use Rattle.fi_channels.specs.Channel.{Buffered, Stores, IsGrowing, has_room, with_buffer, closed}
+use Rattle.fi_channels.specs.ChannelWords.{Buffered, Stores, IsGrowing, has_room, with_buffer, closed}
 use Rattle.fi_channels.specs.Event as event
 use Rattle.fi_channels.specs.Event.{EventMachine}
 use Rattle.fi_run.specs.Outgoing.{Outgoing, machine_outgoing}

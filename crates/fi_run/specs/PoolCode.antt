@@ -1,7 +1,7 @@
 -- How a pool's machine is told apart from others by a number.
 use Rattle.std.specs.Prelude.{ℕ, refl}
 use Rattle.std.specs.Coded.{Coded, code_by, coded×, coded_ℕ}
-use Rattle.fi_channels.specs.Channel.{Buffered}
+use Rattle.fi_channels.specs.ChannelWords.{Buffered}
 use Rattle.fi_channels.specs.ChannelCode.{buffered_code}
 use Rattle.fi_channels.specs.Event.{EventMachine}
 use Rattle.fi_channels.specs.EventCode.{event_code}

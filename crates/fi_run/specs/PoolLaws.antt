@@ -7,7 +7,7 @@ use Rattle.fi_parts.specs.MachineTable.{TableLine}
 use Rattle.fi_parts.specs.WakerHistory.WakerChange.{NoEffect}
 use Rattle.fi_parts.proofs.Machines.{line_preserves, unchanged}
 use Rattle.fi_parts.proofs.WakerHistories.{line_keeps_wakers, kept_at_first}
-use Rattle.fi_channels.specs.Channel.{Buffered, with_buffer, closed}
+use Rattle.fi_channels.specs.ChannelWords.{Buffered, with_buffer, closed}
 use Rattle.fi_channels.specs.Event as event
 use Rattle.fi_channels.specs.Event.{EventMachine}
 use Rattle.fi_channels.specs.EventLaws.{rules, was_set, opened_holds}

@@ -1,6 +1,7 @@
 //! The channel of many values as a primitive.
 ghost use Rattle.std.specs.Prelude.{◌≡◌, ℕ, IfOk, IfErr};
-ghost use Rattle.fi_channels.specs.Channel.{ChannelMachine, IsSound, OwesNoWake};
+ghost use Rattle.fi_channels.specs.Channel.{IsSound, OwesNoWake};
+ghost use Rattle.fi_channels.specs.ChannelWords.{ChannelMachine};
 ghost use Rattle.fi_run.specs.Channel.{Opens, Step, InEveryRun};
 ghost use Rattle.fi_run.specs.ChannelValues.{ComeInOrder};
 ghost use Rattle.fi_run.specs.ChannelHistory.{ClosesOnce, StreamsStayEnded, StreamsStand};

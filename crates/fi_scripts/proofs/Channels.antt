@@ -4,7 +4,7 @@ use Rattle.std.specs.Prelude.{Option, None, Some, Result, codes}
 use Rattle.std.specs.Fmt.{decimal}
 use Rattle.std.proofs.Common.{refl, sym, subst, inl, inr, ap, arith, ◌∙◌}
 use Rattle.fi_parts.specs.Buffer.{empty}
-use Rattle.fi_channels.specs.Channel.{ChannelMachine, opened}
+use Rattle.fi_channels.specs.ChannelWords.{ChannelMachine, opened}
 use Rattle.fi_run.specs.Channel.{Opens}
 use Rattle.fi_run.specs.Outgoing.{Outgoing}
 use Rattle.fi_run.specs.declared.answer.Answer.{Answer}

@@ -1,6 +1,6 @@
 -- The channel of many values, as scripts speak of it.
 use Rattle.std.specs.Prelude.{ℕ}
-use Rattle.fi_channels.specs.Channel.{ChannelMachine}
+use Rattle.fi_channels.specs.ChannelWords.{ChannelMachine}
 use Rattle.fi_run.specs.Channel.{Opens, Step}
 use Rattle.fi_run.specs.Outgoing.{two_sided_outgoing}
 use Rattle.fi_run.specs.declared.channel.ChannelCall.{ChannelCall}

@@ -3,7 +3,8 @@ use Rattle.std.specs.Prelude.{ℕ, Option, Some, None, Result, Ok, Err}
 use Rattle.futures.specs.declared.task.Poll.{Poll}
 use Rattle.futures.specs.declared.task.waker.Waker.{Waker}
 use Rattle.fi_channels.specs.Channel as channel
-use Rattle.fi_channels.specs.Channel.{ChannelMachine, TriesReceive}
+use Rattle.fi_channels.specs.Channel.{TriesReceive}
+use Rattle.fi_channels.specs.ChannelWords.{ChannelMachine, can_receive, kind_of, receive_phase}
 use Rattle.fi_channels.specs.Oneshot as oneshot
 use Rattle.fi_channels.specs.Oneshot.{Giving, OneshotMachine}
 use Rattle.fi_channels.specs.Polled.{Answered}
@@ -28,7 +29,7 @@ module _ {T : Type 0} where
   -- A poll of a receive under this name may answer this and go on from old to new.
   abbrev pub PollsReceive : ChannelMachine T (Option Waker) → ℕ → Option Waker → Poll (Result (Option T) Fault)
       → ChannelMachine T (Option Waker) → Type 0
-  PollsReceive = PollsOrRefuses (λ state name. channel.can_receive (channel.kind_of state name) (channel.receive_phase state name))
+  PollsReceive = PollsOrRefuses (λ state name. can_receive (kind_of state name) (receive_phase state name))
       (λ old name waker answer new. Answered (channel.PollsReceive old name waker) (λ fault state. ⊥) answer new) (Err Fault.NoSlot)
 
   -- The same of a channel that takes one value, and gives it so.

@@ -1,7 +1,7 @@
 -- What a send that threads share does in its channel.
 use Rattle.std.specs.Prelude.{◌≡◌, ℕ, Bool, true, false, Option, None, Result, Ok, Err}
 use Rattle.futures.specs.declared.task.Poll.{Poll}
-use Rattle.fi_channels.specs.Channel.{displaced_by_send}
+use Rattle.fi_channels.specs.ChannelWords.{displaced_by_send}
 use Rattle.fi_channels.specs.Polled.{unused_after}
 use Rattle.fi_channels.specs.declared.channel_errors.SendFault.{SendFault}
 use Rattle.fi_channels.specs.declared.channel_errors.SendFault.TheVariants as send_fault

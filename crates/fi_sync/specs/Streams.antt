@@ -2,7 +2,8 @@
 use Rattle.std.specs.Prelude.{◌≡◌, ℕ, Bool, true, false, Option, Some, None, Result, Ok, Err}
 use Rattle.futures.specs.declared.task.Poll.{Poll}
 use Rattle.futures.specs.declared.task.Poll.TheVariants.{Ready, Pending}
-use Rattle.fi_channels.specs.Channel.{ChannelMachine, can_stream, kind_of, receive_phase, PollsNext}
+use Rattle.fi_channels.specs.Channel.{PollsNext}
+use Rattle.fi_channels.specs.ChannelWords.{ChannelMachine, can_stream, kind_of, receive_phase}
 use Rattle.fi_channels.specs.Polled.{unused_after}
 use Rattle.fi_parts.specs.declared.errors.Fault.{Fault}
 use Rattle.fi_parts.specs.declared.phase.Leftover.{Leftover}

@@ -2,7 +2,8 @@
 ghost use Rattle.std.specs.Prelude.{◌≡◌, ◌==◌, not, length, Option, IfOk, IfErr, true, false};
 ghost use Rattle.futures.specs.declared.task.waker.Waker.{Waker};
 ghost use Rattle.fi_parts.specs.declared.errors.Fault.{Fault};
-ghost use Rattle.fi_channels.specs.Channel.{ChannelMachine, Closes, TriesReceive, TriesSend, has_room};
+ghost use Rattle.fi_channels.specs.Channel.{Closes, TriesReceive, TriesSend};
+ghost use Rattle.fi_channels.specs.ChannelWords.{ChannelMachine, has_room};
 ghost use Rattle.fi_channels.specs.ChannelErrors.{value_in, is_full, is_memory};
 ghost use Rattle.fi_sync.specs.Received.{PollsReceive, ReceivesAtOnce};
 ghost use Rattle.fi_sync.specs.Waiting.{InSomeHold, IsNew, WaitedFor};

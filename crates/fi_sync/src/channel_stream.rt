@@ -3,7 +3,8 @@ ghost use Rattle.std.specs.Prelude.{◌≡◌, ⊤, List, Option, Result, Some, 
 ghost use Rattle.futures.specs.Poll.{OnPending, IfReady};
 ghost use Rattle.futures.specs.Task.{Covers, Keeps};
 ghost use Rattle.futures.specs.declared.task.waker.Waker.{Waker};
-ghost use Rattle.fi_channels.specs.Channel.{receive_phase, CancelsReceive, displaced_receive};
+ghost use Rattle.fi_channels.specs.Channel.{CancelsReceive};
+ghost use Rattle.fi_channels.specs.ChannelWords.{receive_phase, displaced_receive};
 ghost use Rattle.fi_parts.specs.Polled.{LeavesWhere};
 ghost use Rattle.fi_parts.specs.declared.errors.Fault.{Fault};
 ghost use Rattle.fi_sync.specs.Streams.{PollsStream, IsStreamAnswer, leftover_of_next};

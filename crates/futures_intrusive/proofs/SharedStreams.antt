@@ -1,6 +1,6 @@
 -- When a stream of a channel with shared ends has to wait.
 use Rattle.std.specs.Prelude.{ℕ, Option, Some, None, IfNone}
-use Rattle.fi_channels.specs.Channel.{ChannelMachine}
+use Rattle.fi_channels.specs.ChannelWords.{ChannelMachine}
 use Rattle.fi_sync.specs.Streams.{PollsStream}
 use Rattle.fi_sync.specs.Waiting.{WouldWait}
 use Rattle.futures_intrusive.specs.Ends.{Counted}

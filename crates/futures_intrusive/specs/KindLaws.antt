@@ -12,12 +12,10 @@ use Rattle.fi_parts.specs.declared.phase.Phase.{Phase}
 use Rattle.fi_parts.specs.declared.phase.Phase.TheVariants.{Fresh, Registered, Told, Complete, Ended}
 use Rattle.fi_parts.proofs.PairsWithin.{none_some, some_same}
 use Rattle.fi_channels.specs.Channel as channel
-use Rattle.fi_channels.specs.Channel.{ChannelMachine, Buffered, next_value, next_of, with_buffer, send_phase}
-use Rattle.fi_channels.specs.Channel.{receive_phase, kind_of}
 use Rattle.fi_channels.specs.Channel.{FreshSends, SendsAs, PollsSend, TakesNext, ReceivesAs, StreamsAs, PollsReceive}
-use Rattle.fi_channels.specs.Channel.{PollsNext}
-use Rattle.fi_channels.specs.Channel.{CancelsReceiveAs, CancelsReceive, has_room}
-use Rattle.fi_channels.specs.Channel.{value_of}
+use Rattle.fi_channels.specs.Channel.{PollsNext, CancelsReceiveAs, CancelsReceive}
+use Rattle.fi_channels.specs.ChannelWords.{ChannelMachine, Buffered, next_value, next_of, with_buffer, send_phase}
+use Rattle.fi_channels.specs.ChannelWords.{receive_phase, kind_of, has_room, value_of, can_stream}
 use Rattle.fi_channels.specs.Polled.{Answered}
 use Rattle.fi_channels.specs.declared.channel_errors.SendFault.{SendFault}
 use Rattle.fi_channels.specs.declared.channel_errors.SendFault.TheVariants as send_fault
@@ -146,7 +144,7 @@ module _ {T W : Type 0} (old new : ChannelMachine T W) where
 
   pub stream_polls : (name : ℕ) (waker : W) (answer : Poll (Option (Result T Fault))) → PollsStream old name waker answer new
       → StaysClosed closing_channel old new
-  stream_polls name waker answer did = stream_where (channel.can_stream (kind_of old name) (receive_phase old name)) name waker answer did
+  stream_polls name waker answer did = stream_where (can_stream (kind_of old name) (receive_phase old name)) name waker answer did
 
   pub receive_cancels : (name : ℕ) → CancelsReceive old name new → StaysClosed closing_channel old new
   receive_cancels name did = cancels_as (receive_phase old name) name did

@@ -1,6 +1,6 @@
 -- What each kind of channel calls closed and cleared.
 use Rattle.std.specs.Prelude.{◌≡◌, ⊤, true, false, []}
-use Rattle.fi_channels.specs.Channel.{ChannelMachine}
+use Rattle.fi_channels.specs.ChannelWords.{ChannelMachine}
 use Rattle.fi_channels.specs.Cleared.{NoSendWaits}
 use Rattle.fi_channels.specs.Oneshot.{OneshotMachine, has_closed}
 use Rattle.fi_channels.specs.StateBroadcast.{StateMachine}

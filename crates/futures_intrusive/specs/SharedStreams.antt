@@ -1,7 +1,7 @@
 -- What a stream of a channel with shared ends does in it.
 use Rattle.std.specs.Prelude.{ℕ, Option, Result}
 use Rattle.futures.specs.declared.task.Poll.{Poll}
-use Rattle.fi_channels.specs.Channel.{ChannelMachine}
+use Rattle.fi_channels.specs.ChannelWords.{ChannelMachine}
 use Rattle.fi_parts.specs.declared.errors.Fault.{Fault}
 use Rattle.fi_sync.specs.Streams.{PollsStream}
 use Rattle.futures_intrusive.specs.Ends.{Counted, OnState}

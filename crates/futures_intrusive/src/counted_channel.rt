@@ -1,6 +1,7 @@
 //! The channel of many values behind the lock of its shared ends.
 ghost use Rattle.std.specs.Prelude.{◌≡◌, ◌==◌, not, length, IfOk, IfErr, OnErr};
-ghost use Rattle.fi_channels.specs.Channel.{MakesSend, MakesReceive, TriesSend, TriesReceive, Closes, has_room};
+ghost use Rattle.fi_channels.specs.Channel.{MakesSend, MakesReceive, TriesSend, TriesReceive, Closes};
+ghost use Rattle.fi_channels.specs.ChannelWords.{has_room};
 ghost use Rattle.fi_channels.specs.declared.channel_fields.ReceiveKind.TheVariants.{Single, Stream};
 ghost use Rattle.fi_parts.specs.declared.errors.Fault.{Fault};
 ghost use Rattle.futures_intrusive.specs.Ends.{OnState};
@@ -66,7 +67,8 @@ impl<T: Drop, B: RingBuf<Item = T>> ReceivesClosed for ChannelState<T, B, PollWa
 impl<T: Drop, B: RingBuf<Item = T>> Cancel<ChannelStreaming>
     for CountedEnds<ChannelState<T, B, PollWaker>> {
     ghost use Rattle.std.specs.Prelude.{is_some};
-    ghost use Rattle.fi_channels.specs.Channel.{receive_phase, CancelsReceive, displaced_receive};
+    ghost use Rattle.fi_channels.specs.Channel.{CancelsReceive};
+    ghost use Rattle.fi_channels.specs.ChannelWords.{receive_phase, displaced_receive};
     ghost use Rattle.fi_parts.specs.Polled.{LeavesWhere};
     ghost use Rattle.futures_intrusive.specs.Ends.{OnState};
 
@@ -82,7 +84,7 @@ impl<T: Drop, B: RingBuf<Item = T>> Cancel<ChannelStreaming>
 
 impl<T: Drop, B: RingBuf<Item = T>> PollSlot<ChannelStreaming>
     for CountedEnds<ChannelState<T, B, PollWaker>> {
-    ghost use Rattle.fi_channels.specs.Channel.{displaced_receive};
+    ghost use Rattle.fi_channels.specs.ChannelWords.{displaced_receive};
     ghost use Rattle.fi_sync.specs.Streams.{leftover_of_next};
     ghost use Rattle.fi_sync.specs.Waiting.{WouldWait};
     ghost use Rattle.futures_intrusive.specs.SharedStreams.{PollsSharedStream};

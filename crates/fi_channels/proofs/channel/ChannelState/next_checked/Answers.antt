@@ -1,5 +1,5 @@
 use Rattle.std.proofs.Common.{rules, IfOk, subst, sym}
-use Rattle.fi_channels.specs.Channel.{ChannelMachine}
+use Rattle.fi_channels.specs.ChannelWords.{ChannelMachine}
 use Rattle.fi_channels.specs.ChannelFields.{machine_of}
 use Rattle.fi_channels.specs.ChannelStays.{OtherReceivesStay}
 use Rattle.fi_channels.proofs.ChannelLaws.{Holds, Receives, polls_next, still_streams}

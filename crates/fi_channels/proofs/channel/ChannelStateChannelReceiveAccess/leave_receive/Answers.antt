@@ -1,5 +1,5 @@
 use Rattle.std.proofs.Common.{is_some, subst, sym}
-use Rattle.fi_channels.specs.Channel.{receive_phase}
+use Rattle.fi_channels.specs.ChannelWords.{receive_phase}
 use Rattle.fi_channels.specs.ChannelFields.{machine_of}
 use Rattle.fi_channels.proofs.ChannelLaws.{Holds, cancels_receive}
 use Rattle.fi_channels.proofs.ChannelStays.{other_receives_stay, same_stay}

@@ -1,6 +1,6 @@
 use Rattle.std.proofs.Common.{◌≡◌, true, subst}
 use Rattle.futures.specs.Poll.{OnPending}
-use Rattle.fi_channels.specs.Channel.{ChannelMachine, can_receive, kind_of, receive_phase}
+use Rattle.fi_channels.specs.ChannelWords.{ChannelMachine, can_receive, kind_of, receive_phase}
 use Rattle.fi_channels.specs.ChannelFields.{machine_of}
 use Rattle.fi_channels.proofs.ChannelLaws.{Receives, polls_receive}
 use Rattle.fi_channels.proofs.ChannelStays.{polled_receive_stays, pending_receive}

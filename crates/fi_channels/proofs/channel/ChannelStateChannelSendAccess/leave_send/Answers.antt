@@ -1,5 +1,5 @@
 use Rattle.std.proofs.Common.{is_some, subst, sym}
-use Rattle.fi_channels.specs.Channel.{send_phase}
+use Rattle.fi_channels.specs.ChannelWords.{send_phase}
 use Rattle.fi_channels.specs.ChannelFields.{machine_of}
 use Rattle.fi_channels.proofs.ChannelLaws.{Holds, cancels_send}
 use Rattle.fi_channels.proofs.ChannelStays.{other_sends_stay, same_stay}

@@ -1,5 +1,5 @@
 use Rattle.std.proofs.Common.{IfOk, subst, sym}
-use Rattle.fi_channels.specs.Channel.{ChannelMachine}
+use Rattle.fi_channels.specs.ChannelWords.{ChannelMachine}
 use Rattle.fi_channels.specs.ChannelFields.{machine_of}
 use Rattle.fi_channels.proofs.ChannelLaws.{Holds, Sends, polls_send}
 use Rattle.fi_channels.proofs.ChannelStays.{polled_send_stays, pending_send, same_stay}

@@ -1,5 +1,5 @@
 use Rattle.std.proofs.Common.{ap}
-use Rattle.fi_channels.specs.Channel.{with_buffer}
+use Rattle.fi_channels.specs.ChannelWords.{with_buffer}
 use Rattle.fi_channels.specs.ChannelFields.{machine_of}
 use Rattle.fi_channels.proofs.channel_fields.ChannelFields.close_and_clear.Goals as goal
 

@@ -1,7 +1,7 @@
 use Rattle.std.proofs.Common.{◌≡◌, is_some, sym, ap, ◌∙◌, rules}
 use Rattle.fi_parts.specs.Places.{is_told}
 use Rattle.fi_parts.specs.Waiting.{phase_in}
-use Rattle.fi_channels.specs.Channel.{displaced_receive}
+use Rattle.fi_channels.specs.ChannelWords.{displaced_receive}
 use Rattle.fi_channels.specs.ChannelFields.{machine_of}
 use Rattle.fi_channels.proofs.ChannelSteps.{ordered_removed, told_cancels, told_phase}
 use Rattle.fi_channels.proofs.channel_fields.ChannelFields.leave_receive.Goals as goal
