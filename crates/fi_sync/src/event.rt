@@ -1,4 +1,5 @@
 //! A manual reset event that threads share.
+ghost use Rattle.std.specs.Arc.{arc_value};
 ghost use Rattle.std.specs.Prelude.{◌≡◌, true, Option, IfOk, IfErr};
 ghost use Rattle.futures.specs.declared.task.waker.Waker.{Waker};
 ghost use Rattle.fi_channels.specs.Event.{EventMachine, can_be_polled, is_set, Polls, Sets, Resets};
@@ -6,15 +7,16 @@ ghost use Rattle.fi_parts.specs.declared.errors.Fault.{Fault};
 ghost use Rattle.fi_sync.specs.Waiting.{InSomeHold, IsNew, PollsAt, WaitedFor};
 
 use crate::blocking::{Blocking, wait_for};
-use crate::event_future::WaitForEventFuture;
-use crate::monitor::Monitor;
+use crate::event_future::{OwnedWaitForEventFuture, WaitForEventFuture};
+use crate::monitor::{HasMonitor, Monitor};
 use crate::slot_future::SlotFuture;
 use crate::wakes::{HasOutbox, PollWaker};
 use fi_channels::EventState;
 use fi_parts::Fault;
+use fi_parts::memory::share;
 use std::alloc::Global;
 use std::marker::Model;
-use std::sync::Wait;
+use std::sync::{Arc, Wait};
 
 /// An event that stays set until it is reset. Waits for it end once it is set. Threads share it by reference.
 ///
@@ -86,8 +88,33 @@ impl<R: Wait> ManualResetEvent<R> {
         ensures made { IfOk result (λ future. IsNew self.now future) }
         ensures fault { IfErr result (λ fault. fault ≡ Fault.NoMemory) }
     {
-        let claim = self.monitor.claim((), |event, ()| event.claim_waiter())?;
-        Ok(SlotFuture::new(&self.monitor, claim))
+        SlotFuture::make(&self.monitor, (), |event, ()| event.claim_waiter())
+    }
+
+    /// As `wait`, for an event that stands in an `Arc`: the future owns a share of the event, so that it borrows nothing and can go
+    /// to a thread or a task that outlives the caller. Refused with `NoMemory` as `wait`, or where 2^63 - 1 shares are counted.
+    ///
+    /// Not in futures-intrusive.
+    #[inline(always)]
+    pub fn wait_owned(event: &Arc<Self>) -> Result<OwnedWaitForEventFuture<R>, Fault>
+    where
+        R: Drop,
+        ensures made { IfOk result (λ future. IsNew (arc_value event.now) future) }
+        ensures fault { IfErr result (λ fault. fault ≡ Fault.NoMemory) }
+    {
+        SlotFuture::make(share(event)?, (), |event, ()| event.claim_waiter())
+    }
+}
+
+impl<R: Wait + Drop> HasMonitor for Arc<ManualResetEvent<R>, Global> {
+    type State = EventState<PollWaker>;
+
+    type Runtime = R;
+
+    ghost source = { λ event. event.value };
+
+    fn monitor(&self) -> &Monitor<EventState<PollWaker>, R> {
+        &self.monitor
     }
 }
 

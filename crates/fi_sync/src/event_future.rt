@@ -3,18 +3,24 @@ ghost use Rattle.fi_channels.specs.Event.{can_be_polled, Polls, Cancels};
 ghost use Rattle.fi_sync.specs.Waiting.{PollsAt, WouldWait, leftover_at, CancelsAt};
 
 use crate::claim::Cancel;
+use crate::event::ManualResetEvent;
 use crate::monitor::Monitor;
 use crate::slot_future::{PollSlot, SlotFuture, SlotPolled, no_slot};
 use crate::wakes::PollWaker;
 use fi_channels::{EventState, EventWait};
 use fi_parts::{Fault, Slot};
 use futures::task::Poll;
+use std::alloc::Global;
+use std::sync::Arc;
 
 /// Waits for an event. Its drop unregisters it, and tells nobody.
 ///
 /// Its output is Ok once the event was set since its first poll, and refused as every `SlotFuture`'s. Keeps `WaitForEventFuture` of
 /// futures-intrusive's `sync`.
 pub type WaitForEventFuture<'a, R> = SlotFuture<&'a Monitor<EventState<PollWaker>, R>, EventWait>;
+
+/// A `WaitForEventFuture` that owns a share of its event in place of a reference to it.
+pub type OwnedWaitForEventFuture<R> = SlotFuture<Arc<ManualResetEvent<R>, Global>, EventWait>;
 
 impl PollSlot<EventWait> for EventState<PollWaker> {
     type Output = Result<(), Fault>;

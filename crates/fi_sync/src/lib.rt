@@ -41,7 +41,7 @@ pub use claim::{Cancel, Claim, Fate};
 pub use counted_mutex::{CountedMutex, Locked};
 pub use counted_semaphore::CountedSemaphore;
 pub use event::ManualResetEvent;
-pub use event_future::WaitForEventFuture;
+pub use event_future::{OwnedWaitForEventFuture, WaitForEventFuture};
 pub use fi_channels::{ChannelReceive, ChannelSend, ChannelStreaming, EventWait};
 pub use fi_locks::{Grant, MutexLock, SemaphoreAcquire, Tally};
 pub use fi_parts::FutureKind;

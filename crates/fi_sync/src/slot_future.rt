@@ -1,10 +1,13 @@
 //! The future of every primitive that threads share.
-ghost use Rattle.std.specs.Prelude.{◌≡◌, ℕ, Bool, Option, Err, Some, None, true, false, IfSome, IfNone, is_ok, is_some, is_none};
+ghost use Rattle.std.specs.Prelude.{◌≡◌, ℕ, Bool, Option, Ok, Err, Some, None, true, false, IfOk, IfErr, IfSome, IfNone};
+ghost use Rattle.std.specs.Prelude.{is_ok, is_some, is_none};
+ghost use Rattle.std.specs.Borrow.{MutBor};
 ghost use Rattle.futures.specs.declared.task.Poll.{Poll};
 ghost use Rattle.futures.specs.declared.task.waker.Waker.{Waker};
 ghost use Rattle.futures.specs.Poll.{IfReady, OnPending};
 ghost use Rattle.futures.specs.Task.{Covers, Keeps};
 ghost use Rattle.fi_parts.specs.declared.errors.Fault.{Fault};
+ghost use Rattle.fi_parts.specs.declared.errors.Slot.{Slot};
 ghost use Rattle.fi_parts.specs.declared.phase.Leftover.{Leftover};
 ghost use Rattle.fi_sync.specs.Waiting.{ends, polled, IsAnswer, IsGiven, IsLeftBy, IsEndedBy};
 
@@ -163,6 +166,22 @@ where
             spare: None,
             second: None,
         }
+    }
+
+    /// Makes a future, as `Monitor::claim`. It keeps what reaches its primitive.
+    #[inline(always)]
+    pub(crate) fn make<I, F>(monitor: M, input: I, call: F) -> Result<Self, Fault>
+    where
+        F: FnOnce(&mut M::State, I) -> Result<Slot, Fault>,
+        requires { F.IsAlwaysCallable call }
+        ensures made { IfOk result (λ future. (shown : MutBor M.State) × (left : MutBor M.State) × (slot : Slot)
+            × (future ≡ record { source = M.source monitor; name = Some slot.0; has_ended = false })
+            × F.post call shown input (Ok slot) left) }
+        ensures refused { IfErr result (λ fault. (shown : MutBor M.State) × (left : MutBor M.State)
+            × F.post call shown input (Err fault) left) }
+    {
+        let claim = monitor.monitor().claim(input, call)?;
+        Ok(SlotFuture::new(monitor, claim))
     }
 
     /// Returns `true` if the future was polled to its end, or cancelled. It takes no lock. Keeps `FusedFuture::is_terminated`.

@@ -2,8 +2,8 @@
 //!
 //! Take a `ManualResetEvent` where many wait until something has happened, a `Mutex` where one at a time uses a value, and a
 //! `Semaphore` where at most so many pass at a time; a `SharedSemaphore` owns a share of its state, so its futures and releasers can
-//! outlive the maker. The types that begin with `Local` are for one thread, and those that end in `State` for callers that name
-//! futures by slots.
+//! outlive the maker; so do the futures of calls that end in `_owned`, of what stands in an `Arc`. The types that begin with `Local`
+//! are for one thread, and those that end in `State` for callers that name futures by slots.
 //!
 //! ```
 //! use futures::task::Poll;
@@ -24,7 +24,7 @@ pub use fi_locks::{
     LocalSemaphoreReleaser, MutexState, SemaphoreState,
 };
 pub use fi_sync::{
-    ManualResetEvent, Mutex, MutexGuard, MutexLockFuture, Semaphore, SemaphoreAcquireFuture,
-    SemaphoreReleaser, SharedSemaphore, SharedSemaphoreAcquireFuture, SharedSemaphoreReleaser,
-    WaitForEventFuture,
+    ManualResetEvent, Mutex, MutexGuard, MutexLockFuture, OwnedWaitForEventFuture, Semaphore,
+    SemaphoreAcquireFuture, SemaphoreReleaser, SharedSemaphore, SharedSemaphoreAcquireFuture,
+    SharedSemaphoreReleaser, WaitForEventFuture,
 };

@@ -20,6 +20,8 @@ mod many;
 #[cfg(test)]
 mod mutex;
 #[cfg(test)]
+mod owned;
+#[cfg(test)]
 mod polls;
 #[cfg(test)]
 mod shared_semaphore;
