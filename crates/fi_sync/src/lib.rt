@@ -59,5 +59,5 @@ pub use shared_semaphore::{
 pub use slot_future::{PollOutput, PollSlot, SlotFuture, SlotPolled};
 pub use state_broadcast::{StateBroadcastChannel, StateReceiveFuture};
 pub use timed::{Timed, TimerWait};
-pub use timer::{TimerFuture, TimerService};
+pub use timer::{OwnedTimerFuture, TimerFuture, TimerService};
 pub use wakes::{Guarded, HasOutbox, Owed, PollWaker};

@@ -1,21 +1,22 @@
 //! The timer that threads share.
+ghost use Rattle.std.specs.Arc.{arc_value};
 ghost use Rattle.std.specs.Prelude.{◌≡◌, IfOk, IfErr};
 ghost use Rattle.fi_parts.specs.declared.errors.Fault.{Fault};
 ghost use Rattle.fi_sync.specs.Waiting.{IsNew};
 
 use crate::blocking::{Blocking, wait_for};
 use crate::event::ManualResetEvent;
-use crate::monitor::Monitor;
+use crate::monitor::{HasMonitor, Monitor};
 use crate::slot_future::SlotFuture;
 use crate::timed::{Sleeper, Timed, TimerWait};
-use fi_parts::memory::start_thread;
+use fi_parts::memory::{share, start_thread};
 use fi_parts::{Clock, Fault, Refused};
 use futures::Future;
 use futures::future::{Either, select};
 use std::alloc::Global;
 use std::marker::Model;
-use std::sync::Wait;
 use std::sync::atomic::{AtomicBool, Ordering};
+use std::sync::{Arc, Wait};
 use std::thread;
 use std::thread::Threads;
 use std::time::Duration;
@@ -58,12 +59,27 @@ pub struct TimerService<C, R> {
 /// `SlotFuture`'s. Keeps `TimerFuture` of futures-intrusive's `timer`.
 pub type TimerFuture<'a, C, R> = SlotFuture<&'a Monitor<Timed<C>, R>, TimerWait>;
 
+/// A `TimerFuture` that owns a share of its timer in place of a reference to it.
+pub type OwnedTimerFuture<C, R> = SlotFuture<Arc<TimerService<C, R>, Global>, TimerWait>;
+
 impl<C, R> Model for TimerService<C, R> {
     ghost use Rattle.std.specs.Prelude.{ℕ};
 
     ghost Value = { ℕ };
 
     ghost view = { λ service. service.monitor };
+}
+
+impl<C: Clock + Drop, R: Wait + Drop> HasMonitor for Arc<TimerService<C, R>, Global> {
+    type State = Timed<C>;
+
+    type Runtime = R;
+
+    ghost source = { λ timer. timer.value };
+
+    fn monitor(&self) -> &Monitor<Timed<C>, R> {
+        &self.monitor
+    }
 }
 
 impl<C: Clock + Drop, R> TimerService<C, R> {
@@ -83,8 +99,7 @@ impl<C: Clock + Drop, R: Wait> TimerService<C, R> {
         ensures made { IfOk result (λ future. IsNew self.now future) }
         ensures fault { IfErr result (λ fault. fault ≡ Fault.NoMemory) }
     {
-        let claim = self.monitor.claim(expiry, Timed::claim_deadline)?;
-        Ok(SlotFuture::new(&self.monitor, claim))
+        SlotFuture::make(&self.monitor, expiry, Timed::claim_deadline)
     }
 
     /// A future for the moment this long after the clock's time now, in whole milliseconds, rounded down, and at most `u64::MAX`.
@@ -94,8 +109,32 @@ impl<C: Clock + Drop, R: Wait> TimerService<C, R> {
         ensures made { IfOk result (λ future. IsNew self.now future) }
         ensures fault { IfErr result (λ fault. fault ≡ Fault.NoMemory) }
     {
-        let claim = self.monitor.claim(delay, Timed::claim_delay)?;
-        Ok(SlotFuture::new(&self.monitor, claim))
+        SlotFuture::make(&self.monitor, delay, Timed::claim_delay)
+    }
+
+    /// As `deadline`, for a timer that stands in an `Arc`: the future owns a share of the timer, so that it borrows nothing and can
+    /// go to a thread or a task that outlives the caller. Refused with `NoMemory` as `deadline`, or where 2^63 - 1 shares are
+    /// counted. Not in futures-intrusive.
+    #[inline(always)]
+    pub fn deadline_owned(timer: &Arc<Self>, expiry: u64) -> Result<OwnedTimerFuture<C, R>, Fault>
+    where
+        R: Drop,
+        ensures made { IfOk result (λ future. IsNew (arc_value timer.now) future) }
+        ensures fault { IfErr result (λ fault. fault ≡ Fault.NoMemory) }
+    {
+        SlotFuture::make(share(timer)?, expiry, Timed::claim_deadline)
+    }
+
+    /// As `delay`, for a timer that stands in an `Arc`: the future owns a share of the timer, and the call is refused as
+    /// `deadline_owned`. Not in futures-intrusive.
+    #[inline(always)]
+    pub fn delay_owned(timer: &Arc<Self>, delay: Duration) -> Result<OwnedTimerFuture<C, R>, Fault>
+    where
+        R: Drop,
+        ensures made { IfOk result (λ future. IsNew (arc_value timer.now) future) }
+        ensures fault { IfErr result (λ fault. fault ≡ Fault.NoMemory) }
+    {
+        SlotFuture::make(share(timer)?, delay, Timed::claim_delay)
     }
 
     /// The least expiry of those that wait, in milliseconds; None where none does. Keeps `GenericTimerService::next_expiration`.

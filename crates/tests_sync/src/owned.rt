@@ -1,11 +1,13 @@
 //! Futures that own a share of their primitive go to threads that borrow nothing.
 
-use fi_sync::{Blocking, ManualResetEvent};
+use fi_parts::MockClock;
+use fi_sync::{Blocking, ManualResetEvent, OwnedTimerFuture, TimerService};
 use futures::executor::block_on;
 use futures::test::MockTask;
 use std::sync::Arc;
 use std::thread;
 use std::thread::Threads;
+use std::time::Duration;
 
 // Whether a wait that is registered here ends on a thread of its own, once the event is set and its owner here is gone.
 fn wait_moves<R>(rt: R) -> Option<bool>
@@ -25,4 +27,47 @@ where
 #[test]
 fn an_owned_wait_moves_to_a_thread(rt: HostRuntime) {
     assert!(rt; wait_moves(rt) == Some(true));
+}
+
+// Whether the future waits while the clock shows 4, and ends on a thread of its own once it shows 5.
+fn moment_moves<R>(
+    rt: R,
+    clock: &MockClock,
+    timer: &TimerService<Arc<MockClock>, R>,
+    mut moment: OwnedTimerFuture<Arc<MockClock>, R>,
+) -> Option<bool>
+where
+    R: Blocking + Threads + Copy + Drop + Send + Sync + 'static,
+{
+    let task = MockTask::new(&rt).ok()?;
+    clock.set_time(4);
+    let is_pending = task.poll(&mut moment).is_pending();
+    timer.check_expirations();
+    let is_early = task.is_woken();
+    let waiter = thread::spawn(&rt, move || matches!(block_on(&rt, moment), Ok(Ok(())))).ok()?;
+    clock.set_time(5);
+    timer.check_expirations();
+    Some(is_pending && !is_early && waiter.join(&rt))
+}
+
+// Whether a deadline at 5, or a delay of 2 from 3, does.
+fn timer_moves<R>(rt: R, is_delay: bool) -> Option<bool>
+where
+    R: Blocking + Threads + Copy + Drop + Send + Sync + 'static,
+{
+    let clock = Arc::new(rt.alloc(), MockClock::new()).ok()?;
+    let timer = TimerService::new(rt.alloc(), rt, Arc::try_clone(&clock).ok()?);
+    let timer = Arc::new(rt.alloc(), timer).ok()?;
+    clock.set_time(3);
+    let moment = if is_delay {
+        TimerService::delay_owned(&timer, Duration::from_millis(2))
+    } else {
+        TimerService::deadline_owned(&timer, 5)
+    };
+    moment_moves(rt, &clock, &timer, moment.ok()?)
+}
+
+#[test]
+fn owned_moments_move_to_a_thread(rt: HostRuntime) {
+    assert!(rt; timer_moves(rt, false) == Some(true) && timer_moves(rt, true) == Some(true));
 }
