@@ -7,7 +7,7 @@ use crate::counted_mutex::{CountedMutex, Locked};
 use crate::counted_semaphore::CountedSemaphore;
 use crate::event::ManualResetEvent;
 use crate::monitor::{HasMonitor, Monitor};
-use crate::mutex::{Mutex, MutexGuard, MutexLockFuture};
+use crate::mutex::{Mutex, MutexGuardOf, MutexLockFutureOf};
 use crate::one_value::{OneshotBroadcastChannel, OneshotChannel};
 use crate::semaphore::{Semaphore, SemaphoreAcquireFuture, SemaphoreReleaser};
 use crate::shared_semaphore::{
@@ -83,13 +83,15 @@ impl<T: Drop, R: Wait, L: Ledger> fmt::Debug for Mutex<T, R, L> {
     }
 }
 
-impl<T: Drop, R: Wait, L: Ledger> fmt::Debug for MutexGuard<'_, T, R, L> {
+impl<M: HasMonitor<State = CountedMutex<T, L>>, T: Drop, L: Ledger> fmt::Debug
+    for MutexGuardOf<M, T, L> {
     fn fmt<F: fmt::Write>(&self, f: &mut fmt::Formatter<F>) -> fmt::Result {
         f.debug_struct("GenericMutexGuard").finish()
     }
 }
 
-impl<T: Drop, R: Wait, L: Ledger> fmt::Debug for MutexLockFuture<'_, T, R, L> {
+impl<M: HasMonitor<State = CountedMutex<T, L>>, T: Drop, L: Ledger> fmt::Debug
+    for MutexLockFutureOf<M, T, L> {
     fn fmt<F: fmt::Write>(&self, f: &mut fmt::Formatter<F>) -> fmt::Result {
         f.debug_struct("GenericMutexLockFuture").finish()
     }

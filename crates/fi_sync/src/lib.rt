@@ -46,7 +46,10 @@ pub use fi_channels::{ChannelReceive, ChannelSend, ChannelStreaming, EventWait};
 pub use fi_locks::{Grant, MutexLock, SemaphoreAcquire, Tally};
 pub use fi_parts::FutureKind;
 pub use monitor::{HasMonitor, Monitor};
-pub use mutex::{Mutex, MutexGuard, MutexLockFuture};
+pub use mutex::{
+    Mutex, MutexGuard, MutexGuardOf, MutexLockFuture, MutexLockFutureOf, OwnedMutexGuard,
+    OwnedMutexLockFuture,
+};
 pub use one_value::{OneValueChannel, OneshotBroadcastChannel, OneshotChannel};
 pub use receive_future::ChannelReceiveFuture;
 pub use semaphore::{Semaphore, SemaphoreAcquireFuture, SemaphoreReleaser};

@@ -1,5 +1,6 @@
 //! The mutex that threads share, its guard and its future.
-ghost use Rattle.std.specs.Prelude.{◌≡◌, [], ℕ, Option, Some, Result, Err, true, not, IfOk, IfErr, is_ok, ⊤};
+ghost use Rattle.std.specs.Arc.{arc_value};
+ghost use Rattle.std.specs.Prelude.{◌≡◌, Option, Some, Result, Err, true, not, IfOk, IfErr, is_ok, ⊤};
 ghost use Rattle.std.specs.Borrow.{Lends, sem};
 ghost use Rattle.futures.specs.declared.task.Poll.{Poll};
 ghost use Rattle.futures.specs.Poll.{OnPending, IfReady};
@@ -13,17 +14,19 @@ ghost use Rattle.fi_sync.specs.Blanks.{IsLockBlank};
 
 use crate::blocking::{Blocking, wait_for};
 use crate::counted_mutex::{CountedMutex, Locked};
-use crate::monitor::Monitor;
+use crate::monitor::{HasMonitor, Monitor};
 use crate::slot_future::SlotFuture;
+use crate::wakes::HasOutbox;
 use fi_locks::{Grant, MutexLock};
 use fi_parts::Fault;
+use fi_parts::memory::share;
 use futures::Future;
 use futures::task::{Context, Poll};
 use std::alloc::Global;
 use std::marker::Model;
 use std::ops::{Deref, DerefMut};
-use std::sync::Wait;
 use std::sync::ledger::{Blank, Ledger};
+use std::sync::{Arc, Wait};
 
 /// A mutex: one holder at a time has its value, and futures wait for it. Threads share it by reference.
 ///
@@ -73,6 +76,18 @@ impl<T, R, L: Ledger> Model for Mutex<T, R, L> {
     ghost view = { λ mutex. mutex.monitor };
 }
 
+impl<T: Drop, R: Wait + Drop, L: Ledger> HasMonitor for Arc<Mutex<T, R, L>, Global> {
+    type State = CountedMutex<T, L>;
+
+    type Runtime = R;
+
+    ghost source = { λ mutex. mutex.value };
+
+    fn monitor(&self) -> &Monitor<CountedMutex<T, L>, R> {
+        &self.monitor
+    }
+}
+
 impl<T: Drop, R, L: Ledger> Mutex<T, R, L> {
     /// A free mutex with this value, fair or not. It takes no memory yet. Keeps `GenericMutex::new`.
     ///
@@ -111,11 +126,20 @@ impl<T: Drop, R: Wait, L: Ledger> Mutex<T, R, L> {
         ensures made { IfOk result (λ future. IsNew self.now future) }
         ensures fault { IfErr result (λ fault. fault ≡ Fault.NoMemory) }
     {
-        let claim = self.monitor.claim((), |mutex, ()| mutex.claim_lock())?;
-        Ok(MutexLockFuture {
-            monitor: &self.monitor,
-            future: SlotFuture::new(&self.monitor, claim),
-        })
+        MutexLockFutureOf::make(&self.monitor, &self.monitor)
+    }
+
+    /// As `lock`, for a mutex that stands in an `Arc`: the future and its guard own a share of the mutex each, so that they borrow
+    /// nothing and can go to a thread or a task that outlives the caller. Refused with `NoMemory` as `lock`, or where 2^63 - 1 shares
+    /// are counted. Not in futures-intrusive.
+    #[inline(always)]
+    pub fn lock_owned(mutex: &Arc<Self>) -> Result<OwnedMutexLockFuture<T, R, L>, Fault>
+    where
+        R: Drop,
+        ensures made { IfOk result (λ future. IsNew (arc_value mutex.now) future) }
+        ensures fault { IfErr result (λ fault. fault ≡ Fault.NoMemory) }
+    {
+        MutexLockFutureOf::make(share(mutex)?, share(mutex)?)
     }
 
     /// Locks the mutex at once: its guard. None where it is locked, or is fair and a future is queued for it. Keeps
@@ -124,12 +148,8 @@ impl<T: Drop, R: Wait, L: Ledger> Mutex<T, R, L> {
     pub fn try_lock(&self) -> Option<MutexGuard<'_, T, R, L>>
         ensures tried { InSomeHold (λ old. TriesLock {W = Option Waker} old result) }
     {
-        let Locked { value, hold } = self.monitor.call((), |mutex, ()| mutex.try_lock())?;
-        Some(MutexGuard {
-            monitor: &self.monitor,
-            value,
-            hold,
-        })
+        let locked = self.monitor.call((), |mutex, ()| mutex.try_lock())?;
+        Some(MutexGuardOf::of(&self.monitor, locked))
     }
 
     /// Returns `true` if somebody held the mutex when it was looked at. Keeps `GenericMutex::is_locked`.
@@ -156,14 +176,21 @@ impl<T: Drop, R: Blocking, L: Ledger> Mutex<T, R, L> {
 
 /// Holds a mutex, with its value. Its drop puts the value back and unlocks the mutex, and wakes the oldest queued future.
 ///
-/// At most one guard of a mutex is alive. Keeps `GenericMutexGuard` of futures-intrusive's `sync`.
-pub struct MutexGuard<'a, T: Drop, R: Wait, L: Ledger> {
-    monitor: &'a Monitor<CountedMutex<T, L>, R>,
+/// At most one guard of a mutex is alive. It reaches the mutex by a reference or an `Arc`.
+pub struct MutexGuardOf<M: HasMonitor<State = CountedMutex<T, L>>, T: Drop, L: Ledger> {
+    monitor: M,
     value: T,
     hold: Grant<L>,
 }
 
-impl<'a, T: Drop, R: Wait, L: Ledger> Model for MutexGuard<'a, T, R, L> {
+/// The guard of a mutex, to which it refers. Keeps `GenericMutexGuard` of futures-intrusive's `sync`.
+pub type MutexGuard<'a, T, R, L> = MutexGuardOf<&'a Monitor<CountedMutex<T, L>, R>, T, L>;
+
+/// A `MutexGuard` that owns a share of its mutex in place of a reference to it.
+pub type OwnedMutexGuard<T, R, L> = MutexGuardOf<Arc<Mutex<T, R, L>, Global>, T, L>;
+
+impl<M: HasMonitor<State = CountedMutex<T, L>>, T: Drop, L: Ledger> Model
+    for MutexGuardOf<M, T, L> {
     ghost use Rattle.std.specs.Prelude.{◌≡◌};
 
     ghost Value = { T };
@@ -175,28 +202,46 @@ impl<'a, T: Drop, R: Wait, L: Ledger> Model for MutexGuard<'a, T, R, L> {
     ghost invariant = { λ guard. (guard.hold ≡ 1) × (L.parts ≡ 1) };
 }
 
-impl<T: Drop, R: Wait, L: Ledger> MutexGuard<'_, T, R, L> {
-    /// For proofs: at most one guard of a mutex is alive.
-    pub fn never_two(&mut self, other: &mut MutexGuard<'_, T, R, L>)
+impl<M: HasMonitor<State = CountedMutex<T, L>>, T: Drop, L: Ledger> MutexGuardOf<M, T, L> {
+    // The guard of this hold.
+    fn of(monitor: M, locked: Locked<T, L>) -> Self
+        ensures { result ≡ locked }
+    {
+        let Locked { value, hold } = locked;
+        MutexGuardOf {
+            monitor,
+            value,
+            hold,
+        }
+    }
+
+    /// For proofs: at most one guard of a mutex is alive, whatever it reaches the mutex by.
+    pub fn never_two<N>(&mut self, other: &mut MutexGuardOf<N, T, L>)
+    where
+        N: HasMonitor<State = CountedMutex<T, L>>,
         ensures { ⊥ }
     {
         self.hold.apart(&mut other.hold);
     }
 }
 
-impl<T: Drop, R: Wait, L: Ledger> Drop for MutexGuard<'_, T, R, L> {
+impl<M: HasMonitor<State = CountedMutex<T, L>>, T: Drop, L: Ledger> Drop for MutexGuardOf<M, T, L> {
     #[inline(always)]
     fn drop(self) {
-        let MutexGuard {
+        let MutexGuardOf {
             monitor,
             value,
             hold,
         } = self;
-        monitor.call(Locked { value, hold }, CountedMutex::unlock);
+        monitor
+            .monitor()
+            .call(Locked { value, hold }, CountedMutex::unlock);
+        drop(monitor);
     }
 }
 
-impl<T: Drop, R: Wait, L: Ledger> Deref for MutexGuard<'_, T, R, L> {
+impl<M: HasMonitor<State = CountedMutex<T, L>>, T: Drop, L: Ledger> Deref
+    for MutexGuardOf<M, T, L> {
     type Target = T;
 
     ghost deref_gives = { λ guard value. value ≡ guard };
@@ -207,15 +252,16 @@ impl<T: Drop, R: Wait, L: Ledger> Deref for MutexGuard<'_, T, R, L> {
     }
 }
 
-impl<T: Drop, R: Wait, L: Ledger> DerefMut for MutexGuard<'_, T, R, L> {
-    ghost use mir.Syntax.{named};
-    ghost use Rattle.fi_sync.specs.contracts.mutex.MutexGuard.{the_row};
+impl<M: HasMonitor<State = CountedMutex<T, L>>, T: Drop, L: Ledger> DerefMut
+    for MutexGuardOf<M, T, L> {
+    ghost use Rattle.fi_sync.specs.contracts.mutex.MutexGuardOf.{the_row};
 
     ghost deref_mut_gives = { λ guard value. value ≡ guard };
 
     /// The value of the mutex, to be changed: what is written there is what the guard's drop puts back.
     fn deref_mut(&mut self) -> &mut T
-        ensures* writes_back { sem 𝓛 (Lends (the_row (record { mir = named 1; lft = [] }) T.row R.row L.row L.Ledger)
+        ensures* writes_back { sem 𝓛 (Lends
+            (the_row M.row T.row L.row M.Runtime.row M.HasMonitor ⟦<CountedMutex<T, L> as HasOutbox>⟧ L.Ledger)
             T.row self.entry result (λ value. value)) }
         ensures shows { result.now ≡ self.old }
     {
@@ -226,22 +272,49 @@ impl<T: Drop, R: Wait, L: Ledger> DerefMut for MutexGuard<'_, T, R, L> {
 /// Locks a mutex. Its drop unregisters it; if it was told, the oldest queued future is told and woken in its place.
 ///
 /// Its output is the guard, once the mutex is free for it. Refused with `NoMemory` where it had to wait and no waker could be
-/// made; it may then be polled again. Keeps `GenericMutexLockFuture` of futures-intrusive's `sync`.
+/// made; it may then be polled again. It reaches the mutex by a reference or an `Arc`.
 #[derive(Drop)]
-pub struct MutexLockFuture<'a, T: Drop, R: Wait, L: Ledger> {
-    monitor: &'a Monitor<CountedMutex<T, L>, R>,
-    future: SlotFuture<&'a Monitor<CountedMutex<T, L>, R>, MutexLock>,
+pub struct MutexLockFutureOf<M: HasMonitor<State = CountedMutex<T, L>>, T: Drop, L: Ledger> {
+    future: SlotFuture<M, MutexLock>,
+    // The guard's way to the mutex, which is made with the future: so a grant is never refused for want of memory.
+    guard_monitor: Option<M>,
 }
 
-impl<'a, T: Drop, R: Wait, L: Ledger> Model for MutexLockFuture<'a, T, R, L> {
+/// Locks a mutex, to which it refers. Keeps `GenericMutexLockFuture` of futures-intrusive's `sync`.
+pub type MutexLockFuture<'a, T, R, L> = MutexLockFutureOf<&'a Monitor<CountedMutex<T, L>, R>, T, L>;
+
+/// A `MutexLockFuture` that owns a share of its mutex in place of a reference to it, as its guard does.
+pub type OwnedMutexLockFuture<T, R, L> = MutexLockFutureOf<Arc<Mutex<T, R, L>, Global>, T, L>;
+
+impl<M: HasMonitor<State = CountedMutex<T, L>>, T: Drop, L: Ledger> Model
+    for MutexLockFutureOf<M, T, L> {
+    ghost use Rattle.std.specs.Prelude.{◌≡◌, true, is_none};
     ghost use Rattle.fi_sync.specs.Waiting.{SharedFuture};
 
     ghost Value = { SharedFuture };
 
     ghost view = { λ lock. lock.future };
+
+    // The guard has it once the mutex was granted.
+    ghost invariant = { λ lock. is_none lock.guard_monitor ≡ true → lock.future.has_ended ≡ true };
 }
 
-impl<T: Drop, R: Wait, L: Ledger> MutexLockFuture<'_, T, R, L> {
+impl<M: HasMonitor<State = CountedMutex<T, L>>, T: Drop, L: Ledger> MutexLockFutureOf<M, T, L> {
+    // Makes a future. Both monitors are the mutex's. Refused only with `NoMemory`; then nothing has changed.
+    #[inline(always)]
+    fn make(monitor: M, guard_monitor: M) -> Result<Self, Fault>
+        ensures made { IfOk result (λ future. IsNew (M.source monitor) future) }
+        ensures fault { IfErr result (λ fault. fault ≡ Fault.NoMemory) }
+    {
+        let future = SlotFuture::make(monitor, (), |mutex: &mut CountedMutex<T, L>, ()| {
+            mutex.claim_lock()
+        })?;
+        Ok(MutexLockFutureOf {
+            future,
+            guard_monitor: Some(guard_monitor),
+        })
+    }
+
     /// Returns `true` if the future was polled to its end. It takes no lock. Keeps `FusedFuture::is_terminated`.
     pub fn is_terminated(&self) -> bool
         ensures { result ≡ self.now.has_ended }
@@ -250,15 +323,16 @@ impl<T: Drop, R: Wait, L: Ledger> MutexLockFuture<'_, T, R, L> {
     }
 }
 
-impl<'a, T: Drop, R: Wait, L: Ledger> Future for MutexLockFuture<'a, T, R, L> {
-    type Output = Result<MutexGuard<'a, T, R, L>, Fault>;
+impl<M: HasMonitor<State = CountedMutex<T, L>>, T: Drop, L: Ledger> Future
+    for MutexLockFutureOf<M, T, L> {
+    type Output = Result<MutexGuardOf<M, T, L>, Fault>;
 
     ghost needs = { λ lock source. source ≡ lock.source };
 
     ghost gives = { λ lock. IsGiven PollsLock (Err Fault.NoMemory) };
 
     #[inline(always)]
-    fn poll(&mut self, cx: &mut Context<'_>) -> Poll<Result<MutexGuard<'a, T, R, L>, Fault>>
+    fn poll(&mut self, cx: &mut Context<'_>) -> Poll<Result<MutexGuardOf<M, T, L>, Fault>>
         ensures value { IfReady result (IsGiven PollsLock (Err Fault.NoMemory)) }
         ensures again { OnPending result ⊤ }
         ensures same { OnPending result ((output : Result T Fault) → IsGiven PollsLock (Err Fault.NoMemory) output
@@ -270,11 +344,10 @@ impl<'a, T: Drop, R: Wait, L: Ledger> Future for MutexLockFuture<'a, T, R, L> {
         ensures answered { IsLockAnswer self.old.name self.old.has_ended cx.new.lacks_waker result }
     {
         match self.future.poll(cx) {
-            Poll::Ready(Ok(Locked { value, hold })) => Poll::Ready(Ok(MutexGuard {
-                monitor: self.monitor,
-                value,
-                hold,
-            })),
+            Poll::Ready(Ok(locked)) => match self.guard_monitor.take() {
+                Some(monitor) => Poll::Ready(Ok(MutexGuardOf::of(monitor, locked))),
+                None => unreachable!(),
+            },
             Poll::Ready(Err(fault)) => Poll::Ready(Err(fault)),
             Poll::Pending => Poll::Pending,
         }

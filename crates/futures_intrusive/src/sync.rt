@@ -24,7 +24,7 @@ pub use fi_locks::{
     LocalSemaphoreReleaser, MutexState, SemaphoreState,
 };
 pub use fi_sync::{
-    ManualResetEvent, Mutex, MutexGuard, MutexLockFuture, OwnedWaitForEventFuture, Semaphore,
-    SemaphoreAcquireFuture, SemaphoreReleaser, SharedSemaphore, SharedSemaphoreAcquireFuture,
-    SharedSemaphoreReleaser, WaitForEventFuture,
+    ManualResetEvent, Mutex, MutexGuard, MutexLockFuture, OwnedMutexGuard, OwnedMutexLockFuture,
+    OwnedWaitForEventFuture, Semaphore, SemaphoreAcquireFuture, SemaphoreReleaser, SharedSemaphore,
+    SharedSemaphoreAcquireFuture, SharedSemaphoreReleaser, WaitForEventFuture,
 };

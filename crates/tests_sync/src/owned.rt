@@ -1,10 +1,16 @@
-//! Futures that own a share of their primitive go to threads that borrow nothing.
+//! Futures and guards that own a share of their primitive go to threads that borrow nothing.
+ghost use Rattle.fi_sync.specs.Blanks.{IsLockBlank};
 
 use fi_parts::MockClock;
-use fi_sync::{Blocking, ManualResetEvent, OwnedTimerFuture, TimerService};
+use fi_sync::{
+    Blocking, ManualResetEvent, Mutex, OwnedMutexGuard, OwnedMutexLockFuture, OwnedTimerFuture,
+    TimerService,
+};
 use futures::executor::block_on;
 use futures::test::MockTask;
+use std::marker::Brand;
 use std::sync::Arc;
+use std::sync::ledger::{Blank, Ledger};
 use std::thread;
 use std::thread::Threads;
 use std::time::Duration;
@@ -70,4 +76,39 @@ where
 #[test]
 fn owned_moments_move_to_a_thread(rt: HostRuntime) {
     assert!(rt; timer_moves(rt, false) == Some(true) && timer_moves(rt, true) == Some(true));
+}
+
+// Adds 1 to the mutex's value: the guard.
+fn adds<R: Blocking + Drop, L: Ledger>(
+    rt: &R,
+    lock: OwnedMutexLockFuture<u64, R, L>,
+) -> Option<OwnedMutexGuard<u64, R, L>> {
+    let mut guard = block_on(rt, lock).ok()?.ok()?;
+    *guard = guard.wrapping_add(1);
+    Some(guard)
+}
+
+// Whether a mutex that is held here is locked by a thread of its own once it is free, and the guard comes back from there.
+fn guard_moves<R, L: Ledger + Send + Sync + 'static>(rt: R, blank: Blank) -> Option<bool>
+where
+    R: Blocking + Threads + Copy + Drop + Send + Sync + 'static,
+    requires blank { IsLockBlank L.Ledger blank }
+{
+    let task = MockTask::new(&rt).ok()?;
+    let mutex = Mutex::<u64, R, L>::new(rt.alloc(), rt, blank, 7, true);
+    let mutex = Arc::new(rt.alloc(), mutex).ok()?;
+    let held = mutex.try_lock()?;
+    let mut lock = Mutex::lock_owned(&mutex).ok()?;
+    let is_pending = task.poll(&mut lock).is_pending();
+    let holder = thread::spawn(&rt, move || adds(&rt, lock)).ok()?;
+    drop(held);
+    let guard = holder.join(&rt)?;
+    let is_held = *guard == 8 && mutex.is_locked();
+    drop(guard);
+    Some(is_pending && is_held && !mutex.is_locked())
+}
+
+#[test]
+fn an_owned_guard_moves_to_a_thread(rt: HostRuntime) {
+    assert!(rt; guard_moves::<HostRuntime, Brand>(rt, Blank::new(1)) == Some(true));
 }
