@@ -235,3 +235,14 @@ fn ends_say_whether_they_are_closed(rt: HostRuntime) {
     let ends = state_broadcast_channel::<u64, HostRuntime>(rt.alloc(), rt);
     assert!(rt; say_they_are_closed(ends, true) == Some(true));
 }
+
+// What a send whose channel is closed hands back; one that is refused keeps its value.
+#[test]
+fn refused_sends_hand_back_what_they_have(rt: HostRuntime) {
+    let closed = SendFault::Closed(2u64);
+    let refused: SendFault<u64> = SendFault::Fault(Fault::NoSlot);
+    assert_eq!(rt;
+        (closed.into_inner(), refused.into_inner()),
+        (Some(2), None)
+    );
+}
