@@ -4,7 +4,7 @@ ghost use Rattle.std.specs.Arc.{arc_value};
 ghost use Rattle.std.specs.Borrow.{MutBor};
 ghost use Rattle.fi_parts.specs.declared.errors.Fault.{Fault};
 ghost use Rattle.fi_sync.specs.Waiting.{IsNew};
-ghost use Rattle.futures_intrusive.specs.Ends.{Counted, AddsSender, AddsReceiver, LeavesSender, DropsReceiver};
+ghost use Rattle.futures_intrusive.specs.Ends.{Counted, KeepsEnds, AddsSender, AddsReceiver, LeavesSender, DropsReceiver};
 
 use crate::counted_ends::{ClosesByEnds, CountedEnds, ManyReceivers, ManySenders};
 use fi_parts::memory::{share, shared};
@@ -148,6 +148,21 @@ impl<S: ClosesByEnds + Drop, R: Wait + Drop, K: Side<S>> End<S, R, K> {
     /// Returns `true` if the channel was closed when it was looked at.
     pub fn is_closed(&self) -> bool {
         self.channel().call((), |ends, ()| ends.is_closed())
+    }
+
+    /// Returns how many senders there were when it was looked at. Takes constant time, no memory, and one hold of the lock.
+    pub fn sender_count(&self) -> usize
+        ensures shown { (held : Counted S) × KeepsEnds S.closing held × (result ≡ held.senders) }
+    {
+        self.channel().call((), |ends, ()| ends.senders())
+    }
+
+    /// Returns how many receivers there were when it was looked at. A stream counts as the receiver that it keeps. Takes constant
+    /// time, no memory, and one hold of the lock.
+    pub fn receiver_count(&self) -> usize
+        ensures shown { (held : Counted S) × KeepsEnds S.closing held × (result ≡ held.receivers) }
+    {
+        self.channel().call((), |ends, ()| ends.receivers())
     }
 }
 

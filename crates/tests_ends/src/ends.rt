@@ -1,6 +1,7 @@
 //! Ends that are owned and counted: the last of a side closes the channel, and wakes those who wait.
 
 mod blocking;
+mod counts;
 mod debug;
 mod drops;
 mod says;

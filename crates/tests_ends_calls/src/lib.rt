@@ -37,6 +37,18 @@ impl<S: ClosesByEnds + Drop, R: Wait + Drop, K: Side<S>> SaysClosed for End<S, R
     }
 }
 
+/// An end that tells how many there are.
+pub trait CountsEnds: Drop {
+    /// Senders, and receivers.
+    fn counts(&self) -> (usize, usize);
+}
+
+impl<S: ClosesByEnds + Drop, R: Wait + Drop, K: Side<S>> CountsEnds for End<S, R, K> {
+    fn counts(&self) -> (usize, usize) {
+        (End::sender_count(self), End::receiver_count(self))
+    }
+}
+
 /// The calls at once of a sender of many values, or of a channel that is borrowed.
 pub trait TriesToSend<T>: Drop {
     fn try_send(&self, value: T) -> Result<(), TrySendError<T>>;
