@@ -3,3 +3,4 @@ pub mod Kinds
 pub mod KindLaws
 pub mod SharedStreams
 pub mod Blanks
+pub mod Readers

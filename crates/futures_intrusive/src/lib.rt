@@ -26,6 +26,7 @@ pub mod outbox;
 pub mod run;
 mod shared_stream;
 mod state_ends;
+mod state_reader;
 pub mod sync;
 pub mod timer;
 

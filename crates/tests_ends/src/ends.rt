@@ -4,6 +4,7 @@ mod blocking;
 mod counts;
 mod debug;
 mod drops;
+mod reads;
 mod says;
 mod threads;
 

@@ -7,11 +7,11 @@
 use fi_channels::{GivesValue, OneValueState, TryReceiveError, TrySendError};
 use fi_parts::buffer::RingBuf;
 use fi_parts::{ChannelSendError, CloseStatus, Fault, NoRoom, StateId};
-use fi_sync::{GenericChannel, PollWaker};
+use fi_sync::{Blocking, GenericChannel, PollWaker};
 use futures_intrusive::channel::shared::{
     ChannelReceiveFuture, ChannelSendFuture, CloneSide, ClosesByEnds, End, GenericReceiver,
     GenericSender, OneValueReceiver, OneValueSender, SharedChannelState, SharedStream, Side,
-    StateReceiveFuture, StateReceiver, StateSender,
+    StateReader, StateReceiveFuture, StateReceiver, StateSender,
 };
 use std::sync::Wait;
 
@@ -185,5 +185,29 @@ impl<T: Clone + Drop, R: Wait + Drop> ReceivesStates<T> for StateReceiver<T, R> 
 
     fn try_receive(&self, seen: u64) -> Result<Option<(StateId, T)>, Fault> {
         StateReceiver::try_receive(self, StateId::from_value(seen))
+    }
+}
+
+/// A reader of states, which remembers what it has read.
+pub trait ReadsStates<T>: Drop {
+    /// The number of the newest state that was read.
+    fn seen(&self) -> u64;
+
+    fn try_next(&mut self) -> Result<Option<T>, Fault>;
+
+    fn next_blocking(&mut self) -> Result<Option<T>, Fault>;
+}
+
+impl<T: Clone + Drop, R: Blocking + Drop> ReadsStates<T> for StateReader<T, R> {
+    fn seen(&self) -> u64 {
+        StateReader::seen(self).value()
+    }
+
+    fn try_next(&mut self) -> Result<Option<T>, Fault> {
+        StateReader::try_next(self)
+    }
+
+    fn next_blocking(&mut self) -> Result<Option<T>, Fault> {
+        StateReader::next_blocking(self)
     }
 }

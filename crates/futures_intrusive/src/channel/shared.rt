@@ -35,3 +35,4 @@ pub use crate::shared_stream::SharedStream;
 pub use crate::state_ends::{
     StateReceiveFuture, StateReceiver, StateSender, state_broadcast_channel,
 };
+pub use crate::state_reader::StateReader;

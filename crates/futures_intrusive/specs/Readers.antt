@@ -1,0 +1,17 @@
+-- What a contract sees of a reader of states, and what a read does.
+use Rattle.std.specs.Prelude.{◌≡◌, ℕ, Option, Some, None}
+
+-- The source that its channel's futures register at, and the number of the newest state that it has read.
+pub record Reader : Type 0 where
+  pub source : ℕ
+  pub seen : ℕ
+
+-- What a reader gives of what its receiver was answered: of a state its value, and it remembers the number; of none nothing, and it
+-- remembers what it did.
+abbrev pub IsRead : {T : Type 0} → Reader → Option (ℕ × T) → Option T → Reader → Type 0
+IsRead old None given new = (given ≡ None) × (new ≡ old)
+IsRead old (Some state) given new = (given ≡ Some state.1) × (new ≡ record old { seen = state.0 })
+
+-- Its receiver was answered so, and this is what the reader gives of it.
+abbrev pub Reads : {T : Type 0} → (Option (ℕ × T) → Type 0) → Reader → Option T → Reader → Type 0
+Reads {T} Answers old given new = (state : Option (ℕ × T)) × Answers state × IsRead old state given new
