@@ -12,6 +12,7 @@
 #![tactic(auto)]
 
 pub mod blocking;
+mod blocking_iter;
 pub mod buffer;
 pub mod channel;
 mod channel_ends;

@@ -4,6 +4,7 @@ mod blocking;
 mod counts;
 mod debug;
 mod drops;
+mod iterates;
 mod reads;
 mod says;
 mod threads;

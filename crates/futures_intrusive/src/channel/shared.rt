@@ -17,6 +17,7 @@
 //! assert!(rt; sender.try_send(2) == Err(TrySendError::Closed(2)));
 //! ```
 
+pub use crate::blocking_iter::BlockingIter;
 pub use crate::channel_ends::{
     ChannelReceiveFuture, ChannelSendFuture, GenericReceiver, GenericSender, Receiver, Sender,
     SharedChannelState, UnbufferedReceiver, UnbufferedSender, channel, generic_channel,
