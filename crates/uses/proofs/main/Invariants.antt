@@ -9,5 +9,8 @@ ghosts-serve-K-Ledger g a = record { name = a.lock.name; parts = a.lock.parts }
 abbrev pub ghosts-limit : goal.ghosts-limit
 ghosts-limit g a = record { name = a.blank.name; parts = a.blank.parts }
 
+abbrev pub ghosts-connect : goal.ghosts-connect
+ghosts-connect g a = record { name = a.blank.name; parts = a.blank.parts }
+
 abbrev pub ghosts-record : goal.ghosts-record
 ghosts-record g a = record { name = a.blank.name; parts = a.blank.parts }
