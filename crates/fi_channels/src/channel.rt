@@ -333,25 +333,9 @@ impl<T: Drop, B: RingBuf<Item = T>, W: Drop> ChannelState<T, B, W> {
         self.fields.next_ends_now(slot)
     }
 
-    /// Polls the stream under this slot: ready with its next item, or with None once the channel is closed and empty, and
-    /// ever after; else it is registered with this waker. `remove_receive_waiter` cancels it.
-    pub fn next_or_register(&mut self, slot: Slot, waker: W) -> (Poll<Option<T>>, Leftover<W>)
-        requires { words.can_stream (kind_of self.old slot.0) (receive_phase self.old slot.0) ≡ true }
-        ensures polled { PollsNext self.old slot.0 waker result.0 self.new }
-        ensures displaced { result.1.displaced ≡ displaced_receive self.old slot.0 }
-        ensures unused { result.1.unused ≡ unused_after result.0 waker }
-        // The stream still lives, until it is cancelled.
-        ensures live { words.can_stream (kind_of self.new slot.0) (receive_phase self.new slot.0) ≡ true }
-        ensures others { OtherReceivesStay slot.0 self.old self.new }
-    {
-        match self.next_checked(slot, waker) {
-            Ok(polled) => polled,
-            Err(_waker) => unreachable!(),
-        }
-    }
-
-    /// Polls the stream under this slot as `next_or_register` does, if one lives there. Else the waker comes back, and nothing has
-    /// changed: so it asks its caller for nothing. `leave_receive` cancels it so.
+    /// Polls the stream under this slot, if one lives there: ready with its next item, or with None once the channel is closed and
+    /// empty, and ever after; else it is registered with this waker. The stream still lives, until it is cancelled (`leave_receive`).
+    /// If none lives there the waker comes back, and nothing has changed: so it asks its caller for nothing.
     pub fn next_checked(
         &mut self,
         slot: Slot,

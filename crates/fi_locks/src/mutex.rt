@@ -282,28 +282,9 @@ impl<T: Drop, W: Drop> MutexState<T, W> {
         }
     }
 
-    /// Polls the future under this slot: ready with the value where the mutex is free for it, else registered with this waker.
-    ///
-    /// The caller has seen that the future lives and has not ended, and gives the value back by `unlock`. The wakers of no more
-    /// use come back.
-    pub fn try_wait(&mut self, slot: Slot, waker: W) -> (Poll<T>, Leftover<W>)
-        requires { can_be_polled (phase_at self.old slot.0) ≡ true }
-        ensures polled { Polls self.old slot.0 waker result.0 self.new }
-        ensures displaced { result.1.displaced ≡ displaced_at self.old slot.0 }
-        ensures unused { result.1.unused ≡ unused_after result.0 waker }
-        ensures locked { IsLockedIfReady result.0 self.new }
-        ensures live { is_some (phase_at self.new slot.0) ≡ true }
-        ensures pending { OnPending result.0 (can_be_polled (phase_at self.new slot.0) ≡ true) }
-        ensures others { OthersStay can_be_polled slot.0 self.old self.new }
-    {
-        match self.poll_checked(slot, waker) {
-            Ok(polled) => polled,
-            Err(_waker) => unreachable!(),
-        }
-    }
-
-    /// Polls the future under this slot as `try_wait` does, if one lives there that has not ended. Else the waker comes back, and
-    /// nothing has changed: so it asks its caller for nothing.
+    /// Polls the future under this slot, if one lives there that has not ended: ready with the value where the mutex is free for it,
+    /// else registered with this waker. The value is given back by `unlock`. The wakers of no more use come back. If there is no such
+    /// future the waker comes back, and nothing has changed: so it asks its caller for nothing.
     #[inline(always)]
     pub fn poll_checked(&mut self, slot: Slot, waker: W) -> Result<(Poll<T>, Leftover<W>), W>
         ensures polled { IfOk result (λ polled. Polls self.old slot.0 waker polled.0 self.new) }
@@ -325,8 +306,9 @@ impl<T: Drop, W: Drop> MutexState<T, W> {
         Ok(polled)
     }
 
-    /// Cancels the future under this slot as `remove_waiter` does, if one lives there. Else None, and nothing changes: so it asks its
-    /// caller for nothing.
+    /// Cancels the future under this slot, if one lives there, and gives back the waker that it had. If it was told, the oldest queued
+    /// future is told in its place, whether or not the mutex is locked. Else None, and nothing changes: so it asks its caller for
+    /// nothing.
     #[inline(always)]
     pub fn leave(&mut self, slot: Slot) -> Option<W>
         ensures left { LeavesWhere (is_some (phase_at self.old slot.0)) (Cancels self.old slot.0 self.new) (displaced_at self.old slot.0)
@@ -344,19 +326,6 @@ impl<T: Drop, W: Drop> MutexState<T, W> {
             tell_oldest(&mut self.locks, self.is_fair);
         }
         waker
-    }
-
-    /// Cancels the future under this slot, which is live, and gives back the waker that it had. If it was told, the oldest queued
-    /// future is told in its place, whether or not the mutex is locked.
-    #[inline(always)]
-    pub fn remove_waiter(&mut self, slot: Slot) -> Option<W>
-        requires { is_some (phase_at self.old slot.0) ≡ true }
-        ensures cancelled { Cancels self.old slot.0 self.new }
-        ensures own { self.new.own ≡ self.old.own }
-        ensures displaced { result ≡ displaced_at self.old slot.0 }
-        ensures others { OthersStay can_be_polled slot.0 self.old self.new }
-    {
-        self.leave(slot)
     }
 
     // Whether a newcomer has to wait, though the mutex may be free.

@@ -240,28 +240,9 @@ impl<W: Drop> SemaphoreState<W> {
         self.fields.ends_now(slot)
     }
 
-    /// Polls the future under this slot: ready with the permits that it needs if they are granted, else registered with this
-    /// waker.
-    ///
-    /// The caller has seen that the future lives and has not ended. The wakers of no more use come back.
-    pub fn acquire_or_register(&mut self, slot: Slot, waker: W) -> (Poll<usize>, Leftover<W>)
-        requires { can_be_polled (phase_at self.old slot.0) ≡ true }
-        ensures polled { Polls self.old slot.0 waker result.0 self.new }
-        ensures held { AreHeld result.0 self.new.own.held }
-        ensures displaced { result.1.displaced ≡ displaced_at self.old slot.0 }
-        ensures unused { result.1.unused ≡ unused_after result.0 waker }
-        ensures live { is_some (phase_at self.new slot.0) ≡ true }
-        ensures pending { OnPending result.0 (can_be_polled (phase_at self.new slot.0) ≡ true) }
-        ensures others { OthersStay can_be_polled slot.0 self.old self.new }
-    {
-        match self.poll_checked(slot, waker) {
-            Ok(polled) => polled,
-            Err(_waker) => unreachable!(),
-        }
-    }
-
-    /// Polls the future under this slot as `acquire_or_register` does, if one lives there that has not ended. Else the waker comes
-    /// back, and nothing has changed: so it asks its caller for nothing.
+    /// Polls the future under this slot, if one lives there that has not ended: ready with the permits that it needs if they are
+    /// granted, else registered with this waker. The wakers of no more use come back. If there is no such future the waker comes back,
+    /// and nothing has changed: so it asks its caller for nothing.
     #[inline(always)]
     pub fn poll_checked(&mut self, slot: Slot, waker: W) -> Result<(Poll<usize>, Leftover<W>), W>
         ensures polled { IfOk result (λ polled. Polls self.old slot.0 waker polled.0 self.new) }
@@ -277,8 +258,9 @@ impl<W: Drop> SemaphoreState<W> {
         self.fields.poll_checked(slot, waker)
     }
 
-    /// Cancels the future under this slot as `remove_waiter` does, if one lives there. Else None, and nothing changes: so it asks its
-    /// caller for nothing.
+    /// Cancels the future under this slot, if one lives there, and gives back the waker that it had. A notice that it had not used is
+    /// passed on to those who wait. If it waited in a fair semaphore, the longest front of the queue whose needs together are free then
+    /// is told. Else None, and nothing changes: so it asks its caller for nothing.
     #[inline(always)]
     pub fn leave(&mut self, slot: Slot) -> Option<W>
         ensures left { LeavesWhere (is_some (phase_at self.old slot.0)) (Cancels self.old slot.0 self.new) (displaced_at self.old slot.0)
@@ -289,21 +271,7 @@ impl<W: Drop> SemaphoreState<W> {
         if !self.is_live(slot) {
             return None;
         }
-        self.remove_waiter(slot)
-    }
-
-    /// Cancels the future under this slot, which is live, and gives back the waker that it had. A notice that it had not used is
-    /// passed on to those who wait. If it waited in a fair semaphore, the longest front of the queue whose needs together are
-    /// free then is told.
-    #[inline(always)]
-    pub fn remove_waiter(&mut self, slot: Slot) -> Option<W>
-        requires { is_some (phase_at self.old slot.0) ≡ true }
-        ensures cancelled { Cancels self.old slot.0 self.new }
-        ensures held { self.new.own.held ≡ self.old.own.held }
-        ensures displaced { result ≡ displaced_at self.old slot.0 }
-        ensures others { OthersStay can_be_polled slot.0 self.old self.new }
-    {
-        self.fields.remove_waiter(slot)
+        self.fields.remove_live(slot)
     }
 
     /// Acquires this many permits as `try_acquire` does, and says whether it did. They are then held until `give_back` or
@@ -565,7 +533,7 @@ impl<W: Drop> Fields<W> {
     }
 
     #[inline(always)]
-    fn remove_waiter(&mut self, slot: Slot) -> Option<W>
+    fn remove_live(&mut self, slot: Slot) -> Option<W>
         requires sound { IsSound (machine_of self.old) }
         requires marked { IsMarked self.old }
         requires live { is_some (phase_of self.old.waits.side slot.0) ≡ true }

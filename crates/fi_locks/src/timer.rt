@@ -224,27 +224,9 @@ impl<W: Drop> TimerState<W> {
         }
     }
 
-    /// Polls the future under this slot at this moment: ready where it was told, or where it is fresh and its expiry is not after
-    /// the moment; else registered with this waker.
-    ///
-    /// The caller has seen that the future lives and has not ended. The wakers of no more use come back.
-    pub fn try_wait(&mut self, slot: Slot, now: u64, waker: W) -> (Poll<()>, Leftover<W>)
-        requires { can_be_polled (phase_at self.old slot.0) ≡ true }
-        ensures polled { Polls self.old slot.0 now waker result.0 self.new }
-        ensures displaced { result.1.displaced ≡ displaced_at self.old slot.0 }
-        ensures unused { result.1.unused ≡ unused_after result.0 waker }
-        ensures live { is_some (phase_at self.new slot.0) ≡ true }
-        ensures pending { OnPending result.0 (can_be_polled (phase_at self.new slot.0) ≡ true) }
-        ensures others { OthersStay can_be_polled slot.0 self.old self.new }
-    {
-        match self.poll_checked(slot, now, waker) {
-            Ok(polled) => polled,
-            Err(_waker) => unreachable!(),
-        }
-    }
-
-    /// Polls the future under this slot as `try_wait` does, if one lives there that has not ended. Else the waker comes back, and
-    /// nothing has changed: so it asks its caller for nothing.
+    /// Polls the future under this slot at this moment, if one lives there that has not ended: ready where it was told, or where it is
+    /// fresh and its expiry is not after the moment; else registered with this waker. The wakers of no more use come back. If there is
+    /// none the waker comes back, and nothing has changed: so it asks its caller for nothing.
     #[inline(always)]
     pub fn poll_checked(
         &mut self,
@@ -279,8 +261,8 @@ impl<W: Drop> TimerState<W> {
         Ok((Poll::Ready(()), Leftover::of(named, Some(waker))))
     }
 
-    /// Cancels the future under this slot as `remove_waiter` does, if one lives there. Else None, and nothing changes: so it asks its
-    /// caller for nothing.
+    /// Cancels the future under this slot, if one lives there, and gives back the waker that it had. Nobody is told. Else None, and
+    /// nothing changes: so it asks its caller for nothing.
     #[inline(always)]
     pub fn leave(&mut self, slot: Slot) -> Option<W>
         ensures left { LeavesWhere (is_some (phase_at self.old slot.0)) (Cancels self.old slot.0 self.new) (displaced_at self.old slot.0)
@@ -288,17 +270,6 @@ impl<W: Drop> TimerState<W> {
         ensures others { OthersStay can_be_polled slot.0 self.old self.new }
     {
         self.deadlines.remove(slot)
-    }
-
-    /// Cancels the future under this slot, which is live, and gives back the waker that it had. Nobody is told.
-    #[inline(always)]
-    pub fn remove_waiter(&mut self, slot: Slot) -> Option<W>
-        requires { is_some (phase_at self.old slot.0) ≡ true }
-        ensures cancelled { Cancels self.old slot.0 self.new }
-        ensures displaced { result ≡ displaced_at self.old slot.0 }
-        ensures others { OthersStay can_be_polled slot.0 self.old self.new }
-    {
-        self.leave(slot)
     }
 
     // Whether the future under this slot is registered, and whether it is fresh and its expiry has not come. None where none lives

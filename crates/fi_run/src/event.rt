@@ -117,7 +117,7 @@ impl<W: Drop> Primitive for EventState<W> {
                 if !self.is_live(slot) {
                     return Answer::Refused(Fault::NoSlot);
                 }
-                self.remove_waiter(slot);
+                self.leave(slot);
                 Answer::Done
             }
             EventCall::Set => {

@@ -119,7 +119,7 @@ impl<T: Drop, W: Drop> Primitive for MutexState<T, W> {
                 if !self.is_live(slot) {
                     return Answer::Refused(Fault::NoSlot);
                 }
-                self.remove_waiter(slot);
+                self.leave(slot);
                 Answer::Done
             }
             MutexCall::TryLock => match self.try_take() {

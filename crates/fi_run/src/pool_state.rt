@@ -275,13 +275,10 @@ impl<W: Drop> Fields<W> {
         ensures stepped { Step (machine_of self.old) (calls.Poll slot waker) result (machine_of self.new) }
         ensures is_pool { IsPool self.new }
     {
-        if !self.drained.can_poll(slot) {
-            return Answer::Refused(Fault::NoSlot);
-        }
-        let (answer, _leftover) = self.drained.try_wait(slot, waker);
-        match answer {
-            Poll::Ready(_) => Answer::Ready,
-            Poll::Pending => Answer::Pending,
+        match self.drained.poll_checked(slot, waker) {
+            Ok((Poll::Ready(_), _)) => Answer::Ready,
+            Ok((Poll::Pending, _)) => Answer::Pending,
+            Err(_) => Answer::Refused(Fault::NoSlot),
         }
     }
 
@@ -293,7 +290,7 @@ impl<W: Drop> Fields<W> {
         if !self.drained.is_live(slot) {
             return Answer::Refused(Fault::NoSlot);
         }
-        self.drained.remove_waiter(slot);
+        self.drained.leave(slot);
         Answer::Done
     }
 

@@ -120,7 +120,7 @@ impl<W: Drop> Primitive for SemaphoreState<W> {
                 if !self.is_live(slot) {
                     return Answer::Refused(Fault::NoSlot);
                 }
-                self.remove_waiter(slot);
+                self.leave(slot);
                 Answer::Done
             }
             SemaphoreCall::TryAcquire(permits) => {

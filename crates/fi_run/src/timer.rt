@@ -125,7 +125,7 @@ impl<W: Drop> Primitive for TimerState<W> {
                 if !self.is_live(slot) {
                     return Answer::Refused(Fault::NoSlot);
                 }
-                self.remove_waiter(slot);
+                self.leave(slot);
                 Answer::Done
             }
             TimerCall::Check(now) => {

@@ -1,10 +1,15 @@
--- What a contract sees of a reader of states, and what a read does.
+-- What a contract sees of a reader of states and of an iterator that blocks, and what a read does.
 use Rattle.std.specs.Prelude.{◌≡◌, ℕ, Option, Some, None}
 
 -- The source that its channel's futures register at, and the number of the newest state that it has read.
 pub record Reader : Type 0 where
   pub source : ℕ
   pub seen : ℕ
+
+-- The source that its channel's futures register at, and how many items an iterator gives at most.
+pub record Values : Type 0 where
+  pub source : ℕ
+  pub left : ℕ
 
 -- What a reader gives of what its receiver was answered: of a state its value, and it remembers the number; of none nothing, and it
 -- remembers what it did.

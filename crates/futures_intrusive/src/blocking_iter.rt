@@ -5,6 +5,7 @@ use crate::channel_ends::GenericReceiver;
 use fi_parts::Fault;
 use fi_parts::buffer::RingBuf;
 use fi_sync::Blocking;
+use std::marker::Model;
 
 /// The values of a channel, one after another, until it is closed and empty; each `next` blocks its thread until one comes.
 ///
@@ -33,11 +34,18 @@ pub struct BlockingIter<'a, T: Drop, B: RingBuf<Item = T>, R: Blocking + Drop> {
     left: u64,
 }
 
+impl<'a, T: Drop, B: RingBuf<Item = T>, R: Blocking + Drop> Model for BlockingIter<'a, T, B, R> {
+    ghost use Rattle.futures_intrusive.specs.Readers.{Values};
+
+    ghost Value = { Values };
+
+    ghost view = { λ values. record { source = values.receiver.now; left = values.left } };
+}
+
 impl<T: Drop, B: RingBuf<Item = T>, R: Blocking + Drop> GenericReceiver<T, B, R> {
     /// An iterator over the values, which ends once the channel is closed and empty. Takes constant time, no memory and no lock.
     pub fn blocking_iter(&self) -> BlockingIter<'_, T, B, R>
-        ensures same { result.receiver.now ≡ self.now }
-        ensures whole { result.left ≡ u64.MAX }
+        ensures { result ≡ record { source = self.now; left = u64.MAX } }
     {
         BlockingIter {
             receiver: self,

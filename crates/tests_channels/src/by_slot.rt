@@ -3,19 +3,18 @@ use fi_channels::{
     ChannelReceiveAccess, EventState, OneshotBroadcastState, OneshotState, StateBroadcastState,
 };
 use fi_parts::{ChannelSendError, CloseStatus, Slot, StateId};
+use futures::task::Poll;
 
 #[test]
 fn a_wait_by_slot(rt: HostRuntime) {
     let mut event: EventState<u64> = EventState::new(rt.alloc(), false);
     let other = event.claim_waiter().expect(&rt, "room");
-    let is_pending = event.can_poll(other) && event.try_wait(other, 1).0.is_pending();
+    let is_pending = matches!(event.poll_checked(other, 1), Ok((Poll::Pending, _)));
     event.set();
     assert!(rt; is_pending);
     assert_eq!(rt; event.wake_count(), 1);
     assert!(rt; event.is_live(other));
-    if event.is_live(other) {
-        assert_eq!(rt; event.remove_waiter(other), Some(1));
-    }
+    assert_eq!(rt; event.leave(other), Some(1));
 }
 
 // Whether a receive lives under this slot, whose waker was taken out. It is cancelled.

@@ -25,10 +25,7 @@ fn leftover(
     slot: Slot,
     waker: u64,
 ) -> Option<(Option<u64>, Option<u64>)> {
-    if !mutex.can_poll(slot) {
-        return None;
-    }
-    let (_, leftover) = mutex.try_wait(slot, waker);
+    let (_, leftover) = mutex.poll_checked(slot, waker).ok()?;
     Some((leftover.displaced, leftover.unused))
 }
 
@@ -44,5 +41,5 @@ fn wakers_come_back(rt: HostRuntime) {
         && leftover(&mut mutex, slot, 3) == Some((Some(2), Some(3)))
         && leftover(&mut mutex, slot, 4).is_none();
     assert!(rt; is_locked && come_back);
-    assert!(rt; mutex.is_live(slot) && mutex.remove_waiter(slot).is_none());
+    assert!(rt; mutex.is_live(slot) && mutex.leave(slot).is_none());
 }

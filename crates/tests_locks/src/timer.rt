@@ -10,10 +10,7 @@ fn leftover(
     now: u64,
     waker: u64,
 ) -> Option<(Option<u64>, Option<u64>)> {
-    if !timer.can_poll(slot) {
-        return None;
-    }
-    let (_, leftover) = timer.try_wait(slot, now, waker);
+    let (_, leftover) = timer.poll_checked(slot, now, waker).ok()?;
     Some((leftover.displaced, leftover.unused))
 }
 
@@ -37,5 +34,5 @@ fn wakers_come_back(rt: HostRuntime) {
     assert!(rt; come_back && timer.wake_count() == 1);
     let comes_back = leftover(&mut timer, slot, 10, 4) == Some((Some(3), Some(4)))
         && leftover(&mut timer, slot, 10, 5).is_none();
-    assert!(rt; comes_back && timer.is_live(slot) && timer.remove_waiter(slot).is_none());
+    assert!(rt; comes_back && timer.is_live(slot) && timer.leave(slot).is_none());
 }

@@ -14,7 +14,7 @@ use Rattle.fi_locks.specs.SemaphoreFields.{IsMarked, MarksIf, MarksWithoutIf}
 use Rattle.fi_locks.specs.SemaphoreSoundLaws.{at_own, after, sound_removed}
 use Rattle.fi_locks.proofs.SemaphoreMarks.{marks_removed, told_need_free}
 use Rattle.fi_locks.proofs.SemaphoreSteps.{telling_if, live_from}
-use Rattle.fi_locks.proofs.semaphore.Fields.remove_waiter.Goals as goal
+use Rattle.fi_locks.proofs.semaphore.Fields.remove_live.Goals as goal
 
 -- The future was passed over, and then removed from the waiters.
 record Left {W : Type 0} (old passed : Fields W) (name : ℕ) (future : Future ℕ W) (now : Waiting ℕ W) : Type 0 where
