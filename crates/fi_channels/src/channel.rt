@@ -317,20 +317,13 @@ impl<T: Drop, B: RingBuf<Item = T>, W: Drop> ChannelState<T, B, W> {
         self.fields.claim_receive(ReceiveKind::Stream)
     }
 
-    /// Returns `true` if a stream lives under this slot, so it may be polled.
-    pub fn can_stream(&self, slot: Slot) -> bool
-        ensures { result ≡ words.can_stream (kind_of self.now slot.0) (receive_phase self.now slot.0) }
+    /// Returns `true` if a poll of the stream under this slot would have to wait now, so that it needs a waker; `false` where none lives.
+    pub fn next_would_wait(&self, slot: Slot) -> bool
+        ensures waits { words.can_stream (kind_of self.now slot.0) (receive_phase self.now slot.0) ≡ true →
+            WouldBeReady (PollsNext self.now slot.0) (not result) }
+        ensures pollable { result ≡ true → words.can_stream (kind_of self.now slot.0) (receive_phase self.now slot.0) ≡ true }
     {
-        self.fields.can_stream(slot)
-    }
-
-    /// Returns `true` if a poll of the stream under this slot would be ready now, so that it needs no waker; `false` where none lives.
-    pub fn next_ends_now(&self, slot: Slot) -> bool
-        ensures ready { words.can_stream (kind_of self.now slot.0) (receive_phase self.now slot.0) ≡ true →
-            WouldBeReady (PollsNext self.now slot.0) result }
-        ensures vacant { words.can_stream (kind_of self.now slot.0) (receive_phase self.now slot.0) ≡ false → result ≡ false }
-    {
-        self.fields.next_ends_now(slot)
+        self.fields.next_would_wait(slot)
     }
 
     /// Polls the stream under this slot, if one lives there: ready with its next item, or with None once the channel is closed and
@@ -386,11 +379,11 @@ impl<T: Drop, B: RingBuf<Item = T>, W: Drop> ChannelSendAccess for ChannelState<
         self.fields.has_send(slot)
     }
 
-    fn send_ends_now(&self, slot: Slot) -> bool
-        ensures ready { WouldBeReady (PollsSend self.now slot.0) result }
-        ensures vacant { words.can_send (send_phase self.now slot.0) ≡ false → result ≡ false }
+    fn send_would_wait(&self, slot: Slot) -> bool
+        ensures waits { WouldBeReady (PollsSend self.now slot.0) (not result) }
+        ensures pollable { result ≡ true → words.can_send (send_phase self.now slot.0) ≡ true }
     {
-        self.fields.send_ends_now(slot)
+        self.fields.send_would_wait(slot)
     }
 
     #[inline(always)]
@@ -452,12 +445,12 @@ impl<T: Drop, B: RingBuf<Item = T>, W: Drop> ChannelReceiveAccess for ChannelSta
         self.fields.has_receive(slot)
     }
 
-    fn receive_ends_now(&self, slot: Slot) -> bool
-        ensures ready { words.can_receive (kind_of self.now slot.0) (receive_phase self.now slot.0) ≡ true →
-            WouldBeReady (λ waker. Answered (PollsReceive self.now slot.0 waker) (λ fault state. ⊥)) result }
-        ensures vacant { words.can_receive (kind_of self.now slot.0) (receive_phase self.now slot.0) ≡ false → result ≡ false }
+    fn receive_would_wait(&self, slot: Slot) -> bool
+        ensures waits { words.can_receive (kind_of self.now slot.0) (receive_phase self.now slot.0) ≡ true →
+            WouldBeReady (λ waker. Answered (PollsReceive self.now slot.0 waker) (λ fault state. ⊥)) (not result) }
+        ensures pollable { result ≡ true → words.can_receive (kind_of self.now slot.0) (receive_phase self.now slot.0) ≡ true }
     {
-        self.fields.receive_ends_now(slot)
+        self.fields.receive_would_wait(slot)
     }
 
     #[inline(always)]

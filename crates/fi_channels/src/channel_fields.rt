@@ -106,16 +106,6 @@ impl<T: Drop, B: RingBuf<Item = T>, W: Drop> ChannelFields<T, B, W> {
         }
     }
 
-    /// Returns `true` if a stream lives under this slot.
-    pub fn can_stream(&self, slot: Slot) -> bool
-        ensures { result ≡ can_stream (asks_of self.now.waiters.receives slot.0) (phase_of self.now.waiters.receives slot.0) }
-    {
-        match self.waiters.future::<Receives>(slot) {
-            Some(future) => matches!(future.asks, ReceiveKind::Stream),
-            None => false,
-        }
-    }
-
     /// Returns `true` if a receive or a stream lives under this slot.
     pub fn has_receive(&self, slot: Slot) -> bool
         ensures { result ≡ is_some (phase_of self.now.waiters.receives slot.0) }
@@ -123,15 +113,15 @@ impl<T: Drop, B: RingBuf<Item = T>, W: Drop> ChannelFields<T, B, W> {
         self.waiters.phase::<Receives>(slot).is_some()
     }
 
-    /// Returns `true` if a poll of the send under this slot would be ready now; `false` where none may be polled.
-    pub fn send_ends_now(&self, slot: Slot) -> bool
-        ensures ready { WouldBeReady (PollsSend (machine_of B.bounded self.now) slot.0) result }
-        ensures vacant { can_send (phase_of self.now.waiters.sends slot.0) ≡ false → result ≡ false }
+    /// Returns `true` if a poll of the send under this slot would have to wait now; `false` where none may be polled.
+    pub fn send_would_wait(&self, slot: Slot) -> bool
+        ensures waits { WouldBeReady (PollsSend (machine_of B.bounded self.now) slot.0) (not result) }
+        ensures pollable { result ≡ true → can_send (phase_of self.now.waiters.sends slot.0) ≡ true }
     {
         match self.waiters.phase::<Sends>(slot) {
-            Some(Phase::Fresh) => !self.is_open || self.buffer.can_push(),
-            Some(Phase::Complete) => true,
-            None | Some(Phase::Registered(_) | Phase::Told | Phase::Ended) => false,
+            Some(Phase::Fresh) => self.is_open && !self.buffer.can_push(),
+            Some(Phase::Registered(_)) => true,
+            None | Some(Phase::Told | Phase::Complete | Phase::Ended) => false,
         }
     }
 
@@ -148,40 +138,41 @@ impl<T: Drop, B: RingBuf<Item = T>, W: Drop> ChannelFields<T, B, W> {
         }
     }
 
-    /// Returns `true` if a poll of the receive under this slot would be ready now; `false` where none may be polled, as where a stream
-    /// lives.
-    pub fn receive_ends_now(&self, slot: Slot) -> bool
+    /// Returns `true` if a poll of the receive under this slot would have to wait now; `false` where none may be polled, as where a
+    /// stream lives.
+    pub fn receive_would_wait(&self, slot: Slot) -> bool
         // The machine's polls don't ask for the kind.
-        ensures ready { can_receive (asks_of self.now.waiters.receives slot.0) (phase_of self.now.waiters.receives slot.0) ≡ true →
-            WouldBeReady (PollsReceive (machine_of B.bounded self.now) slot.0) result }
-        ensures vacant { can_receive (asks_of self.now.waiters.receives slot.0) (phase_of self.now.waiters.receives slot.0) ≡ false →
-            result ≡ false }
+        ensures waits { can_receive (asks_of self.now.waiters.receives slot.0) (phase_of self.now.waiters.receives slot.0) ≡ true →
+            WouldBeReady (PollsReceive (machine_of B.bounded self.now) slot.0) (not result) }
+        ensures pollable { result ≡ true →
+            can_receive (asks_of self.now.waiters.receives slot.0) (phase_of self.now.waiters.receives slot.0) ≡ true }
     {
         let future = match self.waiters.future::<Receives>(slot) {
             Some(future) => future,
             None => return false,
         };
         match (&future.asks, &future.phase) {
-            (ReceiveKind::Single, Phase::Fresh | Phase::Told) => self.has_next() || !self.is_open,
+            (ReceiveKind::Single, Phase::Fresh | Phase::Told) => self.is_open && !self.has_next(),
+            (ReceiveKind::Single, Phase::Registered(_)) => true,
             _ => false,
         }
     }
 
-    /// Returns `true` if a poll of the stream under this slot would be ready now (one that has ended ends again); `false` where no
+    /// Returns `true` if a poll of the stream under this slot would have to wait now (one that has ended ends again); `false` where no
     /// stream lives.
-    pub fn next_ends_now(&self, slot: Slot) -> bool
-        ensures ready { can_stream (asks_of self.now.waiters.receives slot.0) (phase_of self.now.waiters.receives slot.0) ≡ true →
-            WouldBeReady (PollsNext (machine_of B.bounded self.now) slot.0) result }
-        ensures vacant { can_stream (asks_of self.now.waiters.receives slot.0) (phase_of self.now.waiters.receives slot.0) ≡ false →
-            result ≡ false }
+    pub fn next_would_wait(&self, slot: Slot) -> bool
+        ensures waits { can_stream (asks_of self.now.waiters.receives slot.0) (phase_of self.now.waiters.receives slot.0) ≡ true →
+            WouldBeReady (PollsNext (machine_of B.bounded self.now) slot.0) (not result) }
+        ensures pollable { result ≡ true →
+            can_stream (asks_of self.now.waiters.receives slot.0) (phase_of self.now.waiters.receives slot.0) ≡ true }
     {
         let future = match self.waiters.future::<Receives>(slot) {
             Some(future) => future,
             None => return false,
         };
         match (&future.asks, &future.phase) {
-            (ReceiveKind::Stream, Phase::Fresh | Phase::Told) => self.has_next() || !self.is_open,
-            (ReceiveKind::Stream, Phase::Ended) => true,
+            (ReceiveKind::Stream, Phase::Fresh | Phase::Told) => self.is_open && !self.has_next(),
+            (ReceiveKind::Stream, Phase::Registered(_)) => true,
             _ => false,
         }
     }

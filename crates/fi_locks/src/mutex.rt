@@ -258,26 +258,16 @@ impl<T: Drop, W: Drop> MutexState<T, W> {
         self.locks.phase(slot).is_some()
     }
 
-    /// Returns `true` if a future lives under this slot that has not ended.
-    pub fn can_poll(&self, slot: Slot) -> bool
-        ensures { result ≡ can_be_polled (phase_at self.now slot.0) }
-    {
-        match self.locks.phase(slot) {
-            Some(Phase::Fresh | Phase::Registered(_) | Phase::Told) => true,
-            None | Some(Phase::Complete | Phase::Ended) => false,
-        }
-    }
-
-    /// Returns `true` if a poll of the future under this slot would be ready now, so that it needs no waker; `false` where none may be
+    /// Returns `true` if a poll of the future under this slot would have to wait now, so that it needs a waker; `false` where none may be
     /// polled.
-    pub fn ends_now(&self, slot: Slot) -> bool
-        ensures ready { WouldBeReady (Polls self.now slot.0) result }
-        ensures vacant { can_be_polled (phase_at self.now slot.0) ≡ false → result ≡ false }
+    pub fn would_wait(&self, slot: Slot) -> bool
+        ensures waits { WouldBeReady (Polls self.now slot.0) (not result) }
+        ensures pollable { result ≡ true → can_be_polled (phase_at self.now slot.0) ≡ true }
     {
         match self.locks.phase(slot) {
-            Some(Phase::Fresh) => self.value.is_some() && !self.is_promised(),
-            Some(Phase::Registered(_)) => self.value.is_some() && !self.is_fair,
-            Some(Phase::Told) => self.value.is_some(),
+            Some(Phase::Fresh) => self.value.is_none() || self.is_promised(),
+            Some(Phase::Registered(_)) => self.value.is_none() || self.is_fair,
+            Some(Phase::Told) => self.value.is_none(),
             None | Some(Phase::Complete | Phase::Ended) => false,
         }
     }

@@ -1,5 +1,5 @@
 //! A semaphore.
-ghost use Rattle.std.specs.Prelude.{◌≡◌, ◌≤◌, ◌<◌, ◌+◌, ◌-◌, ◌^◌, ◌&&◌, true, false, Option, Some};
+ghost use Rattle.std.specs.Prelude.{◌≡◌, ◌≤◌, ◌<◌, ◌+◌, ◌-◌, ◌^◌, ◌&&◌, not, true, false, Option, Some};
 ghost use Rattle.std.specs.Prelude.{None, IfOk, IfErr, OnErr, MatchOption, is_some, length, ⊤};
 ghost use Rattle.fi_parts.specs.Effects.{TakesEffect};
 ghost use Rattle.fi_parts.specs.Effects.WaiterEffect.{EndsPlaced};
@@ -221,23 +221,13 @@ impl<W: Drop> SemaphoreState<W> {
         self.fields.waits.phase(slot).is_some()
     }
 
-    /// Returns `true` if a future lives under this slot that has not ended.
-    pub fn can_poll(&self, slot: Slot) -> bool
-        ensures { result ≡ can_be_polled (phase_at self.now slot.0) }
-    {
-        match self.fields.waits.phase(slot) {
-            Some(Phase::Fresh | Phase::Registered(_) | Phase::Told) => true,
-            None | Some(Phase::Complete | Phase::Ended) => false,
-        }
-    }
-
-    /// Returns `true` if a poll of the future under this slot would be ready now, so that it needs no waker; `false` where none may be
+    /// Returns `true` if a poll of the future under this slot would have to wait now, so that it needs a waker; `false` where none may be
     /// polled.
-    pub fn ends_now(&self, slot: Slot) -> bool
-        ensures ready { WouldBeReady (Polls self.now slot.0) result }
-        ensures vacant { can_be_polled (phase_at self.now slot.0) ≡ false → result ≡ false }
+    pub fn would_wait(&self, slot: Slot) -> bool
+        ensures waits { WouldBeReady (Polls self.now slot.0) (not result) }
+        ensures pollable { result ≡ true → can_be_polled (phase_at self.now slot.0) ≡ true }
     {
-        self.fields.ends_now(slot)
+        self.fields.would_wait(slot)
     }
 
     /// Polls the future under this slot, if one lives there that has not ended: ready with the permits that it needs if they are
@@ -360,18 +350,18 @@ impl<W: Drop> Fields<W> {
         self.waits.oldest().is_none()
     }
 
-    fn ends_now(&self, slot: Slot) -> bool
-        ensures ready { WouldBeReady (Polls (machine_of self.now) slot.0) result }
-        ensures vacant { can_be_polled (phase_of self.now.waits.side slot.0) ≡ false → result ≡ false }
+    fn would_wait(&self, slot: Slot) -> bool
+        ensures waits { WouldBeReady (Polls (machine_of self.now) slot.0) (not result) }
+        ensures pollable { result ≡ true → can_be_polled (phase_of self.now.waits.side slot.0) ≡ true }
     {
         let future = match self.waits.future(slot) {
             Some(future) => future,
             None => return false,
         };
         match &future.phase {
-            Phase::Fresh => self.can_take(future.asks),
-            Phase::Registered(_) => !self.is_fair && future.asks <= self.free,
-            Phase::Told => future.asks <= self.free,
+            Phase::Fresh => !self.can_take(future.asks),
+            Phase::Registered(_) => self.is_fair || self.free < future.asks,
+            Phase::Told => self.free < future.asks,
             Phase::Complete | Phase::Ended => false,
         }
     }

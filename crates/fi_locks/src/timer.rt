@@ -197,30 +197,20 @@ impl<W: Drop> TimerState<W> {
         self.deadlines.phase(slot).is_some()
     }
 
-    /// Returns `true` if a future lives under this slot that has not ended.
-    pub fn can_poll(&self, slot: Slot) -> bool
-        ensures { result ≡ can_be_polled (phase_at self.now slot.0) }
-    {
-        match self.deadlines.phase(slot) {
-            Some(Phase::Fresh | Phase::Registered(_) | Phase::Told) => true,
-            None | Some(Phase::Complete | Phase::Ended) => false,
-        }
-    }
-
-    /// Returns `true` if a poll of the future under this slot would be ready at this moment, so that it needs no waker; `false` where
+    /// Returns `true` if a poll of the future under this slot would have to wait at this moment, so that it needs a waker; `false` where
     /// none may be polled.
-    pub fn ends_now(&self, slot: Slot, now: u64) -> bool
-        ensures ready { WouldBeReady (Polls self.now slot.0 now) result }
-        ensures vacant { can_be_polled (phase_at self.now slot.0) ≡ false → result ≡ false }
+    pub fn would_wait(&self, slot: Slot, now: u64) -> bool
+        ensures waits { WouldBeReady (Polls self.now slot.0 now) (not result) }
+        ensures pollable { result ≡ true → can_be_polled (phase_at self.now slot.0) ≡ true }
     {
         let future = match self.deadlines.future(slot) {
             Some(future) => future,
             None => return false,
         };
         match &future.phase {
-            Phase::Fresh => future.asks.expiry <= now,
-            Phase::Told => true,
-            Phase::Registered(_) | Phase::Complete | Phase::Ended => false,
+            Phase::Fresh => now < future.asks.expiry,
+            Phase::Registered(_) => true,
+            Phase::Told | Phase::Complete | Phase::Ended => false,
         }
     }
 

@@ -118,7 +118,7 @@ impl<T: Drop, B: RingBuf<Item = T>> PollSlot<ChannelStreaming> for ChannelState<
     ghost leaves = { λ old name waker answer. leftover_of_next answer (displaced_receive old name) waker };
 
     fn poll_slot(&mut self, slot: Slot, waker: PollWaker) -> SlotPolled<Self::Output> {
-        if waker.is_none() && !self.next_ends_now(slot) && self.can_stream(slot) {
+        if waker.is_none() && self.next_would_wait(slot) {
             return None;
         }
         match self.next_checked(slot, waker) {

@@ -161,7 +161,7 @@ impl<T: Drop, L: Ledger> PollSlot<MutexLock> for CountedMutex<T, L> {
 
     #[inline(always)]
     fn poll_slot(&mut self, slot: Slot, waker: PollWaker) -> SlotPolled<Self::Output> {
-        if waker.is_none() && !self.state.ends_now(slot) && self.state.can_poll(slot) {
+        if waker.is_none() && self.state.would_wait(slot) {
             return None;
         }
         let CountedMutex { state, tally } = self;

@@ -134,7 +134,7 @@ impl<L: Ledger> PollSlot<SemaphoreAcquire> for CountedSemaphore<L> {
 
     #[inline(always)]
     fn poll_slot(&mut self, slot: Slot, waker: PollWaker) -> SlotPolled<Self::Output> {
-        if waker.is_none() && !self.state.ends_now(slot) && self.state.can_poll(slot) {
+        if waker.is_none() && self.state.would_wait(slot) {
             return None;
         }
         let CountedSemaphore { state, tally } = self;

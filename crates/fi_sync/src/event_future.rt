@@ -33,7 +33,7 @@ impl PollSlot<EventWait> for EventState<PollWaker> {
 
     #[inline(always)]
     fn poll_slot(&mut self, slot: Slot, waker: PollWaker) -> SlotPolled<Self::Output> {
-        if waker.is_none() && !self.ends_now(slot) && self.can_poll(slot) {
+        if waker.is_none() && self.would_wait(slot) {
             return None;
         }
         match self.poll_checked(slot, waker) {

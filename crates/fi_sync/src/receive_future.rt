@@ -29,7 +29,7 @@ impl<C: ChannelReceiveAccess<Waker = PollWaker>> PollSlot<ChannelReceive> for C 
 
     #[inline(always)]
     fn poll_slot(&mut self, slot: Slot, waker: PollWaker) -> SlotPolled<Self::Output> {
-        if waker.is_none() && !self.receive_ends_now(slot) && self.can_receive(slot) {
+        if waker.is_none() && self.receive_would_wait(slot) {
             return None;
         }
         match self.receive_checked(slot, waker) {

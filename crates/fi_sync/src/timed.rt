@@ -208,7 +208,7 @@ impl<C: Clock> PollSlot<TimerWait> for Timed<C> {
     #[inline(always)]
     fn poll_slot(&mut self, slot: Slot, waker: PollWaker) -> SlotPolled<Self::Output> {
         let now = self.clock.now();
-        if waker.is_none() && !self.timer.ends_now(slot, now) && self.timer.can_poll(slot) {
+        if waker.is_none() && self.timer.would_wait(slot, now) {
             return None;
         }
         match self.timer.poll_checked(slot, now, waker) {

@@ -216,8 +216,8 @@ impl<S: SendsClosed> ChannelSendAccess for CountedEnds<S> {
         self.state.has_send(slot)
     }
 
-    fn send_ends_now(&self, slot: Slot) -> bool {
-        self.state.send_ends_now(slot)
+    fn send_would_wait(&self, slot: Slot) -> bool {
+        self.state.send_would_wait(slot)
     }
 
     #[inline(always)]
@@ -261,8 +261,8 @@ impl<S: ReceivesClosed> ChannelReceiveAccess for CountedEnds<S> {
         self.state.has_receive(slot)
     }
 
-    fn receive_ends_now(&self, slot: Slot) -> bool {
-        self.state.receive_ends_now(slot)
+    fn receive_would_wait(&self, slot: Slot) -> bool {
+        self.state.receive_would_wait(slot)
     }
 
     #[inline(always)]
