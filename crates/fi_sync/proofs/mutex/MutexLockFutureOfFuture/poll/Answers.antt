@@ -3,34 +3,24 @@ use Rattle.futures.specs.Poll.{IfReady}
 use Rattle.futures.specs.declared.task.Poll.TheVariants.{Ready, Pending}
 use Rattle.fi_parts.specs.declared.errors.Fault.{Fault}
 use Rattle.fi_sync.specs.Locked.{IsLockAnswer, PollsLock}
-use Rattle.fi_sync.specs.Waiting.{SharedFuture, IsGiven}
+use Rattle.fi_sync.specs.Waiting.{IsGiven}
+use Rattle.fi_sync.proofs.Answered.{answered_so}
 use Rattle.fi_sync.proofs.mutex.MutexLockFutureOfFuture.poll.Goals as goal
 
 pub returns-in-Some-clause-answered : goal.returns-in-Some-clause-answered
 returns-in-Some-clause-answered g c =
-    let same : Ready (Ok c.of.result) ≡ c.poll.result = search rules in
-    let own : c.self.inside.future ≡ c.args.self.now = search rules in
-    subst (λ future. IsLockAnswer (SharedFuture.name future)
-    (SharedFuture.has_ended future) c.poll.new.cx.lacks_waker (Ready (Ok c.of.result))) own
-    (subst (λ answer. IsLockAnswer c.self.inside.future.name c.self.inside.future.has_ended c.poll.new.cx.lacks_waker answer)
-    (sym same) c.poll.ensures.answered)
+    answered_so IsLockAnswer c.self.inside.future c.args.self.now c.poll.new.cx.lacks_waker c.poll.result (Ready (Ok c.of.result))
+    (search rules) (search rules) c.poll.ensures.answered
 
 pub returns-in-Ready-Err-clause-answered : goal.returns-in-Ready-Err-clause-answered
 returns-in-Ready-Err-clause-answered g c =
-    let same : Ready (Err c.in-Ready-Err.fault) ≡ c.poll.result = search rules in
-    let own : c.self.inside.future ≡ c.args.self.now = search rules in
-    subst (λ future. IsLockAnswer (SharedFuture.name future)
-    (SharedFuture.has_ended future) c.poll.new.cx.lacks_waker (Ready (Err c.in-Ready-Err.fault))) own
-    (subst (λ answer. IsLockAnswer c.self.inside.future.name c.self.inside.future.has_ended c.poll.new.cx.lacks_waker answer)
-    (sym same) c.poll.ensures.answered)
+    answered_so IsLockAnswer c.self.inside.future c.args.self.now c.poll.new.cx.lacks_waker c.poll.result (Ready (Err c.in-Ready-Err.fault))
+    (search rules) (search rules) c.poll.ensures.answered
 
 pub returns-in-Pending-clause-answered : goal.returns-in-Pending-clause-answered
 returns-in-Pending-clause-answered g c =
-    let same : Pending ≡ c.poll.result = search rules in
-    let own : c.self.inside.future ≡ c.args.self.now = search rules in
-    subst (λ future. IsLockAnswer (SharedFuture.name future) (SharedFuture.has_ended future) c.poll.new.cx.lacks_waker (Pending)) own
-    (subst (λ answer. IsLockAnswer c.self.inside.future.name c.self.inside.future.has_ended c.poll.new.cx.lacks_waker answer)
-    (sym same) c.poll.ensures.answered)
+    answered_so IsLockAnswer c.self.inside.future c.args.self.now c.poll.new.cx.lacks_waker c.poll.result Pending
+    (search rules) (search rules) c.poll.ensures.answered
 
 pub returns-in-Some-clause-value : goal.returns-in-Some-clause-value
 returns-in-Some-clause-value g c =
