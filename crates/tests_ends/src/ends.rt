@@ -5,6 +5,7 @@ mod counts;
 mod debug;
 mod drops;
 mod iterates;
+mod many;
 mod reads;
 mod says;
 mod threads;

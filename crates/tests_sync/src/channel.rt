@@ -50,8 +50,8 @@ fn opens<R: Wait + AllocGlobal + Copy, B: RingBuf<Item = u64>>(rt: R, capacity: 
 fn a_channel_has_the_capacity_asked_for(rt: HostRuntime) {
     let array = Channel::<u64, 1000, HostRuntime>::new(rt.alloc(), rt);
     assert!(rt;
-        opens::<HostRuntime, FixedHeapBuf<u64>>(rt, 700)
-            && opens::<HostRuntime, GrowingHeapBuf<u64>>(rt, 300)
+        opens::<HostRuntime, FixedHeapBuf<u64>>(rt, 10_000)
+            && opens::<HostRuntime, GrowingHeapBuf<u64>>(rt, 5_000)
             && holds(&array, 1000)
     );
 }
