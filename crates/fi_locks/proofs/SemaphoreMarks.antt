@@ -75,14 +75,6 @@ module _ {W : Type 0} where
     first = was.first;
   }
 
-  -- nobody changed, and no less is free
-  pub marks_more : (is_fair : Bool) (free free_now promised : ℕ) (untold : Option Slot) (old new : Waiters ℕ W) → new ≡ old →
-      free ≤ free_now → MarksIf is_fair free promised untold old → MarksIf is_fair free_now promised untold new
-  marks_more is_fair free free_now promised untold old new same more was =
-      if_fair is_fair free free_now promised untold untold old new was
-      (λ fair marks. marks_still free free_now promised untold old new marks (ap (λ (s : Waiters ℕ W). s.queue) same)
-      (λ q. ap (λ s. is_told (phase_of s q)) same) (λ q at. ap (λ s. need_of s q) same) (omega (arith, marks.fits, more)))
-
   -- where permits are granted to one that does not wait, what is promised is free still
   promised_still : (permits : Permits) (side : Waiters ℕ W) (n promised : ℕ) (untold : Option Slot) → permits.is_fair ≡ true →
       can_take permits side.queue n ≡ true → Marks permits.free promised untold side → promised ≤ permits.free - n

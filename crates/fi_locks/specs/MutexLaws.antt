@@ -94,11 +94,6 @@ module _ {T : Type 0} where
   some_for_registered true value given is fair = absurd (cc)
   some_for_registered false value given is fair = false≢true fair
 
-  nothing_for_registered : (is_fair : Bool) (value : Option T) → (if is_fair then None else value) ≡ None → is_fair ≡ false →
-      value ≡ None
-  nothing_for_registered true value is off = absurd (true≢false off)
-  nothing_for_registered false value is off = is
-
 module _ {D W : Type 0} where
   queue_if : (waiting now : Waiting D W) → waiting ≡ now → waiting.side.queue ≡ now.side.queue
   queue_if waiting now is = ap (λ (w : Waiting D W). w.side.queue) is

@@ -157,19 +157,6 @@ module _ {T : Type 0} where
       fits = let le = kept.fits in omega (arith, le, same);
     }
 
-  -- more room for pointers, and nothing else
-  pub kept_roomier : (h h' : BlockPlaces T) (xs xs' : List (BlockPtr T)) (c c' k : ℕ) → IsKept h xs c k → h' ≡ h → xs' ≡ xs → c ≤ c'
-      → IsKept h' xs' c' k
-  kept_roomier h h' xs xs' c c' k kept same e more =
-      let there : IsKept h xs c' k = record {
-        within = kept.within;
-        chunks = kept.chunks;
-        vacant = kept.vacant;
-        count = kept.count;
-        fits = let le = kept.fits in omega (arith, le, more);
-      } in
-      subst (λ (l : List (BlockPtr T)). IsKept h' l c' k) (sym e) (subst (λ (p : BlockPlaces T). IsKept p xs c' k) (sym same) there)
-
   -- a chunk is added where no pointer is above the chunks', and the pointers to its places are pushed
   pub kept_grown : (h h' : BlockPlaces T) (xs ys zs vs : List (BlockPtr T)) (c c' k n : ℕ) (x : BlockPtr T) (run : List (Ptr × Unit {0}))
       → IsKept h xs c k → length xs ≡ k → n ≡ chunk_len k → k + (places_in k + n + 1) ≤ c' → ys ≡ xs ++ x ∷ [] → zs ≡ ys ++ vs

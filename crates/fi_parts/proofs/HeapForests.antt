@@ -95,15 +95,6 @@ Strings-alike g h (node x kids rest) same made =
       Strings-alike g h rest (λ k at. same k (omega arith)) made.4,
     )
 
-pub Holds-alike : (g h : ℕ → Option HeapLinks) (t : Tree) → ((k : ℕ) → 1 ≤ count_in k t → h k ≡ g k) → Holds g t → Holds h t
-Holds-alike g h no_tree same made = tt
-Holds-alike g h (tree x kids) same made =
-    let here = same x (count-top x kids) in (
-      ap is_some here ∙ made.0,
-      ap child_of here ∙ made.1,
-      Makes-alike g h (Parent x) kids (λ k at. same k (omega arith)) made.2,
-    )
-
 pub Roots-alike : (g h : ℕ → Option HeapLinks) (t : Tree) → ((k : ℕ) → 1 ≤ count_in k t → h k ≡ g k) → Roots g t → Roots h t
 Roots-alike g h no_tree same made = tt
 Roots-alike g h (tree x kids) same made = (
@@ -275,11 +266,6 @@ module _ {T : Type 0} (cmp : T → T → Ordering) where
   pub Ordered-under : (values : ℕ → Option T) (above : Option ℕ) (f : Forest) → Ordered cmp values above f → Ordered cmp values None f
   Ordered-under values above nil ordered = tt
   Ordered-under values above (node x kids rest) ordered = (tt, ordered.1, Ordered-under values above rest ordered.2)
-
-  at_most-some : (a b : Option T) → at_most cmp a b ≡ true → is_some b ≡ true
-  at_most-some None b e = absurd (false≢true e)
-  at_most-some (Some x) None e = absurd (false≢true e)
-  at_most-some (Some x) (Some y) e = refl
 
   module _ (total : IsTotalOrder cmp) where
     le_chain : (x y z : T) (r s : Ordering) → cmp x y ≡ r → cmp y z ≡ s → is_le r ≡ true → is_le s ≡ true → is_le (cmp x z) ≡ true

@@ -1,5 +1,5 @@
 -- What becomes of a side whose oldest future is named, and of one whose future asks for something else.
-use Rattle.std.proofs.Common.{◌≡◌, ◌≢◌, ℕ, Bool, true, false, List, [], ◌∷◌, ◌++◌, Option, Some, None, map, refl, sym, ap, subst}
+use Rattle.std.proofs.Common.{◌≡◌, ◌≢◌, ℕ, Bool, false, List, [], ◌∷◌, ◌++◌, Option, Some, None, map, refl, sym, ap}
 use Rattle.std.proofs.Common.{append_assoc, ◌∙◌, inl, inr}
 use Rattle.std.proofs.lemmas.Bool.{cases_eq, both_ways}
 use Rattle.std.proofs.lemmas.List.{append-nil, map-append}
@@ -7,14 +7,12 @@ use Rattle.std.specs.Option.{IsSome}
 use Rattle.std.specs.Ordering.{nat_cmp}
 use Rattle.std.specs.FinMap as finmap
 use Rattle.fi_parts.specs.declared.phase.Phase.{Phase}
-use Rattle.fi_parts.specs.declared.phase.Phase.TheVariants.{Complete}
 use Rattle.fi_parts.specs.declared.phase.Future.{Future}
-use Rattle.fi_parts.specs.Waiting.{Waiters, Waiting, phase_in, asks_in, is_registered, may_be_named, with_asks_in, with_asks, exchange}
-use Rattle.fi_parts.specs.Waiting.{noticed, pair, pair_of, clear_queue, named_all, IsOrdered, AreSound, AreSoundBy}
+use Rattle.fi_parts.specs.Waiting.{Waiters, Waiting, phase_in, asks_in, may_be_named, with_asks_in, with_asks, exchange}
+use Rattle.fi_parts.specs.Waiting.{noticed, pair, clear_queue, named_all, IsOrdered, AreSoundBy}
 use Rattle.fi_parts.proofs.FiniteMaps.{get-insert_same, get-insert_other}
-use Rattle.fi_parts.proofs.Waiting.{becomes-with_phase, live_if_registered, first_registered, ordered-next, all_noticed-step}
+use Rattle.fi_parts.proofs.Waiting.{all_noticed-step}
 use Rattle.fi_parts.proofs.Waiting.{all_noticed-none}
-use Rattle.fi_parts.specs.Oldest.{pop_first, pair_of_first, complete_first, pop_oldest, pair_of_oldest, complete_oldest}
 
 module _ {D W : Type 0} where
   -- only what this name asks for has changed
@@ -67,58 +65,9 @@ module _ {D W : Type 0} where
     only = λ q. ap allowed (phase-with_asks side.live n d q) ∙ was.only q;
   }
 
-  pub sound-exchange : (allowed : Option (Phase W) → Bool) (side : Waiters D W) (out : List (ℕ × W)) (n : ℕ) (d : D) →
-      AreSound allowed side out → AreSound allowed (exchange side n d) out
-  sound-exchange allowed side out n d was = sound_by-exchange is_registered allowed side out n d was
-
   pub asks-with_asks_other : (live : finmap.FinMap nat_cmp (Future D W)) (n : ℕ) (d : D) (q : ℕ) → q ≢ n →
       asks_in (finmap.get (with_asks live n d) q) ≡ asks_in (finmap.get live q)
   asks-with_asks_other live n d q ne = ap asks_in (get-with_asks_other live n d q ne)
-
-  sound-pop_first : (allowed : Option (Phase W) → Bool) (phase : Phase W) (side : Waiters D W) (out : List (ℕ × W))
-      (queue : List ℕ) →
-      allowed (Some phase) ≡ true → may_be_named (Some phase) ≡ true →
-      AreSound allowed side out → side.queue ≡ queue → AreSound allowed (pop_first phase side queue)
-      (out ++ pair_of_first side queue)
-  sound-pop_first allowed phase side out [] is may was queue =
-      subst (λ (o : List (ℕ × W)). AreSound allowed side o) (sym (append-nil out)) was
-  sound-pop_first allowed phase side out (n ∷ others) is may was queue =
-      let registered_now = first_registered side out n others was.ordered queue in
-      let becomes = becomes-with_phase side n phase others (live_if_registered side n registered_now) in
-      record {
-        ordered = ordered-next phase (record { side = side; out = out }) n others may was.ordered queue;
-        only = λ q. elim (cases_eq q n) [
-          | inl same ↦ rw same (ap allowed becomes.here ∙ is)
-          | inr ne ↦ ap allowed (becomes.others q ne) ∙ was.only q
-        ];
-      }
-
-  -- the oldest was named, and has this phase
-  pub sound-pop_oldest : (allowed : Option (Phase W) → Bool) (phase : Phase W) (side : Waiters D W) (out : List (ℕ × W)) →
-      allowed (Some phase) ≡ true → may_be_named (Some phase) ≡ true →
-      AreSound allowed side out → AreSound allowed (pop_oldest phase side) (out ++ pair_of_oldest side)
-  sound-pop_oldest allowed phase side out is may was = sound-pop_first allowed phase side out side.queue is may was refl
-
-  sound-complete_first : (allowed : Option (Phase W) → Bool) (left : D) (side : Waiters D W) (out : List (ℕ × W))
-      (queue : List ℕ) →
-      allowed (Some Complete) ≡ true →
-      AreSound allowed side out → side.queue ≡ queue → AreSound allowed (complete_first left side queue)
-      (out ++ pair_of_first side queue)
-  sound-complete_first allowed left side out [] is was queue =
-      subst (λ (o : List (ℕ × W)). AreSound allowed side o) (sym (append-nil out)) was
-  sound-complete_first allowed left side out (n ∷ others) is was queue =
-      let asked = exchange side n left in
-      let sound =
-      sound-pop_first allowed Complete asked out (n ∷ others) is refl (sound-exchange allowed side out n left was)
-      queue in
-      subst (λ (ps : List (ℕ × W)). AreSound allowed (complete_first left side (n ∷ others)) (out ++ ps))
-      (ap (pair_of n) (phase-with_asks side.live n left n)) sound
-
-  -- the oldest was named, and is complete
-  pub sound-complete_oldest : (allowed : Option (Phase W) → Bool) (left : D) (side : Waiters D W) (out : List (ℕ × W)) →
-      allowed (Some Complete) ≡ true →
-      AreSound allowed side out → AreSound allowed (complete_oldest left side) (out ++ pair_of_oldest side)
-  sound-complete_oldest allowed left side out is was = sound-complete_first allowed left side out side.queue is was refl
 
   -- the same queue, with nobody named
   unnamed : (side : Waiters D W) (out : List (ℕ × W)) → IsOrdered side out → IsOrdered side []

@@ -24,10 +24,6 @@ if_true test x y is = ap (λ (b : Bool). if b then x else y) is
 pub if_false : {X : Type 0} (test : Bool) (x y : X) → test ≡ false → (if test then x else y) ≡ y
 if_false test x y is = ap (λ (b : Bool). if b then x else y) is
 
-pub if_same : {X : Type 0} (test : Bool) (x : X) → (if test then x else x) ≡ x
-if_same true x = refl
-if_same false x = refl
-
 module _ {X : Type 0} where
   pub in_append_left : (x : X) (xs ys : List X) → IsIn x xs → IsIn x (xs ++ ys)
   in_append_left x [] ys is = absurd is

@@ -36,10 +36,6 @@ Apart-push (y ∷ ys) x a off =
     let parts = or_parts (eqb x y) (holds x ys) off in
     (holds-push y ys x ∙ or_from _ _ (eqb_turned x y parts.0) a.0, Apart-push ys x a.1 parts.1)
 
-pub Apart-reverse : (xs : List ℕ) → Apart xs → Apart (reverse xs)
-Apart-reverse [] a = tt
-Apart-reverse (x ∷ xs) a = rw (reverse_cons x xs) (Apart-push (reverse xs) x (Apart-reverse xs a.1) (holds-reverse x xs ∙ a.0))
-
 without-push : (x : ℕ) (xs : List ℕ) (y : ℕ) → without x (xs ++ y ∷ []) ≡ without x xs ++ without x (y ∷ [])
 without-push x xs y = filter-append _ xs (y ∷ [])
 

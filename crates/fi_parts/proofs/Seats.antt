@@ -259,13 +259,6 @@ module _ {W : Type 0} where
       ap (λ (a : Timed). set.contains heap.members a.seat.0) (sym f.2) ∙ was.taken n f.0 f.1 ∙
       ap (λ o. is_registered (phase_in o)) (sym f.1) ∙ apart
 
-  -- each seat that a future asks for is there
-  pub seat_live : (live : finmap.FinMap nat_cmp (Future Timed W)) (heap : HeapModel Due) (n : ℕ) (asks : Timed) → AreSeated live heap →
-      asks_in (finmap.get live n) ≡ Some asks → IsSome (value_under heap asks.seat.0)
-  seat_live live heap n asks was is =
-      let f = asks_here live n asks is in
-      ap (λ (a : Timed). is_some (value_under heap a.seat.0)) (sym f.2) ∙ ap is_some (was.seated n f.0 f.1)
-
   pub kept-told : (live : finmap.FinMap nat_cmp (Future Timed W)) (heap heap' : HeapModel Due) (n seat : ℕ) (phase : Phase W)
       (f : Future Timed W) → AreSeated live heap → finmap.get live n ≡ Some f → f.asks.seat.0 ≡ seat → is_registered (Some phase) ≡
       false →

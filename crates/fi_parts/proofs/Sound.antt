@@ -1,5 +1,5 @@
 -- What keeps a store of futures sound: its queue and out in order, and only the phases that its primitive knows.
-use Rattle.std.proofs.Common.{◌≡◌, ℕ, Bool, true, false, List, [], ◌++◌, Option, Some, None, drop, refl, sym, ap, ◌∙◌, inl, inr}
+use Rattle.std.proofs.Common.{◌≡◌, ℕ, Bool, true, false, List, [], ◌++◌, Option, Some, None, drop, refl, ap, ◌∙◌, inl, inr}
 use Rattle.std.proofs.lemmas.Bool.{both_ways, cases_eq, cases_Bool}
 use Rattle.std.specs.Ordering.{nat_cmp}
 use Rattle.std.specs.FinMap as map
@@ -153,11 +153,6 @@ module _ {D W : Type 0} (allowed : Option (Phase W) → Bool) where
   pub sound-empty : allowed None ≡ true → AreSound allowed (no_futures {D = D}) []
   sound-empty is = sound_by-empty is_registered registered_rule allowed is
 
-  pub sound-made : (side : Waiters D W) (out : List (ℕ × W)) (name : ℕ) (asks : D) → allowed (Some Fresh) ≡ true →
-      AreSound allowed side out → phase_of side name ≡ None → AreSound allowed (insert_fresh side name asks) out
-  sound-made side out name asks is was free =
-      sound_by-made is_registered registered_rule allowed side out name asks is was free
-
   pub sound-without_pair : (side : Waiters D W) (out : List (ℕ × W)) (name : ℕ) → AreSound allowed side out →
       AreSound allowed side (without_pair name out)
   sound-without_pair side out name was = sound_by-without_pair is_registered registered_rule allowed side out name was
@@ -169,37 +164,6 @@ module _ {D W : Type 0} (allowed : Option (Phase W) → Bool) where
   pub sound-forgotten : (side : Waiters D W) (out : List (ℕ × W)) (name : ℕ) → allowed None ≡ true →
       AreSound allowed side out → AreSound allowed (without_future side name) (without_pair name out)
   sound-forgotten side out name is was = sound_by-forgotten is_registered registered_rule allowed side out name is was
-
-  -- a poll that set the phase of one that was not registered, to one that is not
-  pub sound-set_phase : (phase : Phase W) (side : Waiters D W) (out : List (ℕ × W)) (name : ℕ) (before : Phase W) →
-      is_registered (Some phase) ≡ false → may_be_named (Some phase) ≡ true → allowed (Some phase) ≡ true →
-      AreSound allowed side out → phase_of side name ≡ Some before → is_registered (Some before) ≡ false →
-      AreSound allowed (record side { live = with_phase side.live name phase }) (without_pair name out)
-  sound-set_phase phase side out name before off may is was stood apart =
-      sound_by-set_phase is_registered registered_rule allowed phase side out name before off may is was stood apart
-
-  -- a poll that ended one that was not registered
-  pub sound-ended : (side : Waiters D W) (out : List (ℕ × W)) (name : ℕ) (before : Phase W) → allowed (Some Ended) ≡ true →
-      AreSound allowed side out → phase_of side name ≡ Some before → is_registered (Some before) ≡ false →
-      AreSound allowed (ended side name) (without_pair name out)
-  sound-ended side out name before is was stood apart =
-      sound_by-ended is_registered registered_rule allowed side out name before is was stood apart
-
-  -- a poll that registered one
-  pub sound-registered : (side : Waiters D W) (out : List (ℕ × W)) (name : ℕ) (waker : W) (before : Phase W) →
-      allowed (Some (Registered waker)) ≡ true → AreSound allowed side out → phase_of side name ≡ Some before →
-      is_registered (Some before) ≡ false →
-      AreSound allowed (registered side name waker) (without_pair name out)
-  sound-registered side out name waker before is was stood apart =
-      sound_by-registered is_registered registered_rule allowed side out name waker before refl is was stood apart
-
-  -- a poll that left one registered
-  pub sound-stays : (side : Waiters D W) (out : List (ℕ × W)) (name : ℕ) (waker before : W) →
-      allowed (Some (Registered waker)) ≡ true → AreSound allowed side out →
-      phase_of side name ≡ Some (Registered before) →
-      AreSound allowed (stays side name waker) (without_pair name out)
-  sound-stays side out name waker before is was stood =
-      sound_by-stays is_registered registered_rule allowed side out name waker before is was stood
 
   -- the whole queue was named
   pub sound-emptied : (phase : Phase W) (side : Waiters D W) (out : List (ℕ × W)) → allowed (Some phase) ≡ true →
@@ -217,13 +181,6 @@ module _ {D W : Type 0} (allowed : Option (Phase W) → Bool) where
       each (Some Told) h = h
       each (Some Complete) h = h
       each (Some Ended) h = h
-
-  -- who is registered now was registered before, where nobody joined the queue
-  pub was_registered : (old new : Waiters D W) (out after : List (ℕ × W)) → AreSound allowed old out →
-      AreSound allowed new after → ((q : ℕ) → holds q new.queue ≡ true → holds q old.queue ≡ true) →
-      (q : ℕ) → is_registered (phase_of new q) ≡ true → is_registered (phase_of old q) ≡ true
-  was_registered old new out after was is queues q now =
-      sym (was.ordered.queued q) ∙ queues q (is.ordered.queued q ∙ now)
 
   -- in an empty queue nobody is registered
   pub none_registered : (side : Waiters D W) (out : List (ℕ × W)) → AreSound allowed side out → side.queue ≡ [] → (q : ℕ) →

@@ -165,11 +165,6 @@ module _ {S O C W : Type 0} (primitive : Spoken S O C) (contents : W → Option 
         let all = so_far.4 [] rest used now [] left refl (refl, refl, refl) stays in
         (all.1, inr (begun opening whole so_far.1 used so_far.0 now all.0 rest all.1 so_far.2 so_far.3 all.2 all.3), all.4)
 
-  -- Memory was refused before anything was answered.
-  pub nothing_answered : (opening : O) (whole : Option (List ℕ)) (shown : Output W)
-      → Tells contents shown shown (RunsShort primitive (λ asked. asked ≡ opening) whole)
-  nothing_answered opening whole shown = ([], inl refl, appends_none (on_its_way contents shown))
-
 pub if_stopped_more : (less more : ℕ → Type 0) (short longer : Type 0) (fault : ScriptFault) → IfStopped less short fault
     → ((line : ℕ) → less line → more line) → (short → longer) → IfStopped more longer fault
 if_stopped_more less more short longer Read told on goes = absurd told

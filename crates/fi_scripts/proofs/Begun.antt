@@ -11,10 +11,6 @@ pub begins_at : (old new : Option (List ℕ)) (n : ℕ) (bytes : List ℕ) → A
     → Begins old new bytes
 begins_at old new n bytes written = (take n bytes, drop n bytes, sym (take-append-drop n bytes), written)
 
--- the whole is one
-pub begins_all : (old new : Option (List ℕ)) (text : List ℕ) → Appends old new text → Begins old new text
-begins_all old new text written = (text, [], sym (append-nil text), written)
-
 -- A beginning of the first text is one of both.
 pub begins_first : (old new : Option (List ℕ)) (text more : List ℕ) → Begins old new text
     → Begins old new (text ++ more)

@@ -1,5 +1,5 @@
 -- Bytes that readers and writers know.
-use Rattle.std.proofs.Common.{◌≡◌, ℕ, ◌+◌, ◌≤◌, List, [], ◌++◌, length, take, drop, refl, sym, ap, ◌∙◌, arith, append_assoc}
+use Rattle.std.proofs.Common.{◌≡◌, ℕ, ◌+◌, ◌≤◌, List, [], ◌++◌, length, take, drop, sym, ap, ◌∙◌, arith, append_assoc}
 use Rattle.std.proofs.lemmas.List.{append-nil, take-append-drop, take-take, drop-take, take_at, drop_at, length-take-le, take-append-le}
 use Rattle.std.specs.Prelude.{Option, Some, None}
 use Rattle.std.specs.Io.KnownBytes.{Appends, Consumes}
@@ -15,10 +15,6 @@ appends_twice (Some olds) (Some betweens) (Some news) xs ys first second =
     second ∙ ap (λ zs. zs ++ ys) first ∙ append_assoc olds xs ys
 appends_twice (Some olds) (Some betweens) None xs ys first second = second
 appends_twice (Some olds) None new xs ys first second = absurd first
-
-pub consumes_none : (old : Option (List ℕ)) → Consumes old old []
-consumes_none None = tt
-consumes_none (Some xs) = refl
 
 pub consumes_twice : (old between new : Option (List ℕ)) (xs ys : List ℕ) → Consumes old between xs
     → Consumes between new ys → Consumes old new (xs ++ ys)

@@ -133,13 +133,6 @@ characters_no_space text i characters = λ k below same. elim (characters k belo
   | inr digit ↦ omega (arith, digit.0, same)
 ]
 
--- No label begins otherwise than with a letter.
-pub no_letter : (text word : List ℕ) (rest : Option (List ℕ))
-    → (0 < length text → ¬ IsInRange 97 122 (get_or text 0 0)) → IsCut 32 text word rest → ¬ IsLabel word
-no_letter text word rest none cut label =
-    let first = first_byte text word rest cut label.0 in
-    none first.0 (subst (λ byte. IsInRange 97 122 byte) (sym first.1) label.2)
-
 -- A label ends at a space or at the end, and before its 17th character.
 pub no_other_label : (text word : List ℕ) (rest : Option (List ℕ)) (i : ℕ) → i < length text → Characters text i
     → (i < 16 → ¬ IsLetterOrDigit (get_or text i 0)) → get_or text i 0 ≢ 32 → IsCut 32 text word rest → ¬ IsLabel word

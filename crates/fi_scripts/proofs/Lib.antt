@@ -1,7 +1,6 @@
 pub mod Numerals
 pub mod Labels
 pub mod Bytes
-pub mod Collected
 pub mod Cuts
 pub mod FairOpenings
 pub mod PoolOpenings

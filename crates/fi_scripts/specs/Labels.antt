@@ -1,5 +1,4 @@
 -- The labels of futures, and the numbers that stand for them.
-use Rattle.fi_scripts.specs.declared.label.Label.{Label}
 use Rattle.std.specs.Prelude.{ℕ, ◌/◌, ◌%◌, ◌^◌, ◌<◌, ◌≤◌, ◌⊎◌, List, All, length, slice_index}
 use Rattle.std.specs.Int.{IsInRange}
 use Rattle.std.specs.Int.Digits.{number_from_digits}
@@ -17,7 +16,3 @@ IsLabel cs = (0 < length cs) × (length cs ≤ 16) × IsLetter (slice_index cs 0
 -- the number whose bytes the characters are, the first the most significant
 abbrev pub code_of : List ℕ → ℕ
 code_of cs = number_from_digits 256 cs
-
--- the number of a label without its last character
-abbrev pub front_of : Label → ℕ
-front_of label = label.code / 256 % 2 ^ 64

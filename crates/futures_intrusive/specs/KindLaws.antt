@@ -7,7 +7,6 @@ use Rattle.futures.specs.declared.task.Poll.TheVariants.{Ready, Pending}
 use Rattle.fi_parts.specs.Buffer.{Bounded}
 use Rattle.fi_parts.specs.Machine.{phase_at}
 use Rattle.fi_parts.specs.declared.errors.Fault.{Fault}
-use Rattle.fi_parts.specs.declared.errors.Fault.TheVariants.{NoSlot}
 use Rattle.fi_parts.specs.declared.phase.Phase.{Phase}
 use Rattle.fi_parts.specs.declared.phase.Phase.TheVariants.{Fresh, Registered, Told, Complete, Ended}
 use Rattle.fi_parts.proofs.PairsWithin.{none_some, some_same}
@@ -15,7 +14,7 @@ use Rattle.fi_channels.specs.Channel as channel
 use Rattle.fi_channels.specs.Channel.{FreshSends, SendsAs, PollsSend, TakesNext, ReceivesAs, StreamsAs, PollsReceive}
 use Rattle.fi_channels.specs.Channel.{PollsNext, CancelsReceiveAs, CancelsReceive}
 use Rattle.fi_channels.specs.ChannelWords.{ChannelMachine, Buffered, next_value, next_of, with_buffer, send_phase}
-use Rattle.fi_channels.specs.ChannelWords.{receive_phase, kind_of, has_room, value_of, can_stream}
+use Rattle.fi_channels.specs.ChannelWords.{receive_phase, has_room, value_of}
 use Rattle.fi_channels.specs.Polled.{Answered}
 use Rattle.fi_channels.specs.declared.channel_errors.SendFault.{SendFault}
 use Rattle.fi_channels.specs.declared.channel_errors.SendFault.TheVariants as send_fault
@@ -25,8 +24,7 @@ use Rattle.fi_channels.specs.Oneshot as oneshot
 use Rattle.fi_channels.specs.Oneshot.{OneshotMachine, Giving, left_by, has_closed}
 use Rattle.fi_channels.specs.StateBroadcast as broadcast
 use Rattle.fi_channels.specs.StateBroadcast.{StateMachine, Newest, newer_at}
-use Rattle.fi_sync.specs.Streams.{Streamed, PollsStream}
-use Rattle.fi_sync.specs.Waiting.{PollsWhere}
+use Rattle.fi_sync.specs.Streams.{Streamed}
 use Rattle.futures_intrusive.specs.Ends.{Closing, StaysClosed}
 use Rattle.futures_intrusive.specs.Kinds.{closing_channel, closing_one_value, closing_state_broadcast}
 
@@ -136,15 +134,6 @@ module _ {T W : Type 0} (old new : ChannelMachine T W) where
       → Answered (PollsReceive old name waker) (λ fault state. ⊥) answer new → StaysClosed closing_channel old new
   receives name waker answer did = answers closing_channel old new (PollsReceive old name waker) (λ fault state. ⊥) answer
       (λ answer. receives_as (receive_phase old name) name waker answer) (λ fault none. absurd none) did
-
-  stream_where : (can : Bool) (name : ℕ) (waker : W) (answer : Poll (Option (Result T Fault)))
-      → PollsWhere can (Streamed (PollsNext old name waker)) (Some (Err NoSlot)) old answer new → StaysClosed closing_channel old new
-  stream_where true name waker answer did = streamed name waker answer did
-  stream_where false name waker answer did = same closing_channel old new did.1
-
-  pub stream_polls : (name : ℕ) (waker : W) (answer : Poll (Option (Result T Fault))) → PollsStream old name waker answer new
-      → StaysClosed closing_channel old new
-  stream_polls name waker answer did = stream_where (can_stream (kind_of old name) (receive_phase old name)) name waker answer did
 
   pub receive_cancels : (name : ℕ) → CancelsReceive old name new → StaysClosed closing_channel old new
   receive_cancels name did = cancels_as (receive_phase old name) name did
