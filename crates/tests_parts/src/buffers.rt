@@ -1,4 +1,4 @@
-//! The buffers: order, capacities, what is reserved, and drops.
+//! The buffers: their order, texts, refusals, and drops.
 ghost use Rattle.std.specs.Prelude.{◌≡◌, ◌<◌, ◌≤◌, ◌∷◌, ◌++◌, [], IfErr, IfOk, IfNone, IfSome};
 ghost use Rattle.fi_parts.specs.Buffer.{Fits};
 
@@ -32,26 +32,9 @@ fn refill<B: RingBuf>(buffer: &mut B, item: B::Item) -> Result<Option<B::Item>, 
     }
 }
 
-/// Makes a buffer, at the second try if the first is refused.
-fn make<B: RingBuf>(alloc: Global, capacity: usize) -> Option<B> {
-    match B::with_capacity(alloc, capacity) {
-        Ok(buffer) => Some(buffer),
-        Err(_refused) => B::with_capacity(alloc, capacity).ok(),
-    }
-}
-
-/// Puts the item behind the others, at the second try if the first is refused. A refused push changes nothing.
-fn is_put<B: RingBuf<Item = u32>>(buffer: &mut B, item: u32) -> bool {
-    if !buffer.can_push() {
-        return false;
-    }
-    let (len, reserved) = (buffer.len(), buffer.reserved());
-    let back = match buffer.push(item) {
-        Ok(()) => return true,
-        Err(failed) => failed.0,
-    };
-    let is_unchanged = back == item && buffer.len() == len && buffer.reserved() == reserved;
-    is_unchanged && reserved == len && buffer.push(back).is_ok()
+/// Puts the item behind the others, if there is room.
+fn is_put<B: RingBuf>(buffer: &mut B, item: B::Item) -> bool {
+    buffer.can_push() && buffer.push(item).is_ok()
 }
 
 /// Takes the oldest item, if there is one.
@@ -102,16 +85,6 @@ fn empties<B: RingBuf<Item = u32>>(buffer: &mut B, rows: &[(u32, usize)]) -> boo
     true
 }
 
-/// Puts these items, and has memory for so many after each.
-fn grows<B: RingBuf<Item = u32>>(buffer: &mut B, rows: &[(u32, usize)]) -> bool {
-    for (item, reserved) in rows {
-        if !is_put(buffer, *item) || buffer.reserved() != *reserved {
-            return false;
-        }
-    }
-    true
-}
-
 /// Runs a buffer of 5 items through more pushes than it has room for.
 fn keeps_order<B: RingBuf<Item = u32>>(buffer: &mut B) -> bool {
     buffer.capacity() == 5
@@ -130,70 +103,11 @@ fn keeps_order<B: RingBuf<Item = u32>>(buffer: &mut B) -> bool {
 
 /// A buffer that is made for so many keeps the order.
 fn made_keeps_order<B: RingBuf<Item = u32>>(alloc: Global, capacity: usize) -> bool {
-    match make::<B>(alloc, capacity) {
-        Some(mut buffer) => keeps_order(&mut buffer),
-        None => false,
+    match B::with_capacity(alloc, capacity) {
+        Ok(mut buffer) => keeps_order(&mut buffer),
+        Err(_refused) => false,
     }
 }
-
-/// Pushes two items for each one that it pops, until 30 are held, so that a buffer wraps round while it grows, and then pops all.
-fn wraps_round<B: RingBuf<Item = u32>>(buffer: &mut B) -> bool {
-    for turn in 0..29 {
-        if !puts(buffer, &[2 * turn, 2 * turn + 1]) || take(buffer) != Some(turn) {
-            return false;
-        }
-    }
-    for item in 29..58 {
-        if take(buffer) != Some(item) {
-            return false;
-        }
-    }
-    buffer.is_empty()
-}
-
-/// A buffer of no items is empty and full.
-fn holds_nothing<B: RingBuf<Item = u32>>(buffer: &mut B) -> bool {
-    buffer.capacity() == 0
-        && buffer.reserved() == 0
-        && buffer.len() == 0
-        && buffer.is_empty()
-        && !buffer.can_push()
-        && take(buffer).is_none()
-}
-
-/// A new buffer holds nothing, and neither does one that is made for so many.
-fn made_holds_nothing<B: RingBuf<Item = u32>>(alloc: Global, capacity: usize) -> bool {
-    match make::<B>(alloc, capacity) {
-        Some(mut buffer) => holds_nothing(&mut buffer) && holds_nothing(&mut B::new(alloc)),
-        None => false,
-    }
-}
-
-/// What is taken out of a buffer has its items in order; an empty one of the same capacity is left, which takes memory anew.
-fn is_taken<B: RingBuf<Item = u32>>(buffer: &mut B) -> bool {
-    let capacity = buffer.capacity();
-    if !puts(buffer, &[1, 2, 3]) {
-        return false;
-    }
-    let mut taken = buffer.take();
-    takes(&mut taken, &[1, 2, 3])
-        && taken.capacity() == capacity
-        && buffer.is_empty()
-        && buffer.capacity() == capacity
-        && buffer.reserved() == 0
-        && puts(buffer, &[4])
-        && takes(buffer, &[4])
-}
-
-/// A buffer that is made for so many is taken out.
-fn made_is_taken<B: RingBuf<Item = u32>>(alloc: Global, capacity: usize) -> bool {
-    match make::<B>(alloc, capacity) {
-        Some(mut buffer) => is_taken(&mut buffer),
-        None => false,
-    }
-}
-
-// The next four tests give the same answers where one allocation fails, whichever it is: see `rt try --test --fail-alloc N`.
 
 #[test]
 fn buffer_order_of_each(rt: HostRuntime) {
@@ -205,76 +119,30 @@ fn buffer_order_of_each(rt: HostRuntime) {
     assert!(rt; is_kept);
 }
 
-// Of the others none asks for memory behind its first item.
-#[test]
-fn wraps_round_as_it_grows(rt: HostRuntime) {
-    let mut buffer = make::<GrowingHeapBuf<u32>>(rt.alloc(), 30).expect(&rt, "memory");
-    assert!(rt; wraps_round(&mut buffer));
-}
-
-#[test]
-fn a_buffer_is_taken_out(rt: HostRuntime) {
-    let alloc = rt.alloc();
-    let is_each = is_taken(&mut ArrayBuf::<u32, 5>::new(alloc))
-        && made_is_taken::<ArrayBuf<u32, 5>>(alloc, 5)
-        && made_is_taken::<FixedHeapBuf<u32>>(alloc, 5)
-        && made_is_taken::<GrowingHeapBuf<u32>>(alloc, 5);
-    assert!(rt; is_each);
-}
-
-#[test]
-fn capacity_zero(rt: HostRuntime) {
-    let alloc = rt.alloc();
-    let holds_none = made_holds_nothing::<ArrayBuf<u32, 0>>(alloc, 9)
-        && made_holds_nothing::<FixedHeapBuf<u32>>(alloc, 0)
-        && made_holds_nothing::<GrowingHeapBuf<u32>>(alloc, 0);
-    assert!(rt; holds_none);
-}
-
-/// A buffer of three items, with memory for three, whose one item is exchanged.
+/// Whether an item is put, and then exchanged for another.
 fn is_refilled<B: RingBuf<Item = u32>>(buffer: &mut B) -> bool {
-    buffer.capacity() == 3 && buffer.reserved() == 3 && refill(buffer, 2).ok() == Some(Some(1))
-}
-
-/// A buffer's last items are taken, and the memory stays.
-fn is_emptied<B: RingBuf<Item = u32>>(buffer: &mut B, last: &[u32], reserved: usize) -> bool {
-    takes(buffer, last) && buffer.reserved() == reserved && buffer.is_empty()
+    is_put(buffer, 1) && buffer.capacity() > 0 && refill(buffer, 2).ok() == Some(Some(1))
 }
 
 #[test]
 fn array_buf(rt: HostRuntime) {
     let mut buffer = ArrayBuf::<u32, 3>::new(rt.alloc());
-    let is_used = buffer.reserved() == 0
-        && is_put(&mut buffer, 1)
-        && is_refilled(&mut buffer)
-        && is_emptied(&mut buffer, &[2], 3);
-    assert!(rt; is_used && shows(rt.alloc(), &buffer, "ArrayBuf { size: 0, cap: 3 }"));
+    let is_used = is_refilled(&mut buffer);
+    assert!(rt; is_used && shows(rt.alloc(), &buffer, "ArrayBuf { size: 1, cap: 3 }"));
 }
 
 #[test]
 fn fixed_heap_buf(rt: HostRuntime) {
     let mut buffer = FixedHeapBuf::with_capacity(rt.alloc(), 3).expect(&rt, "memory");
-    let is_used = buffer.reserved() == 3 && is_put(&mut buffer, 1) && is_refilled(&mut buffer);
+    let is_used = is_refilled(&mut buffer);
     assert!(rt; is_used && shows(rt.alloc(), &buffer, "FixedHeapBuf { size: 1, cap: 3 }"));
-    assert!(rt; is_emptied(&mut buffer, &[2], 3));
-}
-
-/// A buffer of ten items, without memory yet, grows with nine, and then has its oldest exchanged.
-fn grows_to_ten<B: RingBuf<Item = u32>>(buffer: &mut B) -> bool {
-    buffer.capacity() == 10
-        && buffer.reserved() == 0
-        && grows(buffer, &[(1, 4), (2, 4), (3, 4), (4, 4), (5, 8), (6, 8)])
-        && grows(buffer, &[(7, 8), (8, 8), (9, 10)])
-        && buffer.capacity() == 10
-        && refill(buffer, 10).ok() == Some(Some(1))
 }
 
 #[test]
 fn growing_heap_buf(rt: HostRuntime) {
     let mut buffer = GrowingHeapBuf::with_capacity(rt.alloc(), 10).expect(&rt, "memory");
-    let is_grown = grows_to_ten(&mut buffer);
-    assert!(rt; is_grown && shows(rt.alloc(), &buffer, "GrowingHeapBuf { size: 9, limit: 10 }"));
-    assert!(rt; is_emptied(&mut buffer, &[2, 3, 4, 5, 6, 7, 8, 9, 10], 10));
+    let is_used = is_refilled(&mut buffer);
+    assert!(rt; is_used && shows(rt.alloc(), &buffer, "GrowingHeapBuf { size: 1, limit: 10 }"));
 }
 
 /// More than any address space has room for.
@@ -304,28 +172,38 @@ fn puts_owners<B: RingBuf<Item = Rc<i32>>>(buffer: &mut B, item: &Rc<i32>, count
         let Ok(owner) = item.clone() else {
             return false;
         };
-        if !buffer.can_push() || buffer.push(owner).is_err() {
+        if !is_put(buffer, owner) {
             return false;
         }
     }
     true
 }
 
-/// A buffer takes three owners of an item that has one, and gives one of them back. The others go with the buffer.
+/// Takes all items out, which are so many, and drops them.
+fn drops_all<B: RingBuf>(buffer: &mut B, count: usize) -> bool {
+    buffer.take().len() == count
+}
+
+/// A buffer takes three owners of an item that has one, and gives one of them back, and then the others. A fourth goes with the buffer.
 fn owns_three<B: RingBuf<Item = Rc<i32>>>(alloc: Global, item: &Rc<i32>) -> bool {
-    let Some(mut buffer) = make::<B>(alloc, 3) else {
+    let Ok(mut buffer) = B::with_capacity(alloc, 3) else {
         return false;
     };
     puts_owners(&mut buffer, item, 3)
         && Rc::strong_count(item) == 4
         && take(&mut buffer).is_some()
         && Rc::strong_count(item) == 3
+        && drops_all(&mut buffer, 2)
+        && Rc::strong_count(item) == 1
+        && puts_owners(&mut buffer, item, 1)
 }
 
 #[test]
 fn drops_each_item_once(rt: HostRuntime) {
     let item = Rc::new(rt.alloc(), 0).expect(&rt, "memory");
     let are_dropped = owns_three::<ArrayBuf<Rc<i32>, 3>>(rt.alloc(), &item)
+        && Rc::strong_count(&item) == 1
+        && owns_three::<FixedHeapBuf<Rc<i32>>>(rt.alloc(), &item)
         && Rc::strong_count(&item) == 1
         && owns_three::<GrowingHeapBuf<Rc<i32>>>(rt.alloc(), &item)
         && Rc::strong_count(&item) == 1;

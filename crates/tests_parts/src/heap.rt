@@ -73,36 +73,3 @@ fn values_are_written_outside(rt: HostRuntime) {
     assert_eq!(rt; heap.peek_min(), Some(slot));
     assert!(rt; is_not_live(&mut heap, Slot(7)));
 }
-
-/// Takes a slot out and frees it, if it is in the heap.
-fn free_member(heap: &mut PairingHeap<u64>, slot: Slot) {
-    if heap.contains(slot) {
-        heap.members_are_live();
-        heap.remove(slot);
-        heap.free(slot);
-    }
-}
-
-/// Claims so many slots, takes the least value out after every third, and the newest after every fifth.
-fn are_claimed(heap: &mut PairingHeap<u64>, count: u64) -> bool {
-    for i in 0..count {
-        let Ok(slot) = heap.claim(i % 41) else {
-            return false;
-        };
-        heap.insert(slot);
-        if i % 3 == 0 && take_least(heap).is_none() {
-            return false;
-        }
-        if i % 5 == 0 {
-            free_member(heap, slot);
-        }
-    }
-    true
-}
-
-// Clauses let a claim be refused memory; that none is refused without need is tested.
-#[test]
-fn many_slots_are_claimed(rt: HostRuntime) {
-    let mut heap = PairingHeap::new(rt.alloc());
-    assert!(rt; are_claimed(&mut heap, 10_000) && !heap.is_empty());
-}
