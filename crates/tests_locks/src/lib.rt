@@ -8,10 +8,6 @@ mod drops;
 #[cfg(test)]
 mod kept;
 #[cfg(test)]
-mod makings;
-#[cfg(test)]
 mod mutex;
 #[cfg(test)]
 mod semaphore;
-#[cfg(test)]
-mod timer;

@@ -33,18 +33,3 @@ fn semaphore_disarm(rt: HostRuntime) {
     let is_disarmed = (disarmed, left) == (2, 0) && semaphore.held() == 0;
     assert!(rt; is_disarmed && semaphore.release(2) == Ok(()) && semaphore.permits() == 2);
 }
-
-#[test]
-fn a_waiting_future_is_told_and_leaves(rt: HostRuntime) {
-    let mut semaphore: LocalSemaphore<u64> = LocalSemaphore::new(rt.alloc(), true, 1);
-    let mut future = semaphore.acquire(2).expect(&rt, "room");
-    let answer = future.poll(&mut semaphore, 1);
-    let released = semaphore.release(1);
-    let woken = semaphore.next_wake();
-    future.cancel(&mut semaphore);
-    let is_pending = answer.is_pending();
-    if let Poll::Ready(permits) = answer {
-        permits.give_back(&mut semaphore);
-    }
-    assert!(rt; is_pending && (released, woken) == (Ok(()), Some(1)) && semaphore.permits() == 2);
-}
