@@ -1,20 +1,7 @@
 //! Futures that live side by side, polled and spent by the calls that ask for a live future: each call says who lives and can be polled
 //! after it, so nothing here needs a proof.
-use fi_channels::{LocalChannel, LocalManualResetEvent};
+use fi_channels::LocalChannel;
 use futures::task::Poll;
-
-#[test]
-fn two_waits(rt: HostRuntime) {
-    let mut event: LocalManualResetEvent<u64> = LocalManualResetEvent::new(rt.alloc(), false);
-    let mut first = event.wait().expect(&rt, "memory");
-    let mut second = event.wait().expect(&rt, "memory");
-    let waits = first.poll(&mut event, 1).is_pending();
-    event.set();
-    let ends = second.poll(&mut event, 2).is_ready();
-    first.cancel(&mut event);
-    second.cancel(&mut event);
-    assert!(rt; waits && ends);
-}
 
 #[test]
 fn a_send_beside_a_stream(rt: HostRuntime) {

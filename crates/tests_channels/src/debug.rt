@@ -162,10 +162,8 @@ fn fault_of(refused: TrySendError<u8>) -> Result<(), Fault> {
 
 #[test]
 fn refusals_become_faults(rt: HostRuntime) {
-    let refused = no_memory(rt.alloc()).expect(&rt, "refused");
     assert!(rt;
         fault_of(TrySendError::Full(3)) == Err(Fault::Full)
-            && matches!(Fault::from(refused), Fault::NoMemory { .. })
             && Fault::from(SendFault::Closed(3)) == Fault::Closed
             && Fault::from(ChannelSendError(3)) == Fault::Closed
             && Fault::from(TryReceiveError::Empty) == Fault::Empty

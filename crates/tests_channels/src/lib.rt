@@ -17,5 +17,3 @@ mod drops;
 mod kept;
 #[cfg(test)]
 mod local;
-#[cfg(test)]
-mod makings;
