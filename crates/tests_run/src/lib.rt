@@ -13,5 +13,3 @@ mod pools;
 mod runs;
 #[cfg(test)]
 mod scripts;
-#[cfg(test)]
-mod workers;

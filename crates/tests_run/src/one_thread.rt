@@ -1,7 +1,4 @@
 //! What the primitives are for: small programs of one thread, as their users would write them. A task is known by a number, which is
 //! also its waker.
 mod answer;
-mod connection_pool;
 mod pipeline;
-mod rate_limiter;
-mod settings;
