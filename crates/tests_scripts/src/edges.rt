@@ -1,6 +1,6 @@
 //! Scripts at the edges of the grammar, and past them.
 
-use crate::rows::{answer, check_script};
+use crate::rows::check_script;
 use fi_scripts::ScriptFault;
 use std::alloc::Global;
 use std::process::Abort;
@@ -28,53 +28,6 @@ fn script_edges(rt: HostRuntime) {
         "",
         Err(ScriptFault::BadLine(2)),
     );
-}
-
-#[test]
-fn answers_before_a_bad_line(rt: HostRuntime) {
-    let script = "event reset\nset\nis-set\nnothing\nset\nnothing\n";
-    check_script(
-        &rt,
-        rt.alloc(),
-        script,
-        "ok\ntrue\n",
-        Err(ScriptFault::BadLine(4)),
-    );
-}
-
-/// A byte that is not text.
-#[test]
-fn bytes_that_are_not_text(rt: HostRuntime) {
-    let (output, ended) = answer(rt.alloc(), b"event set\nis-set\nset\xff\n");
-    assert_eq!(rt; ended, Err(ScriptFault::BadLine(3)));
-    assert!(rt; output.as_slice() == b"true\n".as_slice());
-}
-
-/// Many labels, whose shelves have several each.
-#[test]
-fn many_labels(rt: HostRuntime) -> Result<(), Fail> {
-    let mut script = String::from_str(rt.alloc(), "event reset\n")?;
-    let mut wanted = String::new(rt.alloc());
-    for label in 0..2000u64 {
-        write!(script, "wait l{label}\npoll l{label} {label}\n")?;
-        wanted.push_str("made\npending\n")?;
-    }
-    for label in 0..2000u64 {
-        write!(
-            script,
-            "hold set\nhold poll l{label} 1\ncancel l{label}\nwait l{label}\nreset\n"
-        )?;
-        wanted.push_str("ok\nready\nok")?;
-        if label == 0 {
-            wanted.push_str(" wakes")?;
-            for other in 1..2000u64 {
-                write!(wanted, " {other}")?;
-            }
-        }
-        wanted.push_str("\nmade\nok\n")?;
-    }
-    check_script(&rt, rt.alloc(), script.as_str(), wanted.as_str(), Ok(()));
-    Ok(())
 }
 
 /// Ten thousand futures that are made by this verb and ask for this, each of which waits once it is polled at this moment, if a
@@ -162,43 +115,6 @@ fn a_long_line(rt: HostRuntime) -> Result<(), Fail> {
         write!(wanted, " {label}")?;
     }
     wanted.push_str("\n")?;
-    check_script(&rt, rt.alloc(), script.as_str(), wanted.as_str(), Ok(()));
-    Ok(())
-}
-
-/// A receive that has seen the newest state waits, whatever the state's number is.
-#[test]
-fn a_hundred_states(rt: HostRuntime) -> Result<(), Fail> {
-    let mut script = String::from_str(rt.alloc(), "state-broadcast\n")?;
-    let mut wanted = String::new(rt.alloc());
-    for state in 1..101u64 {
-        write!(
-            script,
-            "send {state}\nreceive l{state} {state}\nhold poll l{state} 7\ncancel l{state}\n"
-        )?;
-        wanted.push_str("ok\nmade\npending\nok\n")?;
-    }
-    check_script(&rt, rt.alloc(), script.as_str(), wanted.as_str(), Ok(()));
-    Ok(())
-}
-
-/// Expiries of all magnitudes.
-#[test]
-fn deadlines_of_all_magnitudes(rt: HostRuntime) -> Result<(), Fail> {
-    let mut script = String::from_str(rt.alloc(), "timer\n")?;
-    let mut wanted = String::new(rt.alloc());
-    let mut expiry = 1u64;
-    for label in 0..63u64 {
-        expiry = expiry.wrapping_mul(2);
-        write!(
-            script,
-            "deadline l{label} {expiry}\npoll l{label} 1 {label}\nnext\ncheck {expiry}\ncancel l{label}\n"
-        )?;
-        write!(
-            wanted,
-            "made\npending\nsome {expiry}\nok wakes {label}\nok\n"
-        )?;
-    }
     check_script(&rt, rt.alloc(), script.as_str(), wanted.as_str(), Ok(()));
     Ok(())
 }

@@ -82,22 +82,6 @@ fn rows() -> [&'static str; 2] {
     ]
 }
 
-#[test]
-fn short_reads(rt: HostRuntime) -> Result<(), Fail> {
-    for most in 1..9 {
-        let mut reader = FailingReader {
-            rest: SCRIPT,
-            most,
-            reads: 1000,
-        };
-        let mut output: Vec<u8> = Vec::new(rt.alloc());
-        let ended = run_script(rt.alloc(), &mut reader, &mut output);
-        assert_eq!(rt; ended, Ok(()));
-        assert!(rt; output.as_slice() == ANSWERS);
-    }
-    Ok(())
-}
-
 // Each read of a script fails in turn, and nothing is written, until none fails.
 fn check_reads(rt: &impl Abort, alloc: Global, script: &[u8], answers: &[u8]) {
     let mut failed = 0;
@@ -127,25 +111,6 @@ fn each_read_fails(rt: HostRuntime) -> Result<(), Fail> {
         let script = script_of(rt.alloc(), row)?;
         let answers = answers_of(rt.alloc(), row)?;
         check_reads(&rt, rt.alloc(), script.as_bytes(), answers.as_bytes());
-    }
-    Ok(())
-}
-
-#[test]
-fn short_writes(rt: HostRuntime) -> Result<(), Fail> {
-    for most in 1..9 {
-        let mut reader = SCRIPT;
-        let mut writer = FailingWriter {
-            taken: Vec::new(rt.alloc()),
-            most,
-            writes: 1000,
-            failure: Failure::TakesNothing,
-            has_failed: false,
-            was_asked_again: false,
-        };
-        let ended = run_script(rt.alloc(), &mut reader, &mut writer);
-        assert_eq!(rt; ended, Ok(()));
-        assert!(rt; writer.taken.as_slice() == ANSWERS);
     }
     Ok(())
 }

@@ -35,21 +35,6 @@ fn check_run(
 }
 
 #[test]
-fn the_script_is_answered(rt: HostRuntime) -> Result<(), Fail> {
-    let alone = arguments_of(rt.alloc(), &["schedule"])?;
-    check_run(
-        &rt,
-        rt.alloc(),
-        Ok(alone),
-        "event set\nis-set\n",
-        ("true\n", "", 0),
-    );
-    let none = arguments_of(rt.alloc(), &[])?;
-    check_run(&rt, rt.alloc(), Ok(none), "event reset\n", ("", "", 0));
-    Ok(())
-}
-
-#[test]
 fn a_bad_line_is_told(rt: HostRuntime) -> Result<(), Fail> {
     let alone = arguments_of(rt.alloc(), &["schedule"])?;
     let told = "schedule: line 3 is bad\n";
