@@ -69,7 +69,17 @@ where
     is_given
 }
 
-/// Whether a call blocks until another thread, 20 milliseconds later, has brought about what it waits for.
+// Looks until the flag is set, ten million times at most.
+fn look_for(flag: &AtomicBool) {
+    for _ in 0..10_000_000u32 {
+        if flag.load(Ordering::SeqCst) {
+            return;
+        }
+        thread::yield_now();
+    }
+}
+
+/// Whether a call blocks until another thread has brought about what it waits for, 20 milliseconds after the call has begun.
 pub(crate) fn has_blocked<R, W>(rt: &R, waited: W) -> bool
 where
     R: Clock + Threads + Sync,
@@ -79,9 +89,14 @@ where
     let Some(means) = waited.hold() else {
         return false;
     };
+    let has_begun = &AtomicBool::new(false);
     let is_brought = &AtomicBool::new(false);
-    let waits = move || waited.blocks() && is_brought.load(Ordering::SeqCst);
+    let waits = move || {
+        has_begun.store(true, Ordering::SeqCst);
+        waited.blocks() && is_brought.load(Ordering::SeqCst)
+    };
     let brings = move || {
+        look_for(has_begun);
         thread::sleep(rt, Duration::from_millis(20));
         is_brought.store(true, Ordering::SeqCst);
         waited.bring(means);
