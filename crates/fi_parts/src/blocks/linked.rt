@@ -1,12 +1,12 @@
 //! The blocks and the two ends of the list.
 ghost use Rattle.std.specs.Prelude.{◌≡◌, ◌≤◌, ◌+◌, ◌∷◌, ◌++◌, List, Some, None, true, false, [], IsSome, IfSome, IfOk, IfErr, OnErr};
 ghost use Rattle.std.specs.Borrow.{sem};
-ghost use Rattle.fi_parts.specs.Placed.{IsAddress, without_at};
+ghost use Rattle.fi_parts.specs.Placed.{without_at};
 ghost use Rattle.fi_parts.specs.Links.{names, without};
 ghost use Rattle.fi_parts.specs.Order.{last_or};
 ghost use Rattle.fi_parts.specs.declared.blocks.block.BlockPtr.{BlockPtr};
 ghost use Rattle.fi_parts.specs.CountedBlocks.{item_in, slot_in, loose_block};
-ghost use Rattle.fi_parts.specs.LinkedBlocks.{block_at, data_of, links_at, with_links, with_older, with_younger};
+ghost use Rattle.fi_parts.specs.LinkedBlocks.{block_at, data_of, with_older, with_younger};
 ghost use Rattle.fi_parts.specs.LinkedBlocks.{chain_of, IsChained, SameData, SameList, LendsBlockItem};
 
 use crate::blocks::block::{BlockPtr, Links, Neighbour};
@@ -137,16 +137,6 @@ impl<T> LinkedBlocks<T> {
         }
     }
 
-    /// Takes the block's links, and leaves it with these.
-    fn relink(&mut self, at: BlockPtr<T>, links: Links<T>) -> Links<T>
-        requires { IsSome (block_at self.old at) }
-        ensures value { links_at self.old at ≡ Some result }
-        ensures relinked { self.new ≡ with_links self.old at links }
-        ensures address { IsAddress at.ptr }
-    {
-        mem::replace(self.blocks.reach(at), links)
-    }
-
     /// The next younger block of the list; none for the youngest.
     pub fn younger(&mut self, at: BlockPtr<T>) -> Option<BlockPtr<T>>
         requires chained { IsChained self.old }
@@ -172,12 +162,10 @@ impl<T> LinkedBlocks<T> {
         ensures never_fewer { self.old.blocks.visits.count ≤ self.new.blocks.visits.count }
     {
         let older = self.first.copied();
-        let links = Links {
-            younger: Neighbour::none(),
-            older: older.copied(),
-            linked: true,
-        };
-        self.relink(at, links);
+        let links = self.blocks.reach(at);
+        links.younger = Neighbour::none();
+        links.older = older.copied();
+        links.linked = true;
         self.set_younger(&older, Neighbour::to(at));
         self.set_older(&Neighbour::none(), Neighbour::to(at));
     }
@@ -193,14 +181,16 @@ impl<T> LinkedBlocks<T> {
         ensures visits { self.new.blocks.visits.count ≤ self.old.blocks.visits.count + 3 }
         ensures never_fewer { self.old.blocks.visits.count ≤ self.new.blocks.visits.count }
     {
-        let Links {
-            younger,
-            older,
-            linked,
-        } = self.relink(at, Links::loose());
+        let links = self.blocks.reach(at);
+        let linked = links.linked;
         if !linked {
             return false;
         }
+        let Links {
+            younger,
+            older,
+            linked: _,
+        } = mem::replace(links, Links::loose());
         self.set_older(&younger, older.copied());
         self.set_younger(&older, younger);
         true

@@ -163,9 +163,7 @@ impl<T> BlockOwner<T> {
         if let Err(refused) = made {
             return Err(NoRoom::of(item, refused));
         }
-        let Some(at) = self.stack.pop() else {
-            unreachable!()
-        };
+        let at = self.stack.take_last();
         let links = Links::loose();
         self.places.put(at, Block { item, links, slot });
         Ok(at)

@@ -5,7 +5,7 @@ use Rattle.fi_parts.proofs.blocks.linked.LinkedBlocks.link.Goals as goal
 
 pub set_younger-requires : goal.set_younger-requires
 set_younger-requires g c =
-    rw (c.relink.ensures.relinked, c.copied.ensures, c.none.ensures, c.copied-older.ensures)
+    rw (c.copied-links.ensures, c.none-links.ensures, c.copied-older.ensures)
     (Fronts-at c.args.self.now c.args.at c.requires.chained c.requires.live c.requires.apart).younger
 
 fronts : (g : Over) (c : goal.After-set_older g) → Fronts c.args.self.now c.args.at
@@ -15,13 +15,12 @@ after : (g : Over) (c : goal.After-set_older g) → c.set_older.new.self ≡ fro
 after g c =
     rw (
       c.set_older.ensures,
-      c.none-2.ensures,
+      c.none.ensures,
       c.to-2.ensures,
       c.set_younger.ensures,
       c.to.ensures,
-      c.relink.ensures.relinked,
-      c.copied.ensures,
-      c.none.ensures,
+      c.copied-links.ensures,
+      c.none-links.ensures,
       c.copied-older.ensures,
     )
     (λ i. front c.args.self.now c.args.at)
