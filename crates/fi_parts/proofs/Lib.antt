@@ -25,6 +25,7 @@ pub mod Queues
 pub mod Waiting
 pub mod Tied
 pub mod Lines
+pub mod SpareTickets
 pub mod Stores
 pub mod Notified
 pub mod Told
