@@ -119,29 +119,9 @@ fn seats_forty<R: Wait + Copy + AllocGlobal, L: Ledger>(rt: R, blank: Blank) -> 
     Ok(is_one_more_refused && next == 40)
 }
 
-/// Settles a desk of two seats without the second, which made a call.
-fn lacks_a_caller<R: Wait + Copy + AllocGlobal, L: Ledger>(
-    rt: R,
-    blank: Blank,
-) -> Result<Option<Mismatch>, Fail>
-    requires name { blank.name ≡ L.name }
-    requires parts { blank.parts ≡ L.parts }
-    requires count { blank.parts ≡ 2 }
-{
-    let desk: Desk<EventState<u64>, R, L> = Desk::new(rt.alloc(), rt, blank, false, 2)?;
-    let mut seats = Vec::new(rt.alloc());
-    seats.push(desk.seat()?)?;
-    let mut second = desk.seat()?;
-    desk.call(&mut second, EventCall::Set)?;
-    Ok(desk.settle(seats).err())
-}
-
 #[test]
 fn each_seat_has_its_entries(rt: HostRuntime) -> Result<(), Fail> {
-    assert!(rt;
-        seats_forty::<HostRuntime, Brand>(rt, Blank::new(40))?
-            && lacks_a_caller::<HostRuntime, Brand>(rt, Blank::new(2))? == Some(Mismatch::Seats)
-    );
+    assert!(rt; seats_forty::<HostRuntime, Brand>(rt, Blank::new(40))?);
     Ok(())
 }
 

@@ -2,6 +2,3 @@ use Rattle.tests_run.proofs.desks.each_seat_has_its_entries.Given as goal
 
 abbrev pub ghosts-seats_forty : goal.ghosts-seats_forty
 ghosts-seats_forty g a = record { name = a.blank.name; parts = a.blank.parts }
-
-abbrev pub ghosts-lacks_a_caller : goal.ghosts-lacks_a_caller
-ghosts-lacks_a_caller g a = record { name = a.blank.name; parts = a.blank.parts }
