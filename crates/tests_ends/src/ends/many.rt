@@ -32,8 +32,11 @@ fn holds_them<S: TriesToSend<u64>, E: TriesToReceive<u64>>(ends: Made<S, E>) -> 
 fn ends_have_the_places_asked_for(rt: HostRuntime) {
     let growing = channel::<u64, HostRuntime>(rt.alloc(), rt, PLACES as usize);
     assert!(rt; holds_them(growing) == Some(true));
-    let fixed =
-        generic_channel::<u64, FixedHeapBuf<u64>, HostRuntime>(rt.alloc(), rt, PLACES as usize);
+    let fixed = generic_channel::<u64, FixedHeapBuf<u64>, HostRuntime>(
+        rt.alloc(),
+        rt,
+        PLACES as usize,
+    );
     assert!(rt; holds_them(fixed) == Some(true));
 }
 
