@@ -7,3 +7,4 @@ pub mod making;
 pub mod played;
 pub mod rows;
 pub mod scene;
+pub mod scene_rows;

@@ -1,103 +1,22 @@
 //! The calls of the worker pool that take memory: a submit for which the queue has to grow, at first and later, and a wait.
-use fi_parts::Slot;
-use fi_run::{PoolCall, PoolState};
+use fi_run::PoolState;
 use std::test::Fail;
-use tests_driver::refusals::cases::{FIFTH, REFUSED};
 use tests_driver::refusals::hoard::Hoard;
-use tests_driver::refusals::scene::{Plain, Refusal, tries_of};
+use tests_driver::refusals::scene_rows::{SceneRow, plain_tries_of_rows};
 
-const A: Slot = Slot(0);
-
-/// What leads to a call, the call, how it is refused, and what comes after it.
-type Refused<'a> = (
-    &'a [PoolCall<u64>],
-    PoolCall<u64>,
-    Refusal,
-    &'a [PoolCall<u64>],
-);
-
-const AFTER: [PoolCall<u64>; 7] = [
-    PoolCall::Start,
-    PoolCall::Start,
-    PoolCall::Finish,
-    PoolCall::Shutdown,
-    PoolCall::Start,
-    PoolCall::Finish,
-    PoolCall::Poll(A, 3),
-];
-
-const CALLS: [Refused<'static>; 4] = [
-    (
-        &[PoolCall::Wait, PoolCall::Poll(A, 1)],
-        PoolCall::Submit(5),
-        Refusal::Back(5),
-        &AFTER,
-    ),
-    (
-        &[
-            PoolCall::Wait,
-            PoolCall::Poll(A, 1),
-            PoolCall::Submit(1),
-            PoolCall::Submit(2),
-            PoolCall::Submit(3),
-            PoolCall::Submit(4),
-        ],
-        PoolCall::Submit(5),
-        Refusal::Back(5),
-        &AFTER,
-    ),
-    (
-        &[
-            PoolCall::Wait,
-            PoolCall::Wait,
-            PoolCall::Wait,
-            PoolCall::Wait,
-            PoolCall::Poll(A, 1),
-            PoolCall::Submit(5),
-        ],
-        PoolCall::Wait,
-        REFUSED,
-        &[
-            PoolCall::Poll(FIFTH, 2),
-            PoolCall::Start,
-            PoolCall::Shutdown,
-            PoolCall::Finish,
-            PoolCall::Poll(FIFTH, 2),
-        ],
-    ),
-    (
-        &[
-            PoolCall::Wait,
-            PoolCall::Wait,
-            PoolCall::Wait,
-            PoolCall::Wait,
-            PoolCall::Poll(A, 1),
-            PoolCall::Shutdown,
-        ],
-        PoolCall::Wait,
-        REFUSED,
-        &[
-            PoolCall::Poll(FIFTH, 2),
-            PoolCall::Poll(A, 2),
-            PoolCall::Submit(5),
-        ],
-    ),
+const CALLS: [SceneRow; 4] = [
+    "wait a; poll a 1; submit 5 -> no-memory 5; start; start; finish; shutdown; start; finish; poll a 3",
+    "wait a; poll a 1; submit 1; submit 2; submit 3; submit 4; submit 5 -> no-memory 5; \
+        start; start; finish; shutdown; start; finish; poll a 3",
+    "wait a; wait b; wait c; wait d; poll a 1; submit 5; wait e -> no-memory; \
+        poll e 2; start; shutdown; finish; poll e 2",
+    "wait a; wait b; wait c; wait d; poll a 1; shutdown; wait e -> no-memory; poll e 2; poll a 2; submit 5",
 ];
 
 #[test]
 fn calls_of_a_pool(rt: HostRuntime) -> Result<(), Fail> {
     let mut hoard = Hoard::new(rt.alloc())?;
-    for (number, refused) in CALLS.iter().enumerate() {
-        let (before, call, refusal, after) = *refused;
-        let scene: Plain<PoolState<u64>> = Plain {
-            opening: (1, 100),
-            before,
-            call,
-            refusal,
-            after,
-        };
-        let tried = tries_of(rt.alloc(), &mut hoard, &scene);
-        assert!(rt; tried.is_right(1), "call {number}: {tried:?}");
-    }
+    let tried = plain_tries_of_rows::<PoolState<u64>>(rt.alloc(), &mut hoard, (1, 100), &CALLS);
+    assert!(rt; tried.is_right(1), "{tried:?}");
     Ok(())
 }

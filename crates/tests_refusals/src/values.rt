@@ -2,238 +2,94 @@
 use fi_channels::{EventState, OneshotBroadcastState, OneshotState, StateBroadcastState};
 use fi_locks::{MutexState, SemaphoreState, TimerState};
 use fi_parts::buffer::{ArrayBuf, FixedHeapBuf, GrowingHeapBuf, RingBuf};
-use fi_parts::{Slot, StateId};
-use fi_run::{
-    Answer, EventCall, MutexCall, OneshotCall, Primitive, SemaphoreCall, StateCall, TimerCall,
-};
+use fi_run::SemaphoreCall;
 use std::alloc::AllocGlobal;
 use std::random::RandomSource;
 use std::sync::Wait;
 use std::test::Fail;
-use std::time::Duration;
 use tests_driver::Flavour;
 use tests_driver::channel::ChannelOver;
 use tests_driver::event::Event;
 use tests_driver::mutex::MutexOf;
 use tests_driver::one_value::{BROADCAST, ONESHOT};
-use tests_driver::refusals::cases::{
-    Case, FIFTH, GROWS, MAKINGS, REFUSED, receive_of_one_value, receive_of_open_one_value,
-    tries_on_channel,
-};
+use tests_driver::refusals::cases::{Case, GROWS, MAKINGS, tries_on_channel};
 use tests_driver::refusals::hoard::Hoard;
-use tests_driver::refusals::played::tries_on_both;
-use tests_driver::refusals::scene::{Plain, Tried};
+use tests_driver::refusals::scene::Tried;
+use tests_driver::refusals::scene_rows::{SceneRow, tries_of_rows};
 use tests_driver::semaphore::{ByOwners, ByReference, Opening};
 use tests_driver::state::StateBroadcast;
 use tests_driver::timer::Timer;
 
-const A: Slot = Slot(0);
-
-/// What leads to a making, the making, and what comes after it.
-type Making<'a, C> = (&'a [C], C, &'a [C]);
-
-// What tries of these makings come to, on the plain state and on a type.
-fn tries_of_makings<R, P, F>(
-    rt: &R,
-    hoard: &mut Hoard,
-    flavour: &F,
-    opening: P::Opening,
-    makings: &[Making<P::Call>],
-) -> Tried
-where
-    R: Wait + RandomSource + AllocGlobal,
-    P: Primitive<Answer = Answer<u64, u64>> + Drop,
-    P::Opening: Copy,
-    P::Call: Copy,
-    F: Flavour<R, Call = P::Call>,
-{
-    let mut tried = Tried::Refused(1);
-    for making in makings {
-        let (before, call, after) = *making;
-        let scene: Plain<P> = Plain {
-            opening,
-            before,
-            call,
-            refusal: REFUSED,
-            after,
-        };
-        tried = tried.and(tries_on_both(rt, hoard, flavour, &scene));
-    }
-    tried
-}
-
 // Once the event was set and reset, and while it never was.
-const EVENT: [Making<'static, EventCall<u64>>; 2] = [
-    (
-        &[
-            EventCall::Wait,
-            EventCall::Wait,
-            EventCall::Wait,
-            EventCall::Wait,
-            EventCall::Poll(A, 1),
-            EventCall::Set,
-            EventCall::Reset,
-        ],
-        EventCall::Wait,
-        &[
-            EventCall::Poll(FIFTH, 2),
-            EventCall::Poll(A, 3),
-            EventCall::Set,
-        ],
-    ),
-    (
-        &[
-            EventCall::Wait,
-            EventCall::Wait,
-            EventCall::Wait,
-            EventCall::Wait,
-            EventCall::Poll(A, 1),
-        ],
-        EventCall::Wait,
-        &[
-            EventCall::IsSet,
-            EventCall::Poll(FIFTH, 2),
-            EventCall::Set,
-            EventCall::Poll(A, 3),
-            EventCall::Poll(FIFTH, 4),
-        ],
-    ),
+const EVENT: [SceneRow; 2] = [
+    "wait a; wait b; wait c; wait d; poll a 1; set; reset; wait e -> no-memory; poll e 2; poll a 3; set",
+    "wait a; wait b; wait c; wait d; poll a 1; wait e -> no-memory; is-set; poll e 2; set; poll a 3; poll e 4",
 ];
 
 #[test]
 fn makings_of_an_event(rt: HostRuntime) -> Result<(), Fail> {
     let mut hoard = Hoard::new(rt.alloc())?;
     let event = &Event { is_set: false };
-    let tried = tries_of_makings::<_, EventState<u64>, _>(&rt, &mut hoard, event, false, &EVENT);
+    let tried = tries_of_rows::<_, EventState<u64>, _>(&rt, &mut hoard, event, false, &EVENT);
     assert!(rt; tried.is_right(1), "{tried:?}");
     Ok(())
 }
 
-// Of a channel of one value, once the value was sent, and while none was.
-fn receives_of_one_value<R, P, F>(rt: &R, hoard: &mut Hoard, flavour: &F) -> Tried
-where
-    R: Wait + RandomSource + AllocGlobal,
-    P: Primitive<Opening = (), Call = OneshotCall<u64, u64>, Answer = Answer<u64, u64>> + Drop,
-    F: Flavour<R, Call = OneshotCall<u64, u64>>,
-{
-    let sent: Plain<P> = receive_of_one_value();
-    let open: Plain<P> = receive_of_open_one_value();
-    let tried = tries_on_both(rt, hoard, flavour, &sent);
-    tried.and(tries_on_both(rt, hoard, flavour, &open))
-}
+// Of a channel of one value, once the value was sent, and while none was: a refusal leaves the channel open.
+const ONE_VALUE: [SceneRow; 2] = [
+    "receive a; receive b; receive c; receive d; poll a 1; send 5; receive e -> no-memory; poll e 2; poll a 3",
+    "receive a; receive b; receive c; receive d; poll a 1; receive e -> no-memory; poll e 2; send 5; poll a 3; poll e 4",
+];
 
 #[test]
 fn makings_of_channels_of_one_value(rt: HostRuntime) -> Result<(), Fail> {
     let mut hoard = Hoard::new(rt.alloc())?;
-    let oneshot = receives_of_one_value::<_, OneshotState<u64, u64>, _>(&rt, &mut hoard, &ONESHOT);
-    let broadcast = receives_of_one_value::<_, OneshotBroadcastState<u64, u64>, _>(
-        &rt, &mut hoard, &BROADCAST,
+    let oneshot = tries_of_rows::<_, OneshotState<u64, u64>, _>(
+        &rt,
+        &mut hoard,
+        &ONESHOT,
+        (),
+        &ONE_VALUE,
+    );
+    let broadcast = tries_of_rows::<_, OneshotBroadcastState<u64, u64>, _>(
+        &rt,
+        &mut hoard,
+        &BROADCAST,
+        (),
+        &ONE_VALUE,
     );
     let tried = oneshot.and(broadcast);
     assert!(rt; tried.is_right(1), "{tried:?}");
     Ok(())
 }
 
-// Once a state was sent.
-fn receive_of_sent_state<R>(rt: &R, hoard: &mut Hoard) -> Tried
-where
-    R: Wait + Copy + Drop + RandomSource + AllocGlobal,
-{
-    let scene: Plain<StateBroadcastState<u64, u64>> = Plain {
-        opening: (),
-        before: &[
-            StateCall::Receive(StateId::new()),
-            StateCall::Receive(StateId::new()),
-            StateCall::Receive(StateId::new()),
-            StateCall::Receive(StateId::new()),
-            StateCall::Poll(A, 1),
-            StateCall::Send(5),
-        ],
-        call: StateCall::Receive(StateId::from_value(1)),
-        refusal: REFUSED,
-        after: &[
-            StateCall::Poll(FIFTH, 2),
-            StateCall::Poll(A, 3),
-            StateCall::Send(6),
-            StateCall::Poll(FIFTH, 4),
-        ],
-    };
-    tries_on_both(rt, hoard, &StateBroadcast, &scene)
-}
-
-// While no state was sent.
-fn receive_of_open_state<R>(rt: &R, hoard: &mut Hoard) -> Tried
-where
-    R: Wait + Copy + Drop + RandomSource + AllocGlobal,
-{
-    let scene: Plain<StateBroadcastState<u64, u64>> = Plain {
-        opening: (),
-        before: &[
-            StateCall::Receive(StateId::new()),
-            StateCall::Receive(StateId::new()),
-            StateCall::Receive(StateId::new()),
-            StateCall::Receive(StateId::new()),
-            StateCall::Poll(A, 1),
-        ],
-        call: StateCall::Receive(StateId::new()),
-        refusal: REFUSED,
-        after: &[
-            StateCall::Poll(FIFTH, 2),
-            StateCall::Send(6),
-            StateCall::Poll(A, 3),
-            StateCall::Poll(FIFTH, 4),
-        ],
-    };
-    tries_on_both(rt, hoard, &StateBroadcast, &scene)
-}
+// Once a state was sent, and while none was.
+const STATE: [SceneRow; 2] = [
+    "receive a 0; receive b 0; receive c 0; receive d 0; poll a 1; send 5; receive e 1 -> no-memory; \
+        poll e 2; poll a 3; send 6; poll e 4",
+    "receive a 0; receive b 0; receive c 0; receive d 0; poll a 1; receive e 0 -> no-memory; \
+        poll e 2; send 6; poll a 3; poll e 4",
+];
 
 #[test]
 fn makings_of_a_state_broadcast(rt: HostRuntime) -> Result<(), Fail> {
     let mut hoard = Hoard::new(rt.alloc())?;
-    let sent = receive_of_sent_state(&rt, &mut hoard);
-    let tried = sent.and(receive_of_open_state(&rt, &mut hoard));
+    let tried = tries_of_rows::<_, StateBroadcastState<u64, u64>, _>(
+        &rt,
+        &mut hoard,
+        &StateBroadcast,
+        (),
+        &STATE,
+    );
     assert!(rt; tried.is_right(1), "{tried:?}");
     Ok(())
 }
 
 // Once the mutex was unlocked, and while it is locked.
-const LOCKS: [Making<'static, MutexCall<u64, u64>>; 2] = [
-    (
-        &[
-            MutexCall::TryLock,
-            MutexCall::Lock,
-            MutexCall::Lock,
-            MutexCall::Lock,
-            MutexCall::Lock,
-            MutexCall::Poll(A, 1),
-            MutexCall::Unlock(8),
-        ],
-        MutexCall::Lock,
-        &[
-            MutexCall::Poll(FIFTH, 2),
-            MutexCall::Poll(A, 3),
-            MutexCall::Unlock(9),
-        ],
-    ),
-    (
-        &[
-            MutexCall::TryLock,
-            MutexCall::Lock,
-            MutexCall::Lock,
-            MutexCall::Lock,
-            MutexCall::Lock,
-            MutexCall::Poll(A, 1),
-        ],
-        MutexCall::Lock,
-        &[
-            MutexCall::IsLocked,
-            MutexCall::Poll(FIFTH, 2),
-            MutexCall::Unlock(8),
-            MutexCall::Poll(A, 3),
-            MutexCall::Unlock(9),
-            MutexCall::Poll(FIFTH, 4),
-        ],
-    ),
+const LOCKS: [SceneRow; 2] = [
+    "try-lock; lock a; lock b; lock c; lock d; poll a 1; unlock 8; lock e -> no-memory; poll e 2; poll a 3; unlock 9",
+    "try-lock; lock a; lock b; lock c; lock d; poll a 1; lock e -> no-memory; \
+        is-locked; poll e 2; unlock 8; poll a 3; unlock 9; poll e 4",
 ];
 
 #[test]
@@ -244,9 +100,7 @@ fn makings_of_a_mutex(rt: HostRuntime) -> Result<(), Fail> {
         is_fair: true,
     };
     let opening = (7, true);
-    let tried = tries_of_makings::<_, MutexState<u64, u64>, _>(
-        &rt, &mut hoard, fair, opening, &LOCKS,
-    );
+    let tried = tries_of_rows::<_, MutexState<u64, u64>, _>(&rt, &mut hoard, fair, opening, &LOCKS);
     assert!(rt; tried.is_right(1), "{tried:?}");
     Ok(())
 }
@@ -257,40 +111,11 @@ const UNFAIR: Opening = Opening {
 };
 
 // Once permits were released, and while none were.
-const ACQUIRES: [Making<'static, SemaphoreCall<u64>>; 2] = [
-    (
-        &[
-            SemaphoreCall::Acquire(2),
-            SemaphoreCall::Acquire(2),
-            SemaphoreCall::Acquire(2),
-            SemaphoreCall::Acquire(2),
-            SemaphoreCall::Poll(A, 1),
-            SemaphoreCall::Release(3),
-        ],
-        SemaphoreCall::Acquire(2),
-        &[
-            SemaphoreCall::Poll(FIFTH, 2),
-            SemaphoreCall::Poll(A, 3),
-            SemaphoreCall::Permits,
-        ],
-    ),
-    (
-        &[
-            SemaphoreCall::Acquire(2),
-            SemaphoreCall::Acquire(2),
-            SemaphoreCall::Acquire(2),
-            SemaphoreCall::Acquire(2),
-            SemaphoreCall::Poll(A, 1),
-        ],
-        SemaphoreCall::Acquire(2),
-        &[
-            SemaphoreCall::Permits,
-            SemaphoreCall::Poll(FIFTH, 2),
-            SemaphoreCall::Release(2),
-            SemaphoreCall::Poll(A, 3),
-            SemaphoreCall::Permits,
-        ],
-    ),
+const ACQUIRES: [SceneRow; 2] = [
+    "acquire a 2; acquire b 2; acquire c 2; acquire d 2; poll a 1; release 3; acquire e 2 -> no-memory; \
+        poll e 2; poll a 3; permits",
+    "acquire a 2; acquire b 2; acquire c 2; acquire d 2; poll a 1; acquire e 2 -> no-memory; \
+        permits; poll e 2; release 2; poll a 3; permits",
 ];
 
 // Of a semaphore of this kind.
@@ -300,7 +125,7 @@ where
     F: Flavour<R, Call = SemaphoreCall<u64>>,
 {
     let opening = (0, false);
-    tries_of_makings::<R, SemaphoreState<u64>, F>(rt, hoard, flavour, opening, &ACQUIRES)
+    tries_of_rows::<R, SemaphoreState<u64>, F>(rt, hoard, flavour, opening, &ACQUIRES)
 }
 
 #[test]
@@ -313,62 +138,25 @@ fn makings_of_semaphores(rt: HostRuntime) -> Result<(), Fail> {
     Ok(())
 }
 
-// Four waits, of which the first is polled by its task before its moment.
-const FOUR_WAITS: [TimerCall<u64>; 5] = [
-    TimerCall::Deadline(3),
-    TimerCall::Deadline(9),
-    TimerCall::Deadline(3),
-    TimerCall::Deadline(3),
-    TimerCall::Poll(A, 1, 1),
+// The first wait is polled by its task before its moment. Once a check was made after it; once the moment has come and no check was made,
+// and the making makes none; and once it is still to come.
+const TIMER: [SceneRow; 5] = [
+    "deadline a 3; deadline b 9; deadline c 3; deadline d 3; poll a 1 1; check 4; delay e 4 2 -> no-memory; \
+        poll e 5 2; next; check 6; poll a 6 3; poll e 6 2",
+    "deadline a 3; deadline b 9; deadline c 3; deadline d 3; poll a 1 1; check 4; deadline e 6 -> no-memory; \
+        poll e 5 2; next; check 6; poll a 6 3; poll e 6 2",
+    "deadline a 3; deadline b 9; deadline c 3; deadline d 3; poll a 1 1; poll b 4 2; delay e 4 2 -> no-memory; \
+        poll e 5 2; next; check 6; poll a 6 3; poll e 6 2",
+    "deadline a 3; deadline b 9; deadline c 3; deadline d 3; poll a 1 1; poll b 4 2; deadline e 6 -> no-memory; \
+        poll e 5 2; next; check 6; poll a 6 3; poll e 6 2",
+    "deadline a 3; deadline b 9; deadline c 3; deadline d 3; poll a 1 1; deadline e 6 -> no-memory; \
+        poll e 5 2; next; check 6; poll a 6 3; poll e 6 2",
 ];
-
-const AFTER: [TimerCall<u64>; 5] = [
-    TimerCall::Poll(FIFTH, 5, 2),
-    TimerCall::Next,
-    TimerCall::Check(6),
-    TimerCall::Poll(A, 6, 3),
-    TimerCall::Poll(FIFTH, 6, 2),
-];
-
-// The moment of the first wait has come, and no check was made: the making makes none.
-const PAST_ITS_MOMENT: [TimerCall<u64>; 6] = [
-    TimerCall::Deadline(3),
-    TimerCall::Deadline(9),
-    TimerCall::Deadline(3),
-    TimerCall::Deadline(3),
-    TimerCall::Poll(A, 1, 1),
-    TimerCall::Poll(Slot(1), 4, 2),
-];
-
-const CHECKED: [TimerCall<u64>; 6] = [
-    TimerCall::Deadline(3),
-    TimerCall::Deadline(9),
-    TimerCall::Deadline(3),
-    TimerCall::Deadline(3),
-    TimerCall::Poll(A, 1, 1),
-    TimerCall::Check(4),
-];
-
-fn waits_by_timer<R>(rt: &R, hoard: &mut Hoard) -> Tried
-where
-    R: Wait + Copy + Drop + RandomSource + AllocGlobal,
-{
-    let delay = TimerCall::Delay(4, Duration::from_millis(2));
-    let deadline = TimerCall::Deadline(6);
-    let makings: [Making<TimerCall<u64>>; 5] = [
-        (&CHECKED, delay, &AFTER),
-        (&CHECKED, deadline, &AFTER),
-        (&PAST_ITS_MOMENT, delay, &AFTER),
-        (&PAST_ITS_MOMENT, deadline, &AFTER),
-        (&FOUR_WAITS, deadline, &AFTER),
-    ];
-    tries_of_makings::<R, TimerState<u64>, _>(rt, hoard, &Timer, (), &makings)
-}
 
 #[test]
 fn makings_of_a_timer(rt: HostRuntime) -> Result<(), Fail> {
     let mut hoard = Hoard::new(rt.alloc())?;
-    let tried = waits_by_timer(&rt, &mut hoard);
+    let tried = tries_of_rows::<_, TimerState<u64>, _>(&rt, &mut hoard, &Timer, (), &TIMER);
     assert!(rt; tried.is_right(1), "{tried:?}");
     Ok(())
 }

@@ -2,10 +2,13 @@
 //! history of each; `tests_flavours` and `tests_ends_lists` make their calls on what threads share.
 //!
 //! A line of a row may go on with ` -> ` and its answer. A line without it is answered `made`.
+//!
+//! `calls` reads the lines by which other tests list calls.
 #![tactic(auto)]
 
 use std::alloc::{AllocError, Global};
 
+pub mod calls;
 pub mod channel;
 pub mod event;
 pub mod histories;

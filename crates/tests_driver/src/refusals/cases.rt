@@ -1,7 +1,7 @@
 //! Calls on channels that take memory.
 use super::hoard::Hoard;
-use super::played::tries_on_both;
 use super::scene::{Plain, Refusal, Tried};
+use super::scene_rows::{SceneRow, tries_of_rows};
 use crate::Flavour;
 use fi_channels::ChannelState;
 use fi_parts::Slot;
@@ -12,8 +12,6 @@ use std::random::RandomSource;
 use std::sync::Wait;
 
 const A: Slot = Slot(0);
-
-const B: Slot = Slot(1);
 
 /// The first four futures of a primitive lie in one chunk of memory, so the fifth is the first of which the making asks for more.
 pub const FIFTH: Slot = Slot(4);
@@ -41,183 +39,26 @@ where
     }
 }
 
-/// The same while nothing was sent: a refusal leaves the channel open.
-pub fn receive_of_open_one_value<P>() -> Plain<'static, P>
-where
-    P: Primitive<Opening = (), Call = OneshotCall<u64, u64>, Answer = Answer<u64, u64>>,
-{
-    Plain {
-        opening: (),
-        before: &[
-            OneshotCall::Receive,
-            OneshotCall::Receive,
-            OneshotCall::Receive,
-            OneshotCall::Receive,
-            OneshotCall::Poll(A, 1),
-        ],
-        call: OneshotCall::Receive,
-        refusal: REFUSED,
-        after: &[
-            OneshotCall::Poll(FIFTH, 2),
-            OneshotCall::Send(5),
-            OneshotCall::Poll(A, 3),
-            OneshotCall::Poll(FIFTH, 4),
-        ],
-    }
-}
+/// A call on a channel, with what leads to it and what comes after it.
+pub type Case = SceneRow;
 
-/// A call on a channel, what leads to it, and what comes after it.
-#[derive(Clone, Copy)]
-pub struct Case<'a> {
-    pub before: &'a [ChannelCall<u64, u64>],
-    pub call: ChannelCall<u64, u64>,
-    pub refusal: Refusal,
-    pub after: &'a [ChannelCall<u64, u64>],
-}
-
-const RECEIVE: Case<'static> = Case {
-    before: &[
-        ChannelCall::Receive,
-        ChannelCall::Receive,
-        ChannelCall::Receive,
-        ChannelCall::Receive,
-        ChannelCall::PollReceive(A, 1),
-        ChannelCall::TrySend(4),
-    ],
-    call: ChannelCall::Receive,
-    refusal: REFUSED,
-    after: &[
-        ChannelCall::PollReceive(FIFTH, 2),
-        ChannelCall::PollReceive(A, 4),
-        ChannelCall::TryReceive,
-    ],
-};
-
-const STREAM: Case<'static> = Case {
-    before: &[
-        ChannelCall::Stream,
-        ChannelCall::Stream,
-        ChannelCall::Stream,
-        ChannelCall::Stream,
-        ChannelCall::PollNext(A, 1),
-        ChannelCall::TrySend(4),
-    ],
-    call: ChannelCall::Stream,
-    refusal: REFUSED,
-    after: &[
-        ChannelCall::PollNext(FIFTH, 2),
-        ChannelCall::PollNext(A, 4),
-        ChannelCall::TryReceive,
-    ],
-};
-
-// A send that is refused gives its value back.
-const SEND: Case<'static> = Case {
-    before: &[
-        ChannelCall::Receive,
-        ChannelCall::PollReceive(A, 1),
-        ChannelCall::TrySend(4),
-    ],
-    call: ChannelCall::Send(5),
-    refusal: Refusal::Back(5),
-    after: &[
-        ChannelCall::PollSend(A, 2),
-        ChannelCall::PollReceive(A, 4),
-        ChannelCall::TryReceive,
-    ],
-};
-
-// The same while nothing was sent.
-const RECEIVE_OF_OPEN: Case<'static> = Case {
-    before: &[
-        ChannelCall::Receive,
-        ChannelCall::Receive,
-        ChannelCall::Receive,
-        ChannelCall::Receive,
-        ChannelCall::PollReceive(A, 1),
-    ],
-    call: ChannelCall::Receive,
-    refusal: REFUSED,
-    after: &[
-        ChannelCall::PollReceive(FIFTH, 2),
-        ChannelCall::TrySend(4),
-        ChannelCall::PollReceive(A, 3),
-        ChannelCall::TrySend(6),
-        ChannelCall::PollReceive(FIFTH, 4),
-    ],
-};
-
-const STREAM_OF_OPEN: Case<'static> = Case {
-    before: &[
-        ChannelCall::Stream,
-        ChannelCall::Stream,
-        ChannelCall::Stream,
-        ChannelCall::Stream,
-        ChannelCall::PollNext(A, 1),
-    ],
-    call: ChannelCall::Stream,
-    refusal: REFUSED,
-    after: &[
-        ChannelCall::PollNext(FIFTH, 2),
-        ChannelCall::TrySend(4),
-        ChannelCall::PollNext(A, 3),
-        ChannelCall::TrySend(6),
-        ChannelCall::PollNext(FIFTH, 4),
-    ],
-};
-
-const SEND_OF_OPEN: Case<'static> = Case {
-    before: &[ChannelCall::Receive, ChannelCall::PollReceive(A, 1)],
-    call: ChannelCall::Send(5),
-    refusal: Refusal::Back(5),
-    after: &[
-        ChannelCall::PollSend(A, 2),
-        ChannelCall::PollReceive(A, 3),
-        ChannelCall::TryReceive,
-    ],
-};
-
-pub const MAKINGS: [Case<'static>; 6] = [
-    RECEIVE,
-    STREAM,
-    SEND,
-    RECEIVE_OF_OPEN,
-    STREAM_OF_OPEN,
-    SEND_OF_OPEN,
+/// Each making once a value was sent, and while none was. A send that is refused gives its value back.
+pub const MAKINGS: [Case; 6] = [
+    "receive a; receive b; receive c; receive d; poll a 1; try-send 4; receive e -> no-memory; poll e 2; poll a 4; try-receive",
+    "stream a; stream b; stream c; stream d; poll a 1; try-send 4; stream e -> no-memory; poll e 2; poll a 4; try-receive",
+    "receive a; poll a 1; try-send 4; send s 5 -> no-memory 5; poll s 2; poll a 4; try-receive",
+    "receive a; receive b; receive c; receive d; poll a 1; receive e -> no-memory; \
+        poll e 2; try-send 4; poll a 3; try-send 6; poll e 4",
+    "stream a; stream b; stream c; stream d; poll a 1; stream e -> no-memory; \
+        poll e 2; try-send 4; poll a 3; try-send 6; poll e 4",
+    "receive a; poll a 1; send s 5 -> no-memory 5; poll s 2; poll a 3; try-receive",
 ];
 
-// A send for which the buffer has to grow.
-pub const GROWS: [Case<'static>; 3] = [
-    Case {
-        before: &[ChannelCall::Receive, ChannelCall::PollReceive(A, 1)],
-        call: ChannelCall::TrySend(5),
-        refusal: Refusal::Back(5),
-        after: &[ChannelCall::PollReceive(A, 2), ChannelCall::TryReceive],
-    },
-    Case {
-        before: &TWO_SENDS,
-        call: ChannelCall::PollSend(A, 2),
-        refusal: REFUSED,
-        after: &[
-            ChannelCall::PollSend(B, 3),
-            ChannelCall::CancelSend(B),
-            ChannelCall::PollReceive(A, 4),
-        ],
-    },
-    // The value of a send that was refused comes back at its cancel.
-    Case {
-        before: &TWO_SENDS,
-        call: ChannelCall::PollSend(A, 2),
-        refusal: REFUSED,
-        after: &[ChannelCall::CancelSend(A), ChannelCall::TryReceive],
-    },
-];
-
-const TWO_SENDS: [ChannelCall<u64, u64>; 4] = [
-    ChannelCall::Receive,
-    ChannelCall::PollReceive(A, 1),
-    ChannelCall::Send(5),
-    ChannelCall::Send(6),
+/// A send for which the buffer has to grow. The value of one that was refused comes back at its cancel.
+pub const GROWS: [Case; 3] = [
+    "receive a; poll a 1; try-send 5 -> no-memory 5; poll a 2; try-receive",
+    "receive a; poll a 1; send s 5; send t 6; poll s 2 -> no-memory; poll t 3; cancel t; poll a 4",
+    "receive a; poll a 1; send s 5; send t 6; poll s 2 -> no-memory; cancel s; try-receive",
 ];
 
 /// What tries of the calls of these cases come to, on a plain channel over this buffer and on a type, both of this capacity.
@@ -233,16 +74,5 @@ where
     B: RingBuf<Item = u64> + Drop,
     F: Flavour<R, Call = ChannelCall<u64, u64>>,
 {
-    let mut tried = Tried::Refused(1);
-    for case in cases {
-        let scene: Plain<ChannelState<u64, B, u64>> = Plain {
-            opening: capacity,
-            before: case.before,
-            call: case.call,
-            refusal: case.refusal,
-            after: case.after,
-        };
-        tried = tried.and(tries_on_both(rt, hoard, flavour, &scene));
-    }
-    tried
+    tries_of_rows::<R, ChannelState<u64, B, u64>, F>(rt, hoard, flavour, capacity, cases)
 }
