@@ -2,7 +2,8 @@
 //! look which of their tasks are woken: those whose wakers the plain state hands out.
 
 use fi_run::{Answer, Primitive};
-use std::alloc::AllocGlobal;
+use fi_scripts::Scripted;
+use std::alloc::{AllocGlobal, Global};
 use std::process::Abort;
 use std::random::RandomSource;
 use std::sync::{Barrier, Wait};
@@ -11,6 +12,7 @@ use std::thread::Threads;
 use tests_driver::drawn::{Draws, is_left_out};
 use tests_driver::tasks::Tasks;
 use tests_driver::{Opened, Seen, take_wakers};
+use tests_rows::calls::Reader;
 
 mod channel;
 mod event;
@@ -53,23 +55,48 @@ struct List<'a, C> {
     turns: &'a [Turn<C>],
 }
 
-/// What the calls of the first and of the second thread are drawn from.
+/// What each thread makes to begin with, and what the calls of the first and of the second are drawn from: lines apart by `; `.
 #[derive(Clone, Copy)]
-struct Choices<'a, C> {
-    makings: &'a [C],
-    first: &'a [C],
-    second: &'a [C],
+struct Lines {
+    makings: &'static str,
+    first: &'static str,
+    second: &'static str,
 }
 
-impl<C: Copy> Choices<'_, C> {
+/// The calls of the lines.
+#[derive(Drop)]
+struct Choices<C> {
+    makings: Vec<C>,
+    first: Vec<C>,
+    second: Vec<C>,
+}
+
+// The calls of these lines. None if one is bad, or memory is missing.
+fn choices_of<P: Scripted>(
+    alloc: Global,
+    opening: P::Opening,
+    lines: Lines,
+) -> Option<Choices<P::Call>>
+where
+    P::Call: Copy,
+{
+    let mut reader = Reader::<P>::open(alloc, opening)?;
+    Some(Choices {
+        makings: reader.calls(lines.makings)?,
+        first: reader.choices(lines.first)?,
+        second: reader.choices(lines.second)?,
+    })
+}
+
+impl<C: Copy> Choices<C> {
     // The call at this place of a list: the first thread begins.
     fn at(&self, place: usize, draws: &mut Draws) -> Option<C> {
         let calls = if place % 2 == 0 {
-            self.first
+            &self.first
         } else {
-            self.second
+            &self.second
         };
-        draws.choose(calls)
+        draws.choose(calls.as_slice())
     }
 }
 
@@ -77,7 +104,7 @@ impl<C: Copy> Choices<'_, C> {
 fn drawn_turns<R, P>(
     rt: &R,
     state: &mut P,
-    choices: Choices<P::Call>,
+    choices: &Choices<P::Call>,
     draws: &mut Draws,
 ) -> Option<Vec<Turn<P::Call>>>
 where
@@ -85,7 +112,7 @@ where
     P: Primitive<Answer = Answer<u64, u64>>,
     P::Call: Holds,
 {
-    for making in choices.makings {
+    for making in &choices.makings {
         state.apply(*making);
     }
     let mut turns = Vec::new(rt.alloc());
@@ -172,7 +199,7 @@ where
 fn next_turns<R, P>(
     rt: &R,
     opening: P::Opening,
-    choices: Choices<P::Call>,
+    choices: &Choices<P::Call>,
     draws: &mut Draws,
 ) -> Option<Vec<Turn<P::Call>>>
 where
@@ -222,21 +249,24 @@ trait Opens<R>: TakesTurns<R> + Drop {
 }
 
 // Two hundred lists, each on what is opened anew. Answers how many went right, one after another.
-fn tried_turns<R, P, T>(rt: &R, opening: P::Opening, choices: Choices<P::Call>) -> u64
+fn tried_turns<R, P, T>(rt: &R, opening: P::Opening, lines: Lines) -> u64
 where
     R: Wait + Threads + AllocGlobal + Send + Sync,
-    P: Primitive<Answer = Answer<u64, u64>> + Drop,
+    P: Scripted,
     P::Opening: Copy,
     P::Call: Holds + Send + Sync,
     T: Opens<R, Call = P::Call> + Send + Sync,
 {
+    let Some(choices) = choices_of::<P>(rt.alloc(), opening, lines) else {
+        return 0;
+    };
     let mut draws = Draws(1);
     for number in 0..LISTS {
-        let Some(turns) = next_turns::<R, P>(rt, opening, choices, &mut draws) else {
+        let Some(turns) = next_turns::<R, P>(rt, opening, &choices, &mut draws) else {
             return number;
         };
         let list = List {
-            makings: choices.makings,
+            makings: choices.makings.as_slice(),
             turns: turns.as_slice(),
         };
         let Some(shared) = T::open(rt) else {

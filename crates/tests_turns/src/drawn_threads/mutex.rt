@@ -1,42 +1,27 @@
 //! The mutex, fair and unfair.
 
+use super::{Lines, play_lines};
 use fi_locks::MutexState;
-use fi_parts::Slot;
-use fi_run::MutexCall;
 use std::alloc::AllocGlobal;
 use std::random::RandomSource;
 use std::sync::Wait;
-use tests_driver::drawn::{Calls, Lists, play_lists};
+use tests_driver::drawn::Lists;
 use tests_driver::mutex::MutexOf;
 
-const MAKINGS: [MutexCall<u64, u64>; 4] = [MutexCall::Lock; 4];
-
-const CHOICES: [MutexCall<u64, u64>; 10] = [
-    MutexCall::Poll(Slot(0), 1),
-    MutexCall::Poll(Slot(1), 2),
-    MutexCall::Poll(Slot(2), 3),
-    MutexCall::Poll(Slot(3), 4),
-    MutexCall::Cancel(Slot(0)),
-    MutexCall::Cancel(Slot(1)),
-    MutexCall::Cancel(Slot(2)),
-    MutexCall::Cancel(Slot(3)),
-    MutexCall::TryLock,
-    MutexCall::Unlock(8),
-];
+const LINES: Lines = Lines {
+    makings: "lock a; lock b; lock c; lock d",
+    choices: "poll a 1; poll b 2; poll c 3; poll d 4; cancel a; cancel b; cancel c; cancel d; try-lock; unlock 8",
+};
 
 // Two thousand lists of three calls, and as many of six.
 fn try_calls<R>(rt: &R, is_fair: bool) -> Lists
 where
     R: Wait + Copy + RandomSource + AllocGlobal,
 {
-    let calls = Calls {
-        makings: &MAKINGS,
-        choices: &CHOICES,
-    };
     let mutex = &MutexOf { value: 7, is_fair };
     let opening = (7, is_fair);
-    let short = play_lists::<R, MutexState<u64, u64>, _>(rt, mutex, opening, calls, 2_000, 3);
-    let long = play_lists::<R, MutexState<u64, u64>, _>(rt, mutex, opening, calls, 2_000, 6);
+    let short = play_lines::<R, MutexState<u64, u64>, _>(rt, mutex, opening, LINES, 3);
+    let long = play_lines::<R, MutexState<u64, u64>, _>(rt, mutex, opening, LINES, 6);
     short.and(long)
 }
 

@@ -1,37 +1,21 @@
 //! The semaphore of one permit, by reference and shared by its owners, fair and unfair.
 
+use super::{Lines, play_lines};
 use fi_locks::SemaphoreState;
-use fi_parts::Slot;
 use fi_run::SemaphoreCall;
 use std::alloc::AllocGlobal;
 use std::random::RandomSource;
 use std::sync::Wait;
 use tests_driver::Flavour;
-use tests_driver::drawn::{Calls, Lists, play_lists};
+use tests_driver::drawn::Lists;
 use tests_driver::semaphore::{ByOwners, ByReference, Opening};
 
-const MAKINGS: [SemaphoreCall<u64>; 4] = [
-    SemaphoreCall::Acquire(1),
-    SemaphoreCall::Acquire(2),
-    SemaphoreCall::Acquire(1),
-    SemaphoreCall::Acquire(1),
-];
+const MAKINGS: &str = "acquire a 1; acquire b 2; acquire c 1; acquire d 1";
 
-const OF_TWO: [SemaphoreCall<u64>; 4] = [SemaphoreCall::Acquire(2); 4];
+const OF_TWO: &str = "acquire a 2; acquire b 2; acquire c 2; acquire d 2";
 
-const CHOICES: [SemaphoreCall<u64>; 11] = [
-    SemaphoreCall::Poll(Slot(0), 1),
-    SemaphoreCall::Poll(Slot(1), 2),
-    SemaphoreCall::Poll(Slot(2), 3),
-    SemaphoreCall::Poll(Slot(3), 4),
-    SemaphoreCall::Cancel(Slot(0)),
-    SemaphoreCall::Cancel(Slot(1)),
-    SemaphoreCall::Cancel(Slot(2)),
-    SemaphoreCall::Cancel(Slot(3)),
-    SemaphoreCall::TryAcquire(1),
-    SemaphoreCall::Release(1),
-    SemaphoreCall::GiveBack(1),
-];
+const CHOICES: &str =
+    "poll a 1; poll b 2; poll c 3; poll d 4; cancel a; cancel b; cancel c; cancel d; try-acquire 1; release 1; give-back 1";
 
 const FAIR: Opening = Opening {
     is_fair: true,
@@ -44,45 +28,45 @@ const UNFAIR: Opening = Opening {
 };
 
 // Two thousand lists of three calls behind these makings, and as many of eight.
-fn try_calls<R, F>(rt: &R, flavour: &F, is_fair: bool, makings: &[SemaphoreCall<u64>]) -> Lists
+fn try_calls<R, F>(rt: &R, flavour: &F, is_fair: bool, makings: &'static str) -> Lists
 where
     R: Wait + RandomSource + AllocGlobal,
     F: Flavour<R, Call = SemaphoreCall<u64>>,
 {
-    let calls = Calls {
+    let lines = Lines {
         makings,
-        choices: &CHOICES,
+        choices: CHOICES,
     };
     let opening = (1, is_fair);
-    let short = play_lists::<R, SemaphoreState<u64>, F>(rt, flavour, opening, calls, 2_000, 3);
-    let long = play_lists::<R, SemaphoreState<u64>, F>(rt, flavour, opening, calls, 2_000, 8);
+    let short = play_lines::<R, SemaphoreState<u64>, F>(rt, flavour, opening, lines, 3);
+    let long = play_lines::<R, SemaphoreState<u64>, F>(rt, flavour, opening, lines, 8);
     short.and(long)
 }
 
 #[test]
 fn drawn_calls_on_a_fair_semaphore(rt: HostRuntime) {
-    let tried = try_calls(&rt, &ByReference(FAIR), true, &MAKINGS);
+    let tried = try_calls(&rt, &ByReference(FAIR), true, MAKINGS);
     assert!(rt; tried.are_right(), "{tried:?}");
 }
 
 #[test]
 fn drawn_calls_on_an_unfair_semaphore(rt: HostRuntime) {
-    let tried = try_calls(&rt, &ByReference(UNFAIR), false, &MAKINGS);
+    let tried = try_calls(&rt, &ByReference(UNFAIR), false, MAKINGS);
     assert!(rt; tried.are_right(), "{tried:?}");
-    let tried = try_calls(&rt, &ByReference(UNFAIR), false, &OF_TWO);
+    let tried = try_calls(&rt, &ByReference(UNFAIR), false, OF_TWO);
     assert!(rt; tried.are_right(), "{tried:?}");
 }
 
 #[test]
 fn drawn_calls_on_a_fair_shared_semaphore(rt: HostRuntime) {
-    let tried = try_calls(&rt, &ByOwners(FAIR), true, &MAKINGS);
+    let tried = try_calls(&rt, &ByOwners(FAIR), true, MAKINGS);
     assert!(rt; tried.are_right(), "{tried:?}");
 }
 
 #[test]
 fn drawn_calls_on_an_unfair_shared_semaphore(rt: HostRuntime) {
-    let tried = try_calls(&rt, &ByOwners(UNFAIR), false, &MAKINGS);
+    let tried = try_calls(&rt, &ByOwners(UNFAIR), false, MAKINGS);
     assert!(rt; tried.are_right(), "{tried:?}");
-    let tried = try_calls(&rt, &ByOwners(UNFAIR), false, &OF_TWO);
+    let tried = try_calls(&rt, &ByOwners(UNFAIR), false, OF_TWO);
     assert!(rt; tried.are_right(), "{tried:?}");
 }

@@ -1,8 +1,7 @@
 //! The channel of many values, of one place: each thread has a send and a receive.
 
-use super::{Choices, Holds, LISTS, List, Opens, TakesTurns, plays, tried_turns};
+use super::{Holds, LISTS, Lines, List, Opens, TakesTurns, plays, tried_turns};
 use fi_channels::ChannelState;
-use fi_parts::Slot;
 use fi_parts::buffer::{ArrayBuf, RingBuf};
 use fi_run::ChannelCall;
 use fi_sync::GenericChannel;
@@ -12,31 +11,10 @@ use std::random::RandomSource;
 use std::sync::{Barrier, Wait};
 use tests_driver::channel::OpenedChannel;
 
-const CHOICES: Choices<'static, ChannelCall<u64, u64>> = Choices {
-    makings: &[
-        ChannelCall::Send(1),
-        ChannelCall::Send(2),
-        ChannelCall::Receive,
-        ChannelCall::Receive,
-    ],
-    first: &[
-        ChannelCall::PollSend(Slot(0), 1),
-        ChannelCall::PollReceive(Slot(0), 2),
-        ChannelCall::CancelSend(Slot(0)),
-        ChannelCall::CancelReceive(Slot(0)),
-        ChannelCall::TrySend(5),
-        ChannelCall::TryReceive,
-        ChannelCall::Close,
-    ],
-    second: &[
-        ChannelCall::PollSend(Slot(1), 3),
-        ChannelCall::PollReceive(Slot(1), 4),
-        ChannelCall::CancelSend(Slot(1)),
-        ChannelCall::CancelReceive(Slot(1)),
-        ChannelCall::TrySend(6),
-        ChannelCall::TryReceive,
-        ChannelCall::Close,
-    ],
+const LINES: Lines = Lines {
+    makings: "send a 1; send b 2; receive c; receive d",
+    first: "poll a 1; poll c 2; cancel a; cancel c; try-send 5; try-receive; close",
+    second: "poll b 3; poll d 4; cancel b; cancel d; try-send 6; try-receive; close",
 };
 
 impl Holds for ChannelCall<u64, u64> {}
@@ -68,7 +46,7 @@ type OfOnePlace<R> = GenericChannel<u64, ArrayBuf<u64, 1>, R>;
 #[test]
 fn two_threads_take_turns_at_a_channel(rt: HostRuntime) {
     let tried = tried_turns::<_, ChannelState<u64, ArrayBuf<u64, 1>, u64>, OfOnePlace<_>>(
-        &rt, 1, CHOICES,
+        &rt, 1, LINES,
     );
     assert!(rt; tried == LISTS, "list {tried}");
 }

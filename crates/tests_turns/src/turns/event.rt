@@ -1,8 +1,7 @@
 //! The event.
 
-use super::{Choices, Holds, LISTS, List, Opens, TakesTurns, plays, tried_turns};
+use super::{Holds, LISTS, Lines, List, Opens, TakesTurns, plays, tried_turns};
 use fi_channels::EventState;
-use fi_parts::Slot;
 use fi_run::EventCall;
 use fi_sync::ManualResetEvent;
 use std::alloc::AllocGlobal;
@@ -11,23 +10,11 @@ use std::random::RandomSource;
 use std::sync::{Barrier, Wait};
 use tests_driver::event::OpenedEvent;
 
-const FIRST: [EventCall<u64>; 6] = [
-    EventCall::Poll(Slot(0), 1),
-    EventCall::Poll(Slot(1), 2),
-    EventCall::Cancel(Slot(0)),
-    EventCall::Cancel(Slot(1)),
-    EventCall::Set,
-    EventCall::Reset,
-];
-
-const SECOND: [EventCall<u64>; 6] = [
-    EventCall::Poll(Slot(2), 3),
-    EventCall::Poll(Slot(3), 4),
-    EventCall::Cancel(Slot(2)),
-    EventCall::Cancel(Slot(3)),
-    EventCall::Set,
-    EventCall::Reset,
-];
+const LINES: Lines = Lines {
+    makings: "wait a; wait b; wait c; wait d",
+    first: "poll a 1; poll b 2; cancel a; cancel b; set; reset",
+    second: "poll c 3; poll d 4; cancel c; cancel d; set; reset",
+};
 
 impl Holds for EventCall<u64> {}
 
@@ -53,11 +40,6 @@ impl<R: Wait + Abort + Copy + RandomSource + AllocGlobal> Opens<R> for ManualRes
 
 #[test]
 fn two_threads_take_turns_at_an_event(rt: HostRuntime) {
-    let choices = Choices {
-        makings: &[EventCall::Wait; 4],
-        first: &FIRST,
-        second: &SECOND,
-    };
-    let tried = tried_turns::<_, EventState<u64>, ManualResetEvent<_>>(&rt, false, choices);
+    let tried = tried_turns::<_, EventState<u64>, ManualResetEvent<_>>(&rt, false, LINES);
     assert!(rt; tried == LISTS, "list {tried}");
 }

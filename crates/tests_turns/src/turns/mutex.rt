@@ -1,9 +1,8 @@
 //! The mutex, fair and unfair: each thread unlocks what it locked.
 ghost use Rattle.std.specs.Prelude.{◌≡◌};
 
-use super::{Choices, Holds, LISTS, List, TakesTurns, next_turns, play_at, plays};
+use super::{Holds, LISTS, Lines, List, TakesTurns, choices_of, next_turns, play_at, plays};
 use fi_locks::MutexState;
-use fi_parts::Slot;
 use fi_run::{Answer, MutexCall};
 use fi_sync::Mutex;
 use std::alloc::AllocGlobal;
@@ -16,23 +15,11 @@ use std::thread::Threads;
 use tests_driver::drawn::Draws;
 use tests_driver::mutex::OpenedMutex;
 
-const FIRST: [MutexCall<u64, u64>; 6] = [
-    MutexCall::Poll(Slot(0), 1),
-    MutexCall::Poll(Slot(1), 2),
-    MutexCall::Cancel(Slot(0)),
-    MutexCall::Cancel(Slot(1)),
-    MutexCall::TryLock,
-    MutexCall::Unlock(8),
-];
-
-const SECOND: [MutexCall<u64, u64>; 6] = [
-    MutexCall::Poll(Slot(2), 3),
-    MutexCall::Poll(Slot(3), 4),
-    MutexCall::Cancel(Slot(2)),
-    MutexCall::Cancel(Slot(3)),
-    MutexCall::TryLock,
-    MutexCall::Unlock(9),
-];
+const LINES: Lines = Lines {
+    makings: "lock a; lock b; lock c; lock d",
+    first: "poll a 1; poll b 2; cancel a; cancel b; try-lock; unlock 8",
+    second: "poll c 3; poll d 4; cancel c; cancel d; try-lock; unlock 9",
+};
 
 impl Holds for MutexCall<u64, u64> {
     fn held_after(self, answer: Answer<u64, u64>, held: u64) -> Option<u64> {
@@ -76,20 +63,18 @@ fn try_turns<R>(rt: &R, is_fair: bool) -> u64
 where
     R: Wait + Threads + Abort + Copy + RandomSource + AllocGlobal + Send + Sync,
 {
-    let choices = Choices {
-        makings: &[MutexCall::Lock; 4],
-        first: &FIRST,
-        second: &SECOND,
+    let opening = (7, is_fair);
+    let Some(choices) = choices_of::<MutexState<u64, u64>>(rt.alloc(), opening, LINES) else {
+        return 0;
     };
     let mut draws = Draws(1);
     for number in 0..LISTS {
-        let opening = (7, is_fair);
-        let Some(turns) = next_turns::<R, MutexState<u64, u64>>(rt, opening, choices, &mut draws)
+        let Some(turns) = next_turns::<R, MutexState<u64, u64>>(rt, opening, &choices, &mut draws)
         else {
             return number;
         };
         let list = List {
-            makings: choices.makings,
+            makings: choices.makings.as_slice(),
             turns: turns.as_slice(),
         };
         if !play_at_seven::<R, Brand>(rt, Blank::new(1), is_fair, list) {

@@ -1,8 +1,7 @@
 //! The oneshot and the oneshot broadcast.
 
-use super::{Choices, Holds, LISTS, List, Opens, TakesTurns, plays, tried_turns};
+use super::{Holds, LISTS, Lines, List, Opens, TakesTurns, plays, tried_turns};
 use fi_channels::{ClonesValue, GivesValue, OneshotBroadcastState, OneshotState, TakesValue};
-use fi_parts::Slot;
 use fi_run::OneshotCall;
 use fi_sync::OneValueChannel;
 use std::alloc::AllocGlobal;
@@ -11,24 +10,10 @@ use std::random::RandomSource;
 use std::sync::{Barrier, Wait};
 use tests_driver::one_value::OpenedOneValue;
 
-const CHOICES: Choices<'static, OneshotCall<u64, u64>> = Choices {
-    makings: &[OneshotCall::Receive; 4],
-    first: &[
-        OneshotCall::Poll(Slot(0), 1),
-        OneshotCall::Poll(Slot(1), 2),
-        OneshotCall::Cancel(Slot(0)),
-        OneshotCall::Cancel(Slot(1)),
-        OneshotCall::Send(5),
-        OneshotCall::Close,
-    ],
-    second: &[
-        OneshotCall::Poll(Slot(2), 3),
-        OneshotCall::Poll(Slot(3), 4),
-        OneshotCall::Cancel(Slot(2)),
-        OneshotCall::Cancel(Slot(3)),
-        OneshotCall::Send(6),
-        OneshotCall::Close,
-    ],
+const LINES: Lines = Lines {
+    makings: "receive a; receive b; receive c; receive d",
+    first: "poll a 1; poll b 2; cancel a; cancel b; send 5; close",
+    second: "poll c 3; poll d 4; cancel c; cancel d; send 6; close",
 };
 
 impl Holds for OneshotCall<u64, u64> {}
@@ -59,7 +44,7 @@ type OfOne<G, R> = OneValueChannel<u64, G, R>;
 
 #[test]
 fn two_threads_take_turns_at_a_oneshot(rt: HostRuntime) {
-    let tried = tried_turns::<_, OneshotState<u64, u64>, OfOne<TakesValue, _>>(&rt, (), CHOICES);
+    let tried = tried_turns::<_, OneshotState<u64, u64>, OfOne<TakesValue, _>>(&rt, (), LINES);
     assert!(rt; tried == LISTS, "list {tried}");
 }
 
@@ -68,7 +53,7 @@ fn two_threads_take_turns_at_a_oneshot_broadcast(rt: HostRuntime) {
     let tried = tried_turns::<_, OneshotBroadcastState<u64, u64>, OfOne<ClonesValue, _>>(
         &rt,
         (),
-        CHOICES,
+        LINES,
     );
     assert!(rt; tried == LISTS, "list {tried}");
 }

@@ -1,9 +1,8 @@
 //! The semaphore of one permit, fair and unfair: each thread gives back what it acquired.
 ghost use Rattle.std.specs.Prelude.{◌≡◌};
 
-use super::{Choices, Holds, LISTS, List, TakesTurns, next_turns, play_at, plays};
+use super::{Holds, LISTS, Lines, List, TakesTurns, choices_of, next_turns, play_at, plays};
 use fi_locks::SemaphoreState;
-use fi_parts::Slot;
 use fi_run::{Answer, SemaphoreCall};
 use fi_sync::Semaphore;
 use std::alloc::AllocGlobal;
@@ -16,25 +15,11 @@ use std::thread::Threads;
 use tests_driver::drawn::Draws;
 use tests_driver::semaphore::OpenedSemaphore;
 
-const FIRST: [SemaphoreCall<u64>; 7] = [
-    SemaphoreCall::Poll(Slot(0), 1),
-    SemaphoreCall::Poll(Slot(1), 2),
-    SemaphoreCall::Cancel(Slot(0)),
-    SemaphoreCall::Cancel(Slot(1)),
-    SemaphoreCall::TryAcquire(1),
-    SemaphoreCall::Release(1),
-    SemaphoreCall::GiveBack(1),
-];
-
-const SECOND: [SemaphoreCall<u64>; 7] = [
-    SemaphoreCall::Poll(Slot(2), 3),
-    SemaphoreCall::Poll(Slot(3), 4),
-    SemaphoreCall::Cancel(Slot(2)),
-    SemaphoreCall::Cancel(Slot(3)),
-    SemaphoreCall::TryAcquire(1),
-    SemaphoreCall::Release(1),
-    SemaphoreCall::GiveBack(1),
-];
+const LINES: Lines = Lines {
+    makings: "acquire a 1; acquire b 1; acquire c 1; acquire d 1",
+    first: "poll a 1; poll b 2; cancel a; cancel b; try-acquire 1; release 1; give-back 1",
+    second: "poll c 3; poll d 4; cancel c; cancel d; try-acquire 1; release 1; give-back 1",
+};
 
 impl Holds for SemaphoreCall<u64> {
     fn held_after(self, answer: Answer<u64, u64>, held: u64) -> Option<u64> {
@@ -79,20 +64,18 @@ fn try_turns<R>(rt: &R, is_fair: bool) -> u64
 where
     R: Wait + Threads + Abort + Copy + RandomSource + AllocGlobal + Send + Sync,
 {
-    let choices = Choices {
-        makings: &[SemaphoreCall::Acquire(1); 4],
-        first: &FIRST,
-        second: &SECOND,
+    let opening = (1, is_fair);
+    let Some(choices) = choices_of::<SemaphoreState<u64>>(rt.alloc(), opening, LINES) else {
+        return 0;
     };
     let mut draws = Draws(1);
     for number in 0..LISTS {
-        let opening = (1, is_fair);
-        let Some(turns) = next_turns::<R, SemaphoreState<u64>>(rt, opening, choices, &mut draws)
+        let Some(turns) = next_turns::<R, SemaphoreState<u64>>(rt, opening, &choices, &mut draws)
         else {
             return number;
         };
         let list = List {
-            makings: choices.makings,
+            makings: choices.makings.as_slice(),
             turns: turns.as_slice(),
         };
         if !play_at_one::<R, Brand>(rt, Blank::new(u64::MAX), is_fair, list) {

@@ -1,34 +1,20 @@
 //! The state broadcast.
 
-use super::{Choices, Holds, LISTS, List, Opens, TakesTurns, plays, tried_turns};
+use super::{Holds, LISTS, Lines, List, Opens, TakesTurns, plays, tried_turns};
 use fi_channels::StateBroadcastState;
-use fi_parts::Slot;
 use fi_run::StateCall;
 use fi_sync::StateBroadcastChannel;
 use std::alloc::AllocGlobal;
 use std::process::Abort;
 use std::random::RandomSource;
 use std::sync::{Barrier, Wait};
-use tests_driver::drawn::state::makings;
 use tests_driver::state::OpenedState;
 
-const FIRST: [StateCall<u64, u64>; 6] = [
-    StateCall::Poll(Slot(0), 1),
-    StateCall::Poll(Slot(1), 2),
-    StateCall::Cancel(Slot(0)),
-    StateCall::Cancel(Slot(1)),
-    StateCall::Send(5),
-    StateCall::Close,
-];
-
-const SECOND: [StateCall<u64, u64>; 6] = [
-    StateCall::Poll(Slot(2), 3),
-    StateCall::Poll(Slot(3), 4),
-    StateCall::Cancel(Slot(2)),
-    StateCall::Cancel(Slot(3)),
-    StateCall::Send(6),
-    StateCall::Close,
-];
+const LINES: Lines = Lines {
+    makings: "receive a 0; receive b 1; receive c 0; receive d 1",
+    first: "poll a 1; poll b 2; cancel a; cancel b; send 5; close",
+    second: "poll c 3; poll d 4; cancel c; cancel d; send 6; close",
+};
 
 impl Holds for StateCall<u64, u64> {}
 
@@ -55,15 +41,10 @@ impl<R: Wait + Abort + Copy + RandomSource + AllocGlobal> Opens<R>
 
 #[test]
 fn two_threads_take_turns_at_a_state_broadcast(rt: HostRuntime) {
-    let choices = Choices {
-        makings: &makings(),
-        first: &FIRST,
-        second: &SECOND,
-    };
     let tried = tried_turns::<_, StateBroadcastState<u64, u64>, StateBroadcastChannel<u64, _>>(
         &rt,
         (),
-        choices,
+        LINES,
     );
     assert!(rt; tried == LISTS, "list {tried}");
 }

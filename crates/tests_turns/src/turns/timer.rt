@@ -1,8 +1,7 @@
 //! The timer, whose clock the threads share too: it stands at each call's moment.
 
-use super::{Choices, Holds, LISTS, List, Opens, TakesTurns, plays, tried_turns};
+use super::{Holds, LISTS, Lines, List, Opens, TakesTurns, plays, tried_turns};
 use fi_locks::TimerState;
-use fi_parts::Slot;
 use fi_run::TimerCall;
 use std::alloc::AllocGlobal;
 use std::process::Abort;
@@ -10,29 +9,10 @@ use std::random::RandomSource;
 use std::sync::{Barrier, Wait};
 use tests_driver::timer::{OpenedTimer, SharedTimer};
 
-const CHOICES: Choices<'static, TimerCall<u64>> = Choices {
-    makings: &[
-        TimerCall::Deadline(1),
-        TimerCall::Deadline(2),
-        TimerCall::Deadline(2),
-        TimerCall::Deadline(3),
-    ],
-    first: &[
-        TimerCall::Poll(Slot(0), 0, 1),
-        TimerCall::Poll(Slot(1), 0, 2),
-        TimerCall::Cancel(Slot(0)),
-        TimerCall::Cancel(Slot(1)),
-        TimerCall::Check(1),
-        TimerCall::Check(3),
-    ],
-    second: &[
-        TimerCall::Poll(Slot(2), 0, 3),
-        TimerCall::Poll(Slot(3), 0, 4),
-        TimerCall::Cancel(Slot(2)),
-        TimerCall::Cancel(Slot(3)),
-        TimerCall::Check(2),
-        TimerCall::Next,
-    ],
+const LINES: Lines = Lines {
+    makings: "deadline a 1; deadline b 2; deadline c 2; deadline d 3",
+    first: "poll a 0 1; poll b 0 2; cancel a; cancel b; check 1; check 3",
+    second: "poll c 0 3; poll d 0 4; cancel c; cancel d; check 2; next",
 };
 
 impl Holds for TimerCall<u64> {}
@@ -60,6 +40,6 @@ impl<R: Wait + Abort + Copy + RandomSource + AllocGlobal> Opens<R> for SharedTim
 
 #[test]
 fn two_threads_take_turns_at_a_timer(rt: HostRuntime) {
-    let tried = tried_turns::<_, TimerState<u64>, SharedTimer<_>>(&rt, (), CHOICES);
+    let tried = tried_turns::<_, TimerState<u64>, SharedTimer<_>>(&rt, (), LINES);
     assert!(rt; tried == LISTS, "list {tried}");
 }
