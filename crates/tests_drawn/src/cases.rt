@@ -1,8 +1,10 @@
 //! Drawn lists of calls: each primitive answers them as a plain reference of its machine does, wakes the same wakers in the same order,
 //! and owes no wake. The references hold no lists: who is queued since when, and named since when, stands in arrays.
 use fi_run::Primitive;
+use fi_scripts::Scripted;
 use std::alloc::Global;
 use std::test::Fail;
+use tests_rows::calls::Reader;
 
 /// What a primitive is held against: the same calls, answered as plainly as can be.
 pub(crate) trait Reference<P: Primitive> {
@@ -11,17 +13,44 @@ pub(crate) trait Reference<P: Primitive> {
     fn owes_no_wake(&self) -> bool;
 }
 
-/// What a list's calls are drawn from: a poll of each of four futures, a cancel of each, and the calls without futures. The futures are
-/// made first.
-#[derive(Drop)]
-pub(crate) struct Case<'a, C> {
-    pub(crate) makings: &'a [C],
-    pub(crate) polls: &'a [C],
-    pub(crate) cancels: &'a [C],
-    pub(crate) others: &'a [C],
+/// What a list's calls are drawn from, as lines apart by `; `: a poll of each of four futures, a cancel of each, and the calls without
+/// futures. The futures `a` to `d` are made first.
+#[derive(Clone, Copy)]
+pub(crate) struct Lines {
+    pub(crate) makings: &'static str,
+    pub(crate) polls: &'static str,
+    pub(crate) others: &'static str,
 }
 
-impl<'a, C: Copy> Case<'a, C> {
+/// Each future is polled by a task of its own.
+pub(crate) const POLLS: &str = "poll a 1; poll b 2; poll c 3; poll d 4";
+
+const CANCELS: &str = "cancel a; cancel b; cancel c; cancel d";
+
+/// The calls of the lines.
+#[derive(Drop)]
+struct Case<C> {
+    makings: Vec<C>,
+    polls: Vec<C>,
+    cancels: Vec<C>,
+    others: Vec<C>,
+}
+
+// The calls of these lines. None if one is bad, or memory is missing.
+fn case_of<P: Scripted>(alloc: Global, opening: P::Opening, lines: Lines) -> Option<Case<P::Call>>
+where
+    P::Call: Copy,
+{
+    let mut reader = Reader::<P>::open(alloc, opening)?;
+    Some(Case {
+        makings: reader.calls(lines.makings)?,
+        polls: reader.choices(lines.polls)?,
+        cancels: reader.choices(CANCELS)?,
+        others: reader.choices(lines.others)?,
+    })
+}
+
+impl<C: Copy> Case<C> {
     // The call that this number stands for.
     fn choice(&self, number: u64) -> Option<C> {
         let count = 8u64.wrapping_add(self.others.len() as u64);
@@ -88,7 +117,7 @@ where
 
     // So many drawn calls, and then the wakers. Once all futures are cancelled, nobody is woken or may be polled.
     fn agrees_on_drawn(&mut self, case: &Case<P::Call>, draws: &mut Draws, count: u64) -> bool {
-        if !self.agrees_on(case.makings) {
+        if !self.agrees_on(case.makings.as_slice()) {
             return false;
         }
         for _ in 0..count {
@@ -98,25 +127,25 @@ where
             }
         }
         self.agrees_on_wakers()
-            && self.agrees_on(case.cancels)
+            && self.agrees_on(case.cancels.as_slice())
             && self.agrees_on_wakers()
-            && self.agrees_on(case.polls)
+            && self.agrees_on(case.polls.as_slice())
     }
 }
 
 // Draws lists of eight calls. Each of a list's beginnings runs on a primitive made anew, so that what is to be woken is compared after
 // each call.
-pub(crate) fn agree<P: Primitive + Drop, R: Reference<P> + Copy + Drop>(
+pub(crate) fn agree<P: Scripted, R: Reference<P> + Copy + Drop>(
     alloc: Global,
     opening: P::Opening,
     reference: R,
-    case: &Case<P::Call>,
+    lines: Lines,
 ) -> Result<bool, Fail>
 where
     P::Opening: Copy,
     P::Call: Copy,
-    P::Answer: PartialEq,
 {
+    let case = case_of::<P>(alloc, opening, lines).ok_or("a line")?;
     let mut draws = Draws(1);
     for _ in 0..20_000u64 {
         let first = draws;
@@ -127,7 +156,7 @@ where
                 primitive,
                 reference,
             };
-            if !pair.agrees_on_drawn(case, &mut draws, count) {
+            if !pair.agrees_on_drawn(&case, &mut draws, count) {
                 return Ok(false);
             }
         }

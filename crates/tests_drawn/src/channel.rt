@@ -1,5 +1,5 @@
 //! A plain channel of at most two places, with two sends and two receives, or two sends and two streams.
-use crate::cases::{Case, Reference, agree};
+use crate::cases::{Lines, POLLS, Reference, agree};
 use crate::waiters::{PlainWaiters, Stage};
 use fi_channels::ChannelState;
 use fi_parts::buffer::{ArrayBuf, FixedHeapBuf, GrowingHeapBuf, RingBuf};
@@ -233,55 +233,22 @@ impl<B: RingBuf<Item = u64>> Reference<ChannelState<u64, B, u64>> for PlainChann
     }
 }
 
-// Those that receive, and their polls.
-fn receive(is_stream: bool) -> ChannelCall<u64, u64> {
-    if is_stream {
-        ChannelCall::Stream
-    } else {
-        ChannelCall::Receive
-    }
-}
-
-fn poll_receive(is_stream: bool, slot: Slot, waker: u64) -> ChannelCall<u64, u64> {
-    if is_stream {
-        ChannelCall::PollNext(slot, waker)
-    } else {
-        ChannelCall::PollReceive(slot, waker)
-    }
-}
-
 fn agrees<B: RingBuf<Item = u64>>(
     alloc: Global,
     capacity: usize,
     has_streams: bool,
 ) -> Result<bool, Fail> {
-    let case = Case {
-        makings: &[
-            ChannelCall::Send(1),
-            ChannelCall::Send(2),
-            receive(has_streams),
-            receive(has_streams),
-        ],
-        polls: &[
-            ChannelCall::PollSend(Slot(0), 1),
-            ChannelCall::PollSend(Slot(1), 2),
-            poll_receive(has_streams, Slot(0), 3),
-            poll_receive(has_streams, Slot(1), 4),
-        ],
-        cancels: &[
-            ChannelCall::CancelSend(Slot(0)),
-            ChannelCall::CancelSend(Slot(1)),
-            ChannelCall::CancelReceive(Slot(0)),
-            ChannelCall::CancelReceive(Slot(1)),
-        ],
-        others: &[
-            ChannelCall::TrySend(5),
-            ChannelCall::TryReceive,
-            ChannelCall::Close,
-        ],
+    let lines = Lines {
+        makings: if has_streams {
+            "send a 1; send b 2; stream c; stream d"
+        } else {
+            "send a 1; send b 2; receive c; receive d"
+        },
+        polls: POLLS,
+        others: "try-send 5; try-receive; close",
     };
     let reference = PlainChannel::new(capacity, has_streams);
-    agree::<ChannelState<u64, B, u64>, PlainChannel>(alloc, capacity, reference, &case)
+    agree::<ChannelState<u64, B, u64>, PlainChannel>(alloc, capacity, reference, lines)
 }
 
 fn agrees_with_each_capacity<B: RingBuf<Item = u64>>(

@@ -1,8 +1,8 @@
 //! A plain event.
-use crate::cases::{Case, Reference, agree};
+use crate::cases::{Lines, POLLS, Reference, agree};
 use crate::waiters::{ALL, PlainWaiters, Stage};
 use fi_channels::EventState;
-use fi_parts::{Fault, Slot};
+use fi_parts::Fault;
 use fi_run::{Answer, EventCall};
 use std::test::Fail;
 
@@ -60,22 +60,11 @@ fn drawn_schedules_of_an_event(rt: HostRuntime) -> Result<(), Fail> {
         is_set: false,
         waits: PlainWaiters::new(),
     };
-    let case = Case {
-        makings: &[EventCall::Wait; 4],
-        polls: &[
-            EventCall::Poll(Slot(0), 1),
-            EventCall::Poll(Slot(1), 2),
-            EventCall::Poll(Slot(2), 3),
-            EventCall::Poll(Slot(3), 4),
-        ],
-        cancels: &[
-            EventCall::Cancel(Slot(0)),
-            EventCall::Cancel(Slot(1)),
-            EventCall::Cancel(Slot(2)),
-            EventCall::Cancel(Slot(3)),
-        ],
-        others: &[EventCall::Set, EventCall::Reset],
+    let lines = Lines {
+        makings: "wait a; wait b; wait c; wait d",
+        polls: POLLS,
+        others: "set; reset",
     };
-    assert!(rt; agree::<EventState<u64>, PlainEvent>(rt.alloc(), false, reference, &case)?);
+    assert!(rt; agree::<EventState<u64>, PlainEvent>(rt.alloc(), false, reference, lines)?);
     Ok(())
 }

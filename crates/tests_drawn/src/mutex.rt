@@ -1,8 +1,8 @@
 //! A plain mutex, fair or unfair.
-use crate::cases::{Case, Reference, agree};
+use crate::cases::{Lines, POLLS, Reference, agree};
 use crate::waiters::{ALL, PlainWaiters, Stage};
 use fi_locks::MutexState;
-use fi_parts::{Fault, Slot};
+use fi_parts::Fault;
 use fi_run::{Answer, MutexCall};
 use std::alloc::Global;
 use std::test::Fail;
@@ -109,23 +109,12 @@ fn agrees(alloc: Global, is_fair: bool) -> Result<bool, Fail> {
         value: Some(7),
         locks: PlainWaiters::new(),
     };
-    let case = Case {
-        makings: &[MutexCall::Lock; 4],
-        polls: &[
-            MutexCall::Poll(Slot(0), 1),
-            MutexCall::Poll(Slot(1), 2),
-            MutexCall::Poll(Slot(2), 3),
-            MutexCall::Poll(Slot(3), 4),
-        ],
-        cancels: &[
-            MutexCall::Cancel(Slot(0)),
-            MutexCall::Cancel(Slot(1)),
-            MutexCall::Cancel(Slot(2)),
-            MutexCall::Cancel(Slot(3)),
-        ],
-        others: &[MutexCall::TryLock, MutexCall::Unlock(8)],
+    let lines = Lines {
+        makings: "lock a; lock b; lock c; lock d",
+        polls: POLLS,
+        others: "try-lock; unlock 8",
     };
-    agree::<MutexState<u64, u64>, PlainMutex>(alloc, (7, is_fair), reference, &case)
+    agree::<MutexState<u64, u64>, PlainMutex>(alloc, (7, is_fair), reference, lines)
 }
 
 #[test]

@@ -1,8 +1,8 @@
 //! Plain channels of one value: the oneshot, whose first receive takes the value, and the broadcast, whose receives are all given it.
-use crate::cases::{Case, Reference, agree};
+use crate::cases::{Lines, POLLS, Reference, agree};
 use crate::waiters::{ALL, PlainWaiters, Stage};
 use fi_channels::{ClonesValue, GivesValue, OneValueState, TakesValue};
-use fi_parts::{Fault, Slot};
+use fi_parts::Fault;
 use fi_run::{Answer, OneshotCall};
 use std::alloc::Global;
 use std::test::Fail;
@@ -88,24 +88,13 @@ impl<G: GivesValue<u64>> Reference<OneValueState<u64, u64, G>> for PlainOneValue
 }
 
 fn agrees<G: GivesValue<u64>>(alloc: Global, keeps_value: bool) -> Result<bool, Fail> {
-    let case = Case {
-        makings: &[OneshotCall::Receive; 4],
-        polls: &[
-            OneshotCall::Poll(Slot(0), 1),
-            OneshotCall::Poll(Slot(1), 2),
-            OneshotCall::Poll(Slot(2), 3),
-            OneshotCall::Poll(Slot(3), 4),
-        ],
-        cancels: &[
-            OneshotCall::Cancel(Slot(0)),
-            OneshotCall::Cancel(Slot(1)),
-            OneshotCall::Cancel(Slot(2)),
-            OneshotCall::Cancel(Slot(3)),
-        ],
-        others: &[OneshotCall::Send(5), OneshotCall::Close],
+    let lines = Lines {
+        makings: "receive a; receive b; receive c; receive d",
+        polls: POLLS,
+        others: "send 5; close",
     };
     let reference = PlainOneValue::new(keeps_value);
-    agree::<OneValueState<u64, u64, G>, PlainOneValue>(alloc, (), reference, &case)
+    agree::<OneValueState<u64, u64, G>, PlainOneValue>(alloc, (), reference, lines)
 }
 
 #[test]

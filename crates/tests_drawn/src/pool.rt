@@ -1,7 +1,7 @@
 //! A plain worker pool, in which at most two jobs wait.
-use crate::cases::{Case, Reference, agree};
+use crate::cases::{Lines, POLLS, Reference, agree};
 use crate::waiters::{ALL, PlainWaiters, Stage};
-use fi_parts::{Fault, Slot};
+use fi_parts::Fault;
 use fi_run::{Answer, PoolCall, PoolState};
 use std::alloc::Global;
 use std::test::Fail;
@@ -127,28 +127,12 @@ fn agrees(alloc: Global, limit: usize, capacity: usize) -> Result<bool, Fail> {
         jobs: [None; 2],
         waits: PlainWaiters::new(),
     };
-    let case = Case {
-        makings: &[PoolCall::Wait; 4],
-        polls: &[
-            PoolCall::Poll(Slot(0), 1),
-            PoolCall::Poll(Slot(1), 2),
-            PoolCall::Poll(Slot(2), 3),
-            PoolCall::Poll(Slot(3), 4),
-        ],
-        cancels: &[
-            PoolCall::Cancel(Slot(0)),
-            PoolCall::Cancel(Slot(1)),
-            PoolCall::Cancel(Slot(2)),
-            PoolCall::Cancel(Slot(3)),
-        ],
-        others: &[
-            PoolCall::Submit(5),
-            PoolCall::Start,
-            PoolCall::Finish,
-            PoolCall::Shutdown,
-        ],
+    let lines = Lines {
+        makings: "wait a; wait b; wait c; wait d",
+        polls: POLLS,
+        others: "submit 5; start; finish; shutdown",
     };
-    agree::<PoolState<u64>, PlainPool>(alloc, (limit, capacity), reference, &case)
+    agree::<PoolState<u64>, PlainPool>(alloc, (limit, capacity), reference, lines)
 }
 
 #[test]

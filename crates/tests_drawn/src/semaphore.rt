@@ -1,8 +1,8 @@
 //! A plain semaphore, fair or unfair.
-use crate::cases::{Case, Reference, agree};
+use crate::cases::{Lines, POLLS, Reference, agree};
 use crate::waiters::{ALL, PlainWaiters, Stage};
 use fi_locks::SemaphoreState;
-use fi_parts::{Fault, Slot};
+use fi_parts::Fault;
 use fi_run::{Answer, SemaphoreCall};
 use std::alloc::Global;
 use std::test::Fail;
@@ -172,7 +172,17 @@ impl Reference<SemaphoreState<u64>> for PlainSemaphore {
     }
 }
 
-fn agrees(alloc: Global, is_fair: bool, needs: [usize; 4]) -> Result<bool, Fail> {
+const MIXED: &str = "acquire a 1; acquire b 2; acquire c 1; acquire d 1";
+
+const OF_TWO: &str = "acquire a 2; acquire b 2; acquire c 2; acquire d 2";
+
+// Of futures that these lines make, which need so many permits each.
+fn agrees(
+    alloc: Global,
+    is_fair: bool,
+    makings: &'static str,
+    needs: [usize; 4],
+) -> Result<bool, Fail> {
     let [first, second, third, fourth] = needs;
     let reference = PlainSemaphore {
         is_fair,
@@ -182,38 +192,18 @@ fn agrees(alloc: Global, is_fair: bool, needs: [usize; 4]) -> Result<bool, Fail>
         needs_are_equal: first == second && first == third && first == fourth,
         acquires: PlainWaiters::new(),
     };
-    let case = Case {
-        makings: &[
-            SemaphoreCall::Acquire(first),
-            SemaphoreCall::Acquire(second),
-            SemaphoreCall::Acquire(third),
-            SemaphoreCall::Acquire(fourth),
-        ],
-        polls: &[
-            SemaphoreCall::Poll(Slot(0), 1),
-            SemaphoreCall::Poll(Slot(1), 2),
-            SemaphoreCall::Poll(Slot(2), 3),
-            SemaphoreCall::Poll(Slot(3), 4),
-        ],
-        cancels: &[
-            SemaphoreCall::Cancel(Slot(0)),
-            SemaphoreCall::Cancel(Slot(1)),
-            SemaphoreCall::Cancel(Slot(2)),
-            SemaphoreCall::Cancel(Slot(3)),
-        ],
-        others: &[
-            SemaphoreCall::TryAcquire(1),
-            SemaphoreCall::Release(1),
-            SemaphoreCall::GiveBack(1),
-        ],
+    let lines = Lines {
+        makings,
+        polls: POLLS,
+        others: "try-acquire 1; release 1; give-back 1",
     };
-    agree::<SemaphoreState<u64>, PlainSemaphore>(alloc, (1, is_fair), reference, &case)
+    agree::<SemaphoreState<u64>, PlainSemaphore>(alloc, (1, is_fair), reference, lines)
 }
 
 #[test]
 fn drawn_schedules_of_a_semaphore(rt: HostRuntime) -> Result<(), Fail> {
-    assert!(rt; agrees(rt.alloc(), true, [1, 2, 1, 1])?);
-    assert!(rt; agrees(rt.alloc(), false, [1, 2, 1, 1])?);
-    assert!(rt; agrees(rt.alloc(), false, [2; 4])?);
+    assert!(rt; agrees(rt.alloc(), true, MIXED, [1, 2, 1, 1])?);
+    assert!(rt; agrees(rt.alloc(), false, MIXED, [1, 2, 1, 1])?);
+    assert!(rt; agrees(rt.alloc(), false, OF_TWO, [2; 4])?);
     Ok(())
 }

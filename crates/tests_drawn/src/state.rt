@@ -1,12 +1,12 @@
 //! A plain state broadcast.
-use crate::cases::{Case, Reference, agree};
+use crate::cases::{Lines, POLLS, Reference, agree};
 use crate::waiters::{ALL, PlainWaiters, Stage};
 use fi_channels::StateBroadcastState;
-use fi_parts::{Fault, Slot, StateId};
+use fi_parts::{Fault, StateId};
 use fi_run::{Answer, StateCall};
 use std::test::Fail;
 
-/// Which state each of the four receives has seen.
+/// Which state each of the four receives has seen, as their lines say.
 const SEEN: [u64; 4] = [0, 1, 0, 1];
 
 #[derive(Clone, Copy, Drop)]
@@ -104,35 +104,13 @@ fn drawn_schedules_of_a_state_broadcast(rt: HostRuntime) -> Result<(), Fail> {
         value: 0,
         receives: PlainWaiters::new(),
     };
-    let [a, b, c, d] = SEEN;
-    let case = Case {
-        makings: &[
-            StateCall::Receive(StateId::from_value(a)),
-            StateCall::Receive(StateId::from_value(b)),
-            StateCall::Receive(StateId::from_value(c)),
-            StateCall::Receive(StateId::from_value(d)),
-        ],
-        polls: &[
-            StateCall::Poll(Slot(0), 1),
-            StateCall::Poll(Slot(1), 2),
-            StateCall::Poll(Slot(2), 3),
-            StateCall::Poll(Slot(3), 4),
-        ],
-        cancels: &[
-            StateCall::Cancel(Slot(0)),
-            StateCall::Cancel(Slot(1)),
-            StateCall::Cancel(Slot(2)),
-            StateCall::Cancel(Slot(3)),
-        ],
-        others: &[
-            StateCall::TryReceive(StateId::from_value(0)),
-            StateCall::TryReceive(StateId::from_value(1)),
-            StateCall::Send(5),
-            StateCall::Close,
-        ],
+    let lines = Lines {
+        makings: "receive a 0; receive b 1; receive c 0; receive d 1",
+        polls: POLLS,
+        others: "try-receive 0; try-receive 1; send 5; close",
     };
     assert!(rt;
-        agree::<StateBroadcastState<u64, u64>, PlainState>(rt.alloc(), (), reference, &case)?
+        agree::<StateBroadcastState<u64, u64>, PlainState>(rt.alloc(), (), reference, lines)?
     );
     Ok(())
 }

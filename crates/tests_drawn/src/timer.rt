@@ -1,12 +1,12 @@
 //! A plain timer.
-use crate::cases::{Case, Reference, agree};
+use crate::cases::{Lines, Reference, agree};
 use crate::waiters::{ALL, PlainWaiters, Stage};
 use fi_locks::TimerState;
-use fi_parts::{Fault, Slot};
+use fi_parts::Fault;
 use fi_run::{Answer, TimerCall};
 use std::test::Fail;
 
-/// When each of the four futures expires.
+/// When each of the four futures expires, as their lines say.
 const EXPIRIES: [u64; 4] = [1, 2, 2, 3];
 
 #[derive(Clone, Copy, Drop)]
@@ -82,28 +82,11 @@ fn drawn_schedules_of_a_timer(rt: HostRuntime) -> Result<(), Fail> {
         checked: 0,
         futures: PlainWaiters::new(),
     };
-    let [a, b, c, d] = EXPIRIES;
-    let case = Case {
-        makings: &[
-            TimerCall::Deadline(a),
-            TimerCall::Deadline(b),
-            TimerCall::Deadline(c),
-            TimerCall::Deadline(d),
-        ],
-        polls: &[
-            TimerCall::Poll(Slot(0), 0, 1),
-            TimerCall::Poll(Slot(1), 0, 2),
-            TimerCall::Poll(Slot(2), 0, 3),
-            TimerCall::Poll(Slot(3), 0, 4),
-        ],
-        cancels: &[
-            TimerCall::Cancel(Slot(0)),
-            TimerCall::Cancel(Slot(1)),
-            TimerCall::Cancel(Slot(2)),
-            TimerCall::Cancel(Slot(3)),
-        ],
-        others: &[TimerCall::Check(1), TimerCall::Check(3)],
+    let lines = Lines {
+        makings: "deadline a 1; deadline b 2; deadline c 2; deadline d 3",
+        polls: "poll a 0 1; poll b 0 2; poll c 0 3; poll d 0 4",
+        others: "check 1; check 3",
     };
-    assert!(rt; agree::<TimerState<u64>, PlainTimer>(rt.alloc(), (), reference, &case)?);
+    assert!(rt; agree::<TimerState<u64>, PlainTimer>(rt.alloc(), (), reference, lines)?);
     Ok(())
 }
