@@ -1,9 +1,11 @@
 //! Futures that one thread uses: each making is refused until there is enough.
 use fi_channels::{
-    EventState, LocalChannel, OneshotBroadcastState, OneshotState, StateBroadcastState,
+    EventState, GivesValue, LocalChannel, OneValueState, OneshotBroadcastState, OneshotState,
+    StateBroadcastState,
 };
 use fi_locks::{MutexState, SemaphoreState, TimerState};
-use fi_parts::StateId;
+use fi_parts::{FuturesOf, LocalFuture, StateId};
+use std::alloc::Global;
 use std::test::Fail;
 use tests_driver::refusals::hoard::Hoard;
 use tests_driver::refusals::making::{Making, tries};
@@ -15,140 +17,77 @@ struct Of<S> {
     state: S,
 }
 
+// Whether a making was refused. What was made is let go again.
+fn is_refused<S, K: FuturesOf<S>, E: Drop>(made: Result<LocalFuture<K>, E>, state: &mut S) -> bool
+where
+    K::Left: Drop,
+{
+    match made {
+        Ok(future) => {
+            future.leave(state);
+            false
+        }
+        Err(_) => true,
+    }
+}
+
 impl Making for Of<EventState<u64>> {
     fn is_refused(&mut self) -> bool {
-        match self.state.wait() {
-            Ok(wait) => {
-                wait.cancel(&mut self.state);
-                false
-            }
-            Err(_) => true,
-        }
+        is_refused(self.state.wait(), &mut self.state)
     }
 }
 
-impl Making for Of<OneshotState<u64, u64>> {
+impl<G: GivesValue<u64>> Making for Of<OneValueState<u64, u64, G>> {
     fn is_refused(&mut self) -> bool {
-        match self.state.receive() {
-            Ok(receive) => {
-                receive.cancel(&mut self.state);
-                false
-            }
-            Err(_) => true,
-        }
-    }
-}
-
-impl Making for Of<OneshotBroadcastState<u64, u64>> {
-    fn is_refused(&mut self) -> bool {
-        match self.state.receive() {
-            Ok(receive) => {
-                receive.cancel(&mut self.state);
-                false
-            }
-            Err(_) => true,
-        }
+        is_refused(self.state.receive(), &mut self.state)
     }
 }
 
 impl Making for Of<StateBroadcastState<u64, u64>> {
     fn is_refused(&mut self) -> bool {
-        match self.state.receive(StateId::new()) {
-            Ok(receive) => {
-                receive.cancel(&mut self.state);
-                false
-            }
-            Err(_) => true,
-        }
+        is_refused(self.state.receive(StateId::new()), &mut self.state)
     }
 }
 
 impl Making for Of<MutexState<u64, u64>> {
     fn is_refused(&mut self) -> bool {
-        match self.state.lock() {
-            Ok(lock) => {
-                lock.cancel(&mut self.state);
-                false
-            }
-            Err(_) => true,
-        }
+        is_refused(self.state.lock(), &mut self.state)
     }
 }
 
 impl Making for Of<SemaphoreState<u64>> {
     fn is_refused(&mut self) -> bool {
-        match self.state.acquire(2) {
-            Ok(acquire) => {
-                acquire.cancel(&mut self.state);
-                false
-            }
-            Err(_) => true,
-        }
+        is_refused(self.state.acquire(2), &mut self.state)
     }
 }
 
 impl Making for Of<TimerState<u64>> {
     fn is_refused(&mut self) -> bool {
-        match self.state.deadline(5) {
-            Ok(deadline) => {
-                deadline.cancel(&mut self.state);
-                false
-            }
-            Err(_) => true,
-        }
+        is_refused(self.state.deadline(5), &mut self.state)
     }
 }
 
-/// Sends into a channel.
+/// What is made of a channel.
+#[derive(Clone, Copy)]
+enum Made {
+    Send,
+    Receive,
+    Stream,
+}
+
+/// A channel of which one of these is made.
 #[derive(Drop)]
-struct Sends {
+struct OfChannel {
     channel: LocalChannel<u64, 1, u64>,
+    made: Made,
 }
 
-impl Making for Sends {
+impl Making for OfChannel {
     fn is_refused(&mut self) -> bool {
-        match self.channel.send(5) {
-            Ok(send) => {
-                send.cancel(&mut self.channel);
-                false
-            }
-            Err(failed) => failed.0 == 5,
-        }
-    }
-}
-
-/// Receives from a channel.
-#[derive(Drop)]
-struct Receives {
-    channel: LocalChannel<u64, 1, u64>,
-}
-
-impl Making for Receives {
-    fn is_refused(&mut self) -> bool {
-        match self.channel.receive() {
-            Ok(receive) => {
-                receive.cancel(&mut self.channel);
-                false
-            }
-            Err(_) => true,
-        }
-    }
-}
-
-/// Streams of a channel.
-#[derive(Drop)]
-struct Streams {
-    channel: LocalChannel<u64, 1, u64>,
-}
-
-impl Making for Streams {
-    fn is_refused(&mut self) -> bool {
-        match self.channel.stream() {
-            Ok(stream) => {
-                stream.cancel(&mut self.channel);
-                false
-            }
-            Err(_) => true,
+        match self.made {
+            Made::Send => is_refused(self.channel.send(5), &mut self.channel),
+            Made::Receive => is_refused(self.channel.receive(), &mut self.channel),
+            Made::Stream => is_refused(self.channel.stream(), &mut self.channel),
         }
     }
 }
@@ -191,15 +130,18 @@ fn locks_and_deadlines(rt: HostRuntime) -> Result<(), Fail> {
     Ok(())
 }
 
+// What tries of this making on a channel come to.
+fn tries_on_channel(alloc: Global, hoard: &mut Hoard, made: Made) -> Tried {
+    let channel = LocalChannel::new(alloc);
+    tries(hoard, &mut OfChannel { channel, made })
+}
+
 #[test]
 fn futures_of_a_channel(rt: HostRuntime) -> Result<(), Fail> {
     let mut hoard = Hoard::new(rt.alloc())?;
-    let channel = LocalChannel::new(rt.alloc());
-    let sends = tries(&mut hoard, &mut Sends { channel });
-    let channel = LocalChannel::new(rt.alloc());
-    let receives = tries(&mut hoard, &mut Receives { channel });
-    let channel = LocalChannel::new(rt.alloc());
-    let streams = tries(&mut hoard, &mut Streams { channel });
+    let sends = tries_on_channel(rt.alloc(), &mut hoard, Made::Send);
+    let receives = tries_on_channel(rt.alloc(), &mut hoard, Made::Receive);
+    let streams = tries_on_channel(rt.alloc(), &mut hoard, Made::Stream);
     assert!(rt;
         sends.is_right(1) && receives.is_right(1) && streams.is_right(1),
         "sends: {sends:?}, receives: {receives:?}, streams: {streams:?}"
