@@ -2,7 +2,6 @@
 
 pub mod blocking;
 pub mod cases;
-pub mod hoard;
 pub mod making;
 pub mod played;
 pub mod rows;

@@ -5,7 +5,7 @@ use fi_sync::{Blocking, GenericChannel};
 use std::alloc::AllocGlobal;
 use std::test::Fail;
 use tests_driver::refusals::blocking::{SendsBlocking, is_refused_at_first};
-use tests_driver::refusals::hoard::Hoard;
+use tests_help::hoard::Hoard;
 
 type Growing<R> = GenericChannel<u64, GrowingHeapBuf<u64>, R>;
 

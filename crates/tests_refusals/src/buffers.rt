@@ -2,8 +2,8 @@
 use fi_parts::buffer::{ArrayBuf, FixedHeapBuf, GrowingHeapBuf, RingBuf};
 use std::alloc::Global;
 use std::test::Fail;
-use tests_driver::refusals::hoard::Hoard;
 use tests_driver::refusals::scene::{STEP, STEPS, Tried};
+use tests_help::hoard::Hoard;
 
 // How many tries are refused the buffer's room before one is not.
 fn refusals<B: RingBuf<Item = u64>>(alloc: Global, hoard: &mut Hoard, capacity: usize) -> Tried {

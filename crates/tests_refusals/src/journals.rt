@@ -9,8 +9,8 @@ use std::marker::Brand;
 use std::sync::Wait;
 use std::sync::ledger::{Blank, Ledger};
 use std::test::Fail;
-use tests_driver::refusals::hoard::Hoard;
 use tests_driver::refusals::scene::{STEP, STEPS, Tried, Try};
+use tests_help::hoard::Hoard;
 
 const CALLS: [EventCall<u64>; 4] = [
     EventCall::Set,

@@ -7,9 +7,9 @@ use fi_locks::{MutexState, SemaphoreState, TimerState};
 use fi_parts::{FuturesOf, LocalFuture, StateId};
 use std::alloc::Global;
 use std::test::Fail;
-use tests_driver::refusals::hoard::Hoard;
 use tests_driver::refusals::making::{Making, tries};
 use tests_driver::refusals::scene::Tried;
+use tests_help::hoard::Hoard;
 
 /// A primitive whose futures are made.
 #[derive(Drop)]

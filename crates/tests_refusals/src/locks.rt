@@ -8,8 +8,8 @@ use std::marker::Brand;
 use std::sync::Wait;
 use std::sync::ledger::{Blank, Ledger};
 use std::test::Fail;
-use tests_driver::refusals::hoard::Hoard;
 use tests_driver::refusals::scene::{STEP, STEPS};
+use tests_help::hoard::Hoard;
 
 // Whether three permits are free.
 fn has_three<R: Wait + Drop, L: Ledger>(semaphore: SharedSemaphore<R, L>) -> bool {

@@ -1,8 +1,8 @@
 //! The calls of the worker pool that take memory: a submit for which the queue has to grow, at first and later, and a wait.
 use fi_run::PoolState;
 use std::test::Fail;
-use tests_driver::refusals::hoard::Hoard;
 use tests_driver::refusals::scene_rows::{SceneRow, plain_tries_of_rows};
+use tests_help::hoard::Hoard;
 
 const CALLS: [SceneRow; 4] = [
     "wait a; poll a 1; submit 5 -> no-memory 5; start; start; finish; shutdown; start; finish; poll a 3",

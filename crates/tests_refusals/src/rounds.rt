@@ -4,7 +4,7 @@ use fi_channels::EventState;
 use fi_parts::Slot;
 use std::alloc::{AllocError, Global};
 use std::test::Fail;
-use tests_driver::refusals::hoard::Hoard;
+use tests_help::hoard::Hoard;
 
 /// So many waits live at once.
 const WAITS: u64 = 10_000;

@@ -13,12 +13,12 @@ use tests_driver::event::Event;
 use tests_driver::mutex::MutexOf;
 use tests_driver::one_value::{BROADCAST, ONESHOT};
 use tests_driver::refusals::cases::{Case, GROWS, MAKINGS, tries_on_channel};
-use tests_driver::refusals::hoard::Hoard;
 use tests_driver::refusals::scene::Tried;
 use tests_driver::refusals::scene_rows::{SceneRow, tries_of_rows};
 use tests_driver::semaphore::{ByOwners, ByReference, Opening};
 use tests_driver::state::StateBroadcast;
 use tests_driver::timer::Timer;
+use tests_help::hoard::Hoard;
 
 // Once the event was set and reset, and while it never was.
 const EVENT: [SceneRow; 2] = [

@@ -10,10 +10,10 @@ mod faults;
 #[cfg(test)]
 mod histories;
 #[cfg(test)]
-mod hoard;
-#[cfg(test)]
 mod program;
 #[cfg(test)]
 mod refusals;
+#[cfg(test)]
+mod rooms;
 #[cfg(test)]
 mod rows;

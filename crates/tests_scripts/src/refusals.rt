@@ -1,11 +1,12 @@
 //! Each request for memory is refused in turn. What was written is whole lines of the true output.
 
-use crate::hoard::{Hoard, Left, REGION};
+use crate::rooms::{Left, Rooms};
 use crate::rows::answer;
 use fi_scripts::{COLLECTED, LINE, ScriptFault, run_script};
 use std::alloc::{AllocError, Global};
 use std::process::Abort;
 use std::test::Fail;
+use tests_help::hoard::REGION;
 use tests_rows::{answers_of, channel, over_buffer, script_of, text_of, timer};
 
 /// The room that a short script is read into.
@@ -36,16 +37,16 @@ enum Ended {
 // Runs a script with so much memory.
 fn run_with(
     alloc: Global,
-    hoard: &mut Hoard,
+    rooms: &mut Rooms,
     left: Left,
     script: &[u8],
     wanted: &[u8],
 ) -> Result<Ended, AllocError> {
     let mut output = Vec::with_capacity(alloc, wanted.len())?;
     let mut reader = script;
-    let is_used_up = hoard.leave(left);
+    let is_used_up = rooms.leave(left);
     let ended = run_script(alloc, &mut reader, &mut output);
-    hoard.let_go();
+    rooms.let_go();
     if !is_used_up {
         return Ok(Ended::HasNoEnd);
     }
@@ -80,7 +81,7 @@ enum Tried {
 // Runs a script with ever more memory left besides its room and that of its answers, until it is answered.
 fn each_refusal(
     alloc: Global,
-    hoard: &mut Hoard,
+    rooms: &mut Rooms,
     script: &[u8],
     wanted: &[u8],
 ) -> Result<Tried, AllocError> {
@@ -91,7 +92,7 @@ fn each_refusal(
             answers: true,
             bytes: STEP * step,
         };
-        match run_with(alloc, hoard, left, script, wanted)? {
+        match run_with(alloc, rooms, left, script, wanted)? {
             Ended::Answered => return Ok(Tried::Answered { refused, begun }),
             Ended::Refused(written) => {
                 refused = refused.wrapping_add(1);
@@ -112,20 +113,20 @@ fn check_refusals(rt: &impl Abort, alloc: Global, row: &str) -> Result<(), Fail>
     let script = script_of(alloc, row)?;
     let wanted = answers_of(alloc, row)?;
     let (script, wanted) = (script.as_bytes(), wanted.as_bytes());
-    let mut hoard = Hoard::new(alloc, SCRIPT, COLLECTED + LINE)?;
+    let mut rooms = Rooms::new(alloc, SCRIPT, COLLECTED + LINE)?;
     for (script_room, answers_room) in [(false, false), (false, true), (true, false)] {
         let left = Left {
             script: script_room,
             answers: answers_room,
             bytes: 0,
         };
-        let ended = run_with(alloc, &mut hoard, left, script, wanted)?;
+        let ended = run_with(alloc, &mut rooms, left, script, wanted)?;
         assert!(rt;
             ended == Ended::Refused(0) || ended == Ended::HasNoEnd,
             "{left:?}: {ended:?}"
         );
     }
-    let tried = each_refusal(alloc, &mut hoard, script, wanted)?;
+    let tried = each_refusal(alloc, &mut rooms, script, wanted)?;
     let is_right = match tried {
         Tried::Answered { refused, begun } => 0 < begun && begun < refused,
         Tried::HasNoEnd => true,
@@ -178,7 +179,7 @@ fn a_long_line_is_refused_whole(rt: HostRuntime) -> Result<(), Fail> {
     let script = long_script(alloc)?;
     let (wanted, ended) = answer(alloc, script.as_bytes());
     assert_eq!(rt; ended, Ok(()));
-    let mut hoard = Hoard::new(alloc, LONG_SCRIPT, COLLECTED + LINE)?;
+    let mut rooms = Rooms::new(alloc, LONG_SCRIPT, COLLECTED + LINE)?;
     let left = Left {
         script: true,
         answers: true,
@@ -186,7 +187,7 @@ fn a_long_line_is_refused_whole(rt: HostRuntime) -> Result<(), Fail> {
     };
     let ended = run_with(
         alloc,
-        &mut hoard,
+        &mut rooms,
         left,
         script.as_bytes(),
         wanted.as_slice(),

@@ -7,18 +7,11 @@ use fi_sync::{
     Channel, ManualResetEvent, Mutex, OneshotBroadcastChannel, OneshotChannel, Semaphore,
     SharedSemaphore, StateBroadcastChannel, TimerService,
 };
-use std::alloc::{AllocGlobal, Global};
-use std::fmt;
+use std::alloc::AllocGlobal;
 use std::marker::Brand;
 use std::sync::Wait;
 use std::sync::ledger::{Blank, Ledger};
-
-fn shows<D: fmt::Debug>(alloc: Global, value: &D, wanted: &str) -> bool {
-    match format!(in alloc; "{value:?}") {
-        Ok(text) => text.as_str() == wanted,
-        Err(_) => false,
-    }
-}
+use tests_help::texts::shows;
 
 fn an_event_shows<R: Wait + AllocGlobal + Copy>(rt: R) -> Option<bool> {
     let event = ManualResetEvent::new(rt.alloc(), rt, false);

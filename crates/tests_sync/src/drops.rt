@@ -6,60 +6,9 @@ use fi_sync::{Blocking, Channel, StateBroadcastChannel, StateReceiveFuture};
 use futures::test::MockTask;
 use std::alloc::{AllocError, AllocGlobal};
 use std::sync::Wait;
-use std::sync::atomic::{AtomicBool, Ordering};
 use std::thread;
 use std::thread::Threads;
-
-// Where two threads meet: one in a value's drop, the other with a call.
-#[derive(Drop)]
-struct Meeting {
-    has_begun: AtomicBool,
-    was_called: AtomicBool,
-    was_met: AtomicBool,
-}
-
-impl Meeting {
-    fn new() -> Self {
-        Meeting {
-            has_begun: AtomicBool::new(false),
-            was_called: AtomicBool::new(false),
-            was_met: AtomicBool::new(false),
-        }
-    }
-}
-
-// Whether it came to be set. It looks a bounded number of times.
-fn was_set(flag: &AtomicBool) -> bool {
-    for _ in 0..10_000_000u32 {
-        if flag.load(Ordering::SeqCst) {
-            return true;
-        }
-        thread::yield_now();
-    }
-    false
-}
-
-// A value whose drop lasts until the other thread's call is over, unless that never comes. Its clones are let go at once.
-struct Guest<'a> {
-    meeting: Option<&'a Meeting>,
-}
-
-impl Clone for Guest<'_> {
-    fn clone(&self) -> Result<Self, AllocError> {
-        Ok(Guest { meeting: None })
-    }
-}
-
-impl Drop for Guest<'_> {
-    fn drop(self) {
-        let Guest { meeting } = self;
-        if let Some(meeting) = meeting {
-            meeting.has_begun.store(true, Ordering::SeqCst);
-            let is_met = was_set(&meeting.was_called);
-            meeting.was_met.store(is_met, Ordering::SeqCst);
-        }
-    }
-}
+use tests_help::meeting::{Guest, Meeting};
 
 /// What lets a value go, or clones it.
 trait Begins {
@@ -80,12 +29,12 @@ where
     C: Calls + Drop + Send,
 {
     let other = move || {
-        let _ = was_set(&meeting.has_begun);
+        let _ = meeting.has_begun();
         calls.call();
-        meeting.was_called.store(true, Ordering::SeqCst);
+        meeting.end_call();
     };
     let (is_right, ()) = thread::join(rt, move || begins.begin(), other);
-    is_right && meeting.was_met.load(Ordering::SeqCst)
+    is_right && meeting.was_met()
 }
 
 /// The replacement of a state.
@@ -169,9 +118,7 @@ struct Host<'a> {
 impl Clone for Host<'_> {
     fn clone(&self) -> Result<Self, AllocError> {
         if let Some(meeting) = self.meeting {
-            meeting.has_begun.store(true, Ordering::SeqCst);
-            let is_met = was_set(&meeting.was_called);
-            meeting.was_met.store(is_met, Ordering::SeqCst);
+            meeting.host();
         }
         Ok(Host { meeting: None })
     }

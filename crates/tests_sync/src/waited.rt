@@ -10,6 +10,7 @@ use std::sync::atomic::{AtomicBool, AtomicU64, Ordering};
 use std::thread::Threads;
 use std::time::{Clock, Duration};
 use std::{io, thread};
+use tests_help::meeting::was_set;
 
 mod channels;
 mod locks;
@@ -69,16 +70,6 @@ where
     is_given
 }
 
-// Looks until the flag is set, ten million times at most.
-fn look_for(flag: &AtomicBool) {
-    for _ in 0..10_000_000u32 {
-        if flag.load(Ordering::SeqCst) {
-            return;
-        }
-        thread::yield_now();
-    }
-}
-
 /// Whether a call blocks until another thread has brought about what it waits for, 20 milliseconds after the call has begun.
 pub(crate) fn has_blocked<R, W>(rt: &R, waited: W) -> bool
 where
@@ -96,7 +87,7 @@ where
         waited.blocks() && is_brought.load(Ordering::SeqCst)
     };
     let brings = move || {
-        look_for(has_begun);
+        let _ = was_set(has_begun);
         thread::sleep(rt, Duration::from_millis(20));
         is_brought.store(true, Ordering::SeqCst);
         waited.bring(means);

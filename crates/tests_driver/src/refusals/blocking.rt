@@ -1,7 +1,7 @@
 //! Sends that block: refused for want of memory they give their value back, and leave nothing in the channel.
-use super::hoard::Hoard;
 use super::making::{Making, tries};
 use fi_channels::TrySendError;
+use tests_help::hoard::Hoard;
 
 /// A channel, or its sender.
 pub trait SendsBlocking {

@@ -1,5 +1,4 @@
 //! Calls on channels that take memory.
-use super::hoard::Hoard;
 use super::scene::{Plain, Refusal, Tried};
 use super::scene_rows::{SceneRow, tries_of_rows};
 use crate::Flavour;
@@ -10,6 +9,7 @@ use fi_run::{Answer, ChannelCall, OneshotCall, Primitive};
 use std::alloc::AllocGlobal;
 use std::random::RandomSource;
 use std::sync::Wait;
+use tests_help::hoard::Hoard;
 
 const A: Slot = Slot(0);
 

@@ -1,6 +1,6 @@
 //! A call that makes something, and may be refused memory.
-use super::hoard::Hoard;
 use super::scene::{STEP, STEPS, Tried};
+use tests_help::hoard::Hoard;
 
 /// A call that makes something.
 pub trait Making {

@@ -1,5 +1,4 @@
 //! A scene played on what threads share: its call may be refused memory there, and is held against the plain state.
-use super::hoard::Hoard;
 use super::scene::{Plain, STEP, STEPS, Tried, tries_of};
 use crate::tasks::Tasks;
 use crate::{Flavour, Line, Opened, Play, Played, agrees, take_wakers};
@@ -7,6 +6,7 @@ use fi_run::{Answer, Primitive};
 use std::alloc::AllocGlobal;
 use std::random::RandomSource;
 use std::sync::Wait;
+use tests_help::hoard::Hoard;
 
 /// Plays a scene, its call with so many bytes left.
 #[derive(Drop)]

@@ -1,5 +1,4 @@
 //! Worked rows played on what threads share with no memory left, but for the makings: all other calls are answered, and wake, as ever.
-use super::hoard::Hoard;
 use crate::entries::{Entry, entries_of};
 use crate::tasks::Tasks;
 use crate::{Flavour, Opened, Play, Played, agrees};
@@ -8,6 +7,7 @@ use fi_scripts::Scripted;
 use std::alloc::AllocGlobal;
 use std::random::RandomSource;
 use std::sync::Wait;
+use tests_help::hoard::Hoard;
 
 /// Plays a row, each call but a making with no memory left.
 #[derive(Drop)]

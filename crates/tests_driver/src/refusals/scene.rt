@@ -1,9 +1,9 @@
 //! A call that may be refused memory, and how to come to it.
-use super::hoard::Hoard;
 use fi_parts::Fault;
 use fi_parts::memory::items_for;
 use fi_run::{Answer, Primitive};
 use std::alloc::Global;
+use tests_help::hoard::Hoard;
 
 /// The step by which what is left grows: no block takes less.
 pub const STEP: usize = 32;

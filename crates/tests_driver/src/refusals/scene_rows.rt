@@ -1,5 +1,4 @@
 //! Scenes as text.
-use super::hoard::Hoard;
 use super::played::tries_on_both;
 use super::scene::{Plain, Refusal, Tried, tries_of};
 use crate::Flavour;
@@ -8,6 +7,7 @@ use fi_scripts::Scripted;
 use std::alloc::{AllocGlobal, Global};
 use std::random::RandomSource;
 use std::sync::Wait;
+use tests_help::hoard::Hoard;
 use tests_rows::calls::Reader;
 
 /// The lines of a scene, apart by `; `. Behind the call that may be refused stands ` -> no-memory`, of a send or a submit with its value.

@@ -9,13 +9,7 @@ use futures_intrusive::channel::shared::{
 use std::alloc::{AllocGlobal, Global};
 use std::fmt;
 use tests_ends_calls::ReceivingEnd;
-
-fn shows<D: fmt::Debug>(alloc: Global, value: &D, wanted: &str) -> bool {
-    match format!(in alloc; "{value:?}") {
-        Ok(text) => text.as_str() == wanted,
-        Err(_) => false,
-    }
-}
+use tests_help::texts::shows;
 
 // Whether the sender and the receiver show these names.
 fn show<S, E>(alloc: Global, ends: Made<S, E>, sender: &str, receiver: &str) -> bool

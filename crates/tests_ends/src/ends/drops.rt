@@ -4,15 +4,15 @@ use super::Made;
 use fi_channels::TrySendError;
 use futures::test::MockTask;
 use futures_intrusive::channel::shared::{Sender, StateReceiver, channel, state_broadcast_channel};
-use std::alloc::{AllocError, AllocGlobal};
+use std::alloc::AllocGlobal;
 use std::process::Abort;
 use std::random::RandomSource;
 use std::rc::Rc;
 use std::sync::Wait;
-use std::sync::atomic::{AtomicBool, Ordering};
 use std::test::Fail;
 use std::thread;
 use tests_ends_calls::TriesToSend;
+use tests_help::meeting::{Guest, Meeting};
 
 type Counted = Rc<u64>;
 
@@ -108,63 +108,11 @@ fn last_receiver_drops_what_is_buffered(rt: HostRuntime) -> Result<(), Fail> {
     Ok(())
 }
 
-// Where two threads meet: one in a value's drop, the other with a call.
-#[derive(Drop)]
-struct Meeting {
-    has_begun: AtomicBool,
-    was_called: AtomicBool,
-    was_met: AtomicBool,
-}
-
-impl Meeting {
-    fn new() -> Self {
-        Meeting {
-            has_begun: AtomicBool::new(false),
-            was_called: AtomicBool::new(false),
-            was_met: AtomicBool::new(false),
-        }
-    }
-}
-
-// Whether it came to be set. It looks a bounded number of times.
-fn was_set(flag: &AtomicBool) -> bool {
-    for _ in 0..10_000_000u32 {
-        if flag.load(Ordering::SeqCst) {
-            return true;
-        }
-        thread::yield_now();
-    }
-    false
-}
-
-// A value whose drop lasts until the other thread's call is over, unless that never comes.
-struct Guest<'a> {
-    meeting: Option<&'a Meeting>,
-}
-
-impl Drop for Guest<'_> {
-    fn drop(self) {
-        let Guest { meeting } = self;
-        if let Some(meeting) = meeting {
-            meeting.has_begun.store(true, Ordering::SeqCst);
-            let is_met = was_set(&meeting.was_called);
-            meeting.was_met.store(is_met, Ordering::SeqCst);
-        }
-    }
-}
-
-// A clone meets nobody.
-impl Clone for Guest<'_> {
-    fn clone(&self) -> Result<Self, AllocError> {
-        Ok(Guest { meeting: None })
-    }
-}
-
 // Whether a send that is made once a value's drop has begun finds the channel closed.
 fn send_is_refused<'a, R: Wait + Drop>(sender: Sender<Guest<'a>, R>, meeting: &'a Meeting) -> bool {
-    let has_begun = was_set(&meeting.has_begun);
+    let has_begun = meeting.has_begun();
     let sent = sender.try_send(Guest { meeting: None });
-    meeting.was_called.store(true, Ordering::SeqCst);
+    meeting.end_call();
     has_begun && matches!(sent, Err(TrySendError::Closed(_)))
 }
 
@@ -180,7 +128,7 @@ fn cleared_values_are_let_go_without_the_lock(rt: HostRuntime) {
     assert!(rt; sender.try_send(guest).is_ok());
     let sends = move || send_is_refused(sender, meeting);
     let ((), is_refused) = thread::join(&rt, move || drop(receiver), sends);
-    assert!(rt; is_refused && meeting.was_met.load(Ordering::SeqCst));
+    assert!(rt; is_refused && meeting.was_met());
 }
 
 // Whether the channel is found open once a value's drop has begun.
@@ -188,9 +136,9 @@ fn is_open<'a, R: Wait + Drop>(
     receiver: StateReceiver<Guest<'a>, R>,
     meeting: &'a Meeting,
 ) -> bool {
-    let has_begun = was_set(&meeting.has_begun);
+    let has_begun = meeting.has_begun();
     let is_open = !receiver.is_closed();
-    meeting.was_called.store(true, Ordering::SeqCst);
+    meeting.end_call();
     has_begun && is_open
 }
 
@@ -206,5 +154,5 @@ fn replaced_states_are_let_go_without_the_lock(rt: HostRuntime) {
     assert!(rt; sender.send(guest).is_ok());
     let sends = move || sender.send(Guest { meeting: None }).is_ok();
     let (is_sent, is_open) = thread::join(&rt, sends, move || is_open(receiver, meeting));
-    assert!(rt; is_sent && is_open && meeting.was_met.load(Ordering::SeqCst));
+    assert!(rt; is_sent && is_open && meeting.was_met());
 }

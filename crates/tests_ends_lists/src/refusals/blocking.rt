@@ -5,7 +5,7 @@ use futures_intrusive::channel::shared::{Sender, channel};
 use std::alloc::AllocGlobal;
 use std::test::Fail;
 use tests_driver::refusals::blocking::{SendsBlocking, is_refused_at_first};
-use tests_driver::refusals::hoard::Hoard;
+use tests_help::hoard::Hoard;
 
 #[derive(Drop)]
 struct Sending<R: Blocking + Drop> {

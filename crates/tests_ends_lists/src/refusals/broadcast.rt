@@ -2,7 +2,7 @@
 use futures_intrusive::blocking::Blocking;
 use futures_intrusive::channel::shared::oneshot_broadcast_channel;
 use std::alloc::AllocGlobal;
-use tests_driver::refusals::hoard::Hoard;
+use tests_help::hoard::Hoard;
 
 // Whether the clone takes no memory, counts as a receiver, and receives.
 fn clone_counts<R: Blocking + Copy + Drop>(rt: &R) -> Option<bool> {

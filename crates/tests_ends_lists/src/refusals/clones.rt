@@ -4,8 +4,8 @@ use futures_intrusive::channel::shared::{Sender, StateSender, channel, state_bro
 use std::alloc::AllocGlobal;
 use std::sync::Wait;
 use std::test::Fail;
-use tests_driver::refusals::hoard::Hoard;
 use tests_ends_calls::{ClonedEnd, SendsAtOnce, TriesToSend};
+use tests_help::hoard::Hoard;
 
 /// A sender of many values or of states.
 trait Sends: ClonedEnd {

@@ -7,9 +7,9 @@ use futures_intrusive::channel::shared::{oneshot_broadcast_channel, state_broadc
 use std::alloc::{AllocGlobal, Global};
 use std::test::Fail;
 use tests_driver::pollable::Pollable;
-use tests_driver::refusals::hoard::Hoard;
 use tests_driver::refusals::making::{Making, tries};
 use tests_ends_calls::{ReceivesOne, ReceivesStates, SendsAtOnce};
+use tests_help::hoard::Hoard;
 
 const BYTES: &[u8] = b"seven and seventy bytes";
 

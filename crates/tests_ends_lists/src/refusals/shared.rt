@@ -8,8 +8,8 @@ use futures_intrusive::channel::shared::{
 use std::alloc::{AllocGlobal, Global};
 use std::sync::Wait;
 use std::test::Fail;
-use tests_driver::refusals::hoard::Hoard;
 use tests_driver::refusals::making::{Making, tries};
+use tests_help::hoard::Hoard;
 
 /// Two ends of the kind with this number.
 #[derive(Drop)]

@@ -10,11 +10,11 @@ use std::test::Fail;
 use tests_driver::refusals::cases::{
     Case, FIFTH, GROWS, MAKINGS, REFUSED, receive_of_one_value, tries_on_channel,
 };
-use tests_driver::refusals::hoard::Hoard;
 use tests_driver::refusals::played::tries_on;
 use tests_driver::refusals::scene::{Plain, Tried};
 use tests_ends_driver::channel_ends::{ChannelEnds, Closer};
 use tests_ends_driver::ends::{BroadcastEnds, OneshotEnds, StateEnds};
+use tests_help::hoard::Hoard;
 
 const A: Slot = Slot(0);
 

@@ -3,7 +3,6 @@
 //! A test is a process of its own, whose addresses soon come to an end. Nothing of what is taken is touched, but for a page in each of
 //! some eight thousand large blocks.
 use std::alloc::{AllocError, Global};
-use std::test::Fail;
 
 /// The largest block that is asked for.
 const LARGEST: usize = 1 << 44;
@@ -22,72 +21,41 @@ const PLACES: usize = 20_000;
 /// itself, and then small blocks could not be cut from its memory.
 pub const REGION: usize = 96 << 10;
 
-/// A block that is taken and let go again and again, always in its own place.
-#[derive(Drop)]
-struct Room {
-    size: usize,
-    block: Option<Vec<u8>>,
-}
-
-impl Room {
-    fn new(alloc: Global, size: usize) -> Result<Self, AllocError> {
-        Ok(Room {
-            size,
-            block: Some(Vec::with_capacity(alloc, size)?),
-        })
-    }
-
-    fn let_go(&mut self) {
-        self.block = None;
-    }
-
-    fn take_again(&mut self, alloc: Global) {
-        if self.block.is_none() {
-            self.block = Vec::with_capacity(alloc, self.size).ok();
-        }
-    }
-}
-
-/// What a try has of memory.
-#[derive(Clone, Copy, Debug)]
-pub struct Left {
-    /// Whether there is room for a script.
-    pub script: bool,
-    /// Whether there is room for the answers that are collected.
-    pub answers: bool,
-    /// So many bytes besides, at most a region.
-    pub bytes: usize,
-}
-
-/// All memory that the process can have, with rooms for a script and for the answers that are collected.
+/// All memory that the process can have.
 #[derive(Drop)]
 pub struct Hoard {
     alloc: Global,
     kept: Vec<Vec<u8>>,
     taken: Vec<Vec<u8>>,
-    script: Room,
-    answers: Room,
+    has_end: bool,
 }
 
 impl Hoard {
-    /// Takes all large blocks but one, of which it makes rooms of these sizes.
-    pub fn new(alloc: Global, script: usize, answers: usize) -> Result<Self, AllocError> {
+    /// Takes all large blocks but one, and tries once whether memory comes to an end.
+    pub fn new(alloc: Global) -> Result<Self, AllocError> {
         let mut kept = Vec::with_capacity(alloc, PLACES)?;
         let taken = Vec::with_capacity(alloc, PLACES)?;
         take_down(alloc, &mut kept, LARGEST, WORKING);
         kept.pop();
-        Ok(Hoard {
+        let mut hoard = Hoard {
             alloc,
             kept,
             taken,
-            script: Room::new(alloc, script)?,
-            answers: Room::new(alloc, answers)?,
-        })
+            has_end: false,
+        };
+        hoard.has_end = hoard.leave(0);
+        hoard.let_go();
+        Ok(hoard)
     }
 
-    /// Takes all but what is to be left. Answers whether nothing more could be had; where the allocator has no end (as in a run without
-    /// proofs), it can.
-    pub fn leave(&mut self, left: Left) -> bool {
+    /// Whether memory came to an end at the first try. Where it has one, each later try has to find it too.
+    pub fn has_end(&self) -> bool {
+        self.has_end
+    }
+
+    /// Takes all but so many bytes, at most a region. Answers whether nothing more can be had; where the allocator has no end (as in a run
+    /// without proofs), it can.
+    pub fn leave(&mut self, bytes: usize) -> bool {
         let region: Result<Vec<u8>, AllocError> = Vec::with_capacity(self.alloc, REGION);
         take_down(self.alloc, &mut self.taken, WORKING, SMALL);
         let mut size = SMALL;
@@ -97,22 +65,14 @@ impl Hoard {
         }
         let is_used_up = !take(self.alloc, &mut self.taken, 8);
         drop(region);
-        if left.bytes < REGION {
-            take(self.alloc, &mut self.taken, REGION - left.bytes);
-        }
-        if left.script {
-            self.script.let_go();
-        }
-        if left.answers {
-            self.answers.let_go();
+        if bytes < REGION {
+            take(self.alloc, &mut self.taken, REGION - bytes);
         }
         is_used_up && self.taken.len() < PLACES
     }
 
-    /// Takes the rooms again, and lets go of what `leave` took.
+    /// Lets go of what `leave` took.
     pub fn let_go(&mut self) {
-        self.script.take_again(self.alloc);
-        self.answers.take_again(self.alloc);
         self.taken.clear();
     }
 }
@@ -149,25 +109,13 @@ fn take_down(alloc: Global, held: &mut Vec<Vec<u8>>, largest: usize, least: usiz
     }
 }
 
-#[test]
-fn memory_runs_out(rt: HostRuntime) -> Result<(), Fail> {
-    let mut hoard = Hoard::new(rt.alloc(), 64, 64)?;
-    let is_used_up = hoard.leave(Left {
-        script: false,
-        answers: false,
-        bytes: 0,
-    });
-    let is_refused = !can_have(rt.alloc(), 64);
+/// Whether memory runs out where a hoard has it all, and can be had again once the hoard has let it go.
+pub fn runs_out(alloc: Global) -> Result<bool, AllocError> {
+    let mut hoard = Hoard::new(alloc)?;
+    let is_used_up = hoard.leave(0);
+    let is_refused = !can_have(alloc, 64);
     hoard.let_go();
-    assert!(rt;
-        is_used_up && is_refused,
-        "this process is refused no memory"
-    );
-    assert!(rt;
-        can_have(rt.alloc(), 64),
-        "what was let go can be had again"
-    );
-    Ok(())
+    Ok(is_used_up && is_refused && can_have(alloc, 64))
 }
 
 // Whether a block of this size can be had.
