@@ -44,6 +44,7 @@ impl<T: Drop> LocalMutexGuard<T> {
         let LocalMutexGuard { value } = self;
         match mutex.unlock(value) {
             Ok(()) => {}
+            // A guard has the value, so the mutex has none.
             Err(_value) => unreachable!(),
         }
     }

@@ -1,4 +1,6 @@
 //! A list over live slots: who waits, the youngest first.
+//!
+//! `is_listed` and `fits` do nothing. They are called for their clauses: what holds of every list.
 ghost use Rattle.std.specs.Prelude.{◌≡◌, ℕ, ◌+◌, ◌≤◌, ◌<◌, ◌^◌, ◌==◌, ◌++◌, ◌∷◌, List, [], Some, None, true, false, IfOk, IfErr};
 ghost use Rattle.std.specs.Prelude.{IfSome, IfNone, OnErr, OnSome, length, option_copied, MatchOption};
 ghost use Rattle.std.specs.Option.{option_copied_mut};

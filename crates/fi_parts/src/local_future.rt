@@ -85,6 +85,7 @@ impl<K> LocalFuture<K> {
     {
         match self.poll_at_if_live(state, at, waker) {
             Some(answer) => answer,
+            // It is live, as `poll_at` requires.
             None => unreachable!(),
         }
     }

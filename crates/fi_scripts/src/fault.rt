@@ -44,6 +44,7 @@ impl ScriptFault {
     {
         match Refused::of(fault) {
             Some(refused) => ScriptFault::from(refused),
+            // The fault is a refusal, as the call requires.
             None => unreachable!(),
         }
     }

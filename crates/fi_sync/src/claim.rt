@@ -67,6 +67,7 @@ impl<K> Claim<K> {
     {
         match place.replace(self) {
             None => {}
+            // The place is empty, as the call requires.
             Some(_) => unreachable!(),
         }
     }

@@ -145,6 +145,7 @@ impl<T: Drop, L: Ledger> CountedMutex<T, L> {
         self.tally.take_in(hold);
         match self.state.unlock(value) {
             Ok(()) => {}
+            // A hold is alive, so the mutex is locked.
             Err(_value) => unreachable!(),
         }
     }

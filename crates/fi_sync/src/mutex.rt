@@ -346,6 +346,7 @@ impl<M: HasMonitor<State = CountedMutex<T, L>>, T: Drop, L: Ledger> Future
         match self.future.poll(cx) {
             Poll::Ready(Ok(locked)) => match self.guard_monitor.take() {
                 Some(monitor) => Poll::Ready(Ok(MutexGuardOf::of(monitor, locked))),
+                // A future is given the lock once, and has the monitor until then.
                 None => unreachable!(),
             },
             Poll::Ready(Err(fault)) => Poll::Ready(Err(fault)),

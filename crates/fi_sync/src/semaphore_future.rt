@@ -85,6 +85,7 @@ impl<M: HasMonitor<State = CountedSemaphore<L>>, L: Ledger> Future
         match self.future.poll(cx) {
             Poll::Ready(Ok(grant)) => match self.releaser_monitor.take() {
                 Some(monitor) => Poll::Ready(Ok(SemaphoreReleaserOf::of(monitor, grant))),
+                // A future is granted permits once, and has the monitor until then.
                 None => unreachable!(),
             },
             Poll::Ready(Err(fault)) => Poll::Ready(Err(fault)),

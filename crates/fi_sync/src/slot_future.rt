@@ -69,6 +69,7 @@ fn no_waker(refused: Option<Refused>) -> Fault
 {
     match refused {
         Some(refused) => Fault::from(refused),
+        // It was refused, as the call requires.
         None => unreachable!(),
     }
 }

@@ -60,6 +60,7 @@ impl<T: Drop, B: RingBuf<Item = T>, R: Wait + Drop> GenericReceiver<T, B, R> {
             }),
             Err(fault) => match Refused::of(fault) {
                 Some(refused) => Err(NoRoom::of(self, refused)),
+                // A making is refused for want of memory alone.
                 None => unreachable!(),
             },
         }

@@ -73,8 +73,10 @@ impl<T: Drop> Block<T> {
         match &mut self.ring {
             Some(ring) => match ring.try_push_back(item) {
                 Ok(()) => {}
+                // There is room, as `push` requires.
                 Err(_item) => unreachable!(),
             },
+            // What has room or items has a ring.
             None => unreachable!(),
         }
     }
@@ -89,8 +91,10 @@ impl<T: Drop> Block<T> {
         match &mut self.ring {
             Some(ring) => match ring.pop_front() {
                 Some(item) => item,
+                // There is an item, as `pop` requires.
                 None => unreachable!(),
             },
+            // What has room or items has a ring.
             None => unreachable!(),
         }
     }

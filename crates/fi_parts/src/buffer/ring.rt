@@ -111,6 +111,7 @@ impl<T: Drop> Ring<T> {
         self.count -= 1;
         match oldest {
             Some(item) => item,
+            // The places from `start` on hold the items.
             None => unreachable!(),
         }
     }
