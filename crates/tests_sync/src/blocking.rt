@@ -14,7 +14,7 @@ use std::alloc::{Alloc, AllocGlobal};
 use std::marker::Brand;
 use std::random::RandomSource;
 use std::sync::Wait;
-use std::sync::atomic::{AtomicBool, AtomicU64, Ordering};
+use std::sync::atomic::{AtomicU64, Ordering};
 use std::sync::ledger::{Blank, Ledger};
 use std::thread::Threads;
 use std::time::{Clock, Duration};
@@ -272,18 +272,6 @@ fn calls_without_an_executor_lose_nothing(rt: HostRuntime) {
     assert!(rt; loses_nothing(&channel));
 }
 
-// Lets time pass until it is over.
-fn tick<R: Wait>(timer: &TimerService<Shown<'_>, R>, time: &AtomicU64, is_over: &AtomicBool) {
-    for _ in 0..10_000_000u32 {
-        if is_over.load(Ordering::SeqCst) {
-            return;
-        }
-        time.fetch_add(1, Ordering::SeqCst);
-        timer.check_expirations();
-        thread::yield_now();
-    }
-}
-
 // Lets five milliseconds pass as soon as somebody waits, and keeps the moment that is waited for.
 fn skip_ahead<R: Wait>(timer: &TimerService<Shown<'_>, R>, time: &AtomicU64, moment: &AtomicU64) {
     for _ in 0..10_000_000u32 {
@@ -297,7 +285,8 @@ fn skip_ahead<R: Wait>(timer: &TimerService<Shown<'_>, R>, time: &AtomicU64, mom
     }
 }
 
-// The moment at which a wait for at most five milliseconds is over, if what is waited for doesn't come.
+// The moment at which a wait for at most five milliseconds is over, while what is waited for doesn't come. None unless the wait goes on
+// then, and ends once that has come.
 fn limit_of<'a, 'b, R>(
     rt: &'a R,
     timer: &'a TimerService<Shown<'b>, R>,
@@ -308,12 +297,16 @@ where
     R: Blocking + Threads + Send + Sync,
 {
     let mut wait = event.wait().ok()?;
+    let limit = Duration::from_millis(5);
     let moment = &AtomicU64::new(0);
     let late = thread::scope(thread::scope_env(), rt, |scope| {
         let _ = scope.spawn(move || skip_ahead(timer, time, moment));
-        timer.wait_at_most(Duration::from_millis(5), &mut wait)
+        timer.wait_at_most(limit, &mut wait)
     });
-    (late == Ok(None)).then_some(moment.load(Ordering::SeqCst))
+    event.set();
+    let came = timer.wait_at_most(limit, &mut wait);
+    let are_right = late == Ok(None) && came == Ok(Some(Ok(())));
+    are_right.then_some(moment.load(Ordering::SeqCst))
 }
 
 #[test]
@@ -322,45 +315,4 @@ fn a_wait_is_over_at_its_limit(rt: HostRuntime) {
     let timer = TimerService::new(rt.alloc(), rt, Shown { time });
     let event = ManualResetEvent::new(rt.alloc(), rt, false);
     assert_eq!(rt; limit_of(&rt, &timer, &event, time), Some(105));
-}
-
-// Whether a receive is waited for in vain, and then has its value.
-fn waits_twice<R: Blocking>(
-    timer: &TimerService<Shown<'_>, R>,
-    channel: &Channel<u64, 1, R>,
-) -> bool {
-    let Ok(mut receive) = channel.receive() else {
-        return false;
-    };
-    let limit = Duration::from_millis(5);
-    let late = timer.wait_at_most(limit, &mut receive);
-    let is_sent = channel.try_send(3).is_ok();
-    let came = timer.wait_at_most(limit, &mut receive);
-    late == Ok(None) && is_sent && came == Ok(Some(Ok(Some(3))))
-}
-
-fn waits_while_time_passes<'a, 'b, R>(
-    rt: &'a R,
-    timer: &'a TimerService<Shown<'b>, R>,
-    channel: &'a Channel<u64, 1, R>,
-    time: &'a AtomicU64,
-) -> bool
-where
-    R: Blocking + Threads + Send + Sync,
-{
-    let is_over = &AtomicBool::new(false);
-    thread::scope(thread::scope_env(), rt, |scope| {
-        let _ = scope.spawn(move || tick(timer, time, is_over));
-        let is_right = waits_twice(timer, channel);
-        is_over.store(true, Ordering::SeqCst);
-        is_right
-    })
-}
-
-#[test]
-fn a_wait_is_over_with_its_time(rt: HostRuntime) {
-    let time = &AtomicU64::new(0);
-    let timer = TimerService::new(rt.alloc(), rt, Shown { time });
-    let channel = Channel::new(rt.alloc(), rt);
-    assert!(rt; waits_while_time_passes(&rt, &timer, &channel, time));
 }

@@ -3,7 +3,7 @@ ghost use Rattle.fi_sync.specs.Blanks.{IsLockBlank, IsPermitBlank};
 
 use crate::timer::Shown;
 use crate::waited::{Moment, Receives, Sends, has_crossed};
-use fi_parts::buffer::FixedHeapBuf;
+use fi_parts::buffer::{FixedHeapBuf, RingBuf};
 use fi_sync::{
     Blocking, Channel, GenericChannel, ManualResetEvent, Mutex, OneshotBroadcastChannel,
     OneshotChannel, Semaphore, SharedSemaphore, StateBroadcastChannel, TimerService,
@@ -50,19 +50,26 @@ fn state_crosses_threads(rt: HostRuntime) {
     assert!(rt; channel.close().is_newly_closed() && channel.is_closed());
 }
 
+// Whether a receive and a send that are moved to a thread end there.
+fn channel_crosses<R, B>(rt: &R, channel: &GenericChannel<u64, B, R>) -> bool
+where
+    R: Blocking + Threads + Copy + Drop + Send + Sync,
+    B: RingBuf<Item = u64> + Send + Sync,
+{
+    has_crossed(rt, Receives(channel)) && has_crossed(rt, Sends(channel))
+}
+
 #[test]
 fn channel_crosses_threads(rt: HostRuntime) {
     let channel = sends(Channel::<u64, 1, _>::new(rt.alloc(), rt));
-    let channel = shares(&channel);
-    assert!(rt; has_crossed(&rt, Receives(channel)) && has_crossed(&rt, Sends(channel)));
+    assert!(rt; channel_crosses(&rt, shares(&channel)));
 }
 
 #[test]
 fn heap_channel_crosses_threads(rt: HostRuntime) {
     let made = GenericChannel::<u64, FixedHeapBuf<u64>, _>::with_capacity(rt.alloc(), rt, 1);
     let channel = sends(made.ok().expect(&rt, "memory"));
-    let channel = shares(&channel);
-    assert!(rt; has_crossed(&rt, Receives(channel)) && has_crossed(&rt, Sends(channel)));
+    assert!(rt; channel_crosses(&rt, shares(&channel)));
 }
 
 // Whether a stream that is moved to another thread goes on there.

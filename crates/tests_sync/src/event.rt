@@ -87,25 +87,6 @@ fn were_polled(polls: &AtomicU64, count: u64) -> bool {
     false
 }
 
-// Whether an executor's wait ends by a set that comes once the wait is registered.
-fn executor_waits<R: Blocking + Threads + Copy + Send + Sync>(rt: R) -> bool {
-    let event = &ManualResetEvent::new(rt.alloc(), rt, false);
-    let (rt, polls) = (&rt, &AtomicU64::new(0));
-    let wait = move || is_told_to_stop(rt, event, polls);
-    let setter = move || {
-        let was_polled = were_polled(polls, 1);
-        event.set();
-        was_polled
-    };
-    let (is_told, was_polled) = thread::join(rt, wait, setter);
-    is_told && was_polled
-}
-
-#[test]
-fn an_executor_waits(rt: HostRuntime) {
-    assert!(rt; executor_waits(rt));
-}
-
 fn meet<R: Wait>(mine: &ManualResetEvent<R>, other: &ManualResetEvent<R>, task: &MockTask) -> bool {
     mine.set();
     let Ok(mut wait) = other.wait() else {
