@@ -5,14 +5,14 @@ use Rattle.fi_parts.specs.declared.errors.CloseStatus.TheVariants.{NewlyClosed, 
 use Rattle.fi_parts.specs.declared.errors.Fault.{Fault}
 use Rattle.fi_parts.specs.declared.errors.Fault.TheVariants.{NoMemory, NoSlot, Closed}
 use Rattle.fi_parts.specs.Machine.{phase_at}
-use Rattle.fi_channels.specs.Oneshot.{OneshotMachine, Giving, opened, can_receive, MayLack, Makes, Polls, Cancels}
-use Rattle.fi_channels.specs.Oneshot.{Sends, Closes, Wakes}
+use Rattle.fi_channels.specs.Oneshot.{OneshotMachine, Giving, opened, can_receive, MayLack, MayRefuseNow, Makes, Polls, Cancels}
+use Rattle.fi_channels.specs.Oneshot.{TriesReceive, Sends, Closes, Wakes}
 use Rattle.fi_channels.specs.Oneshot.{IsSound, OwesNoWake}
 use Rattle.fi_run.specs.Run.{AfterEveryRun}
 use Rattle.fi_run.specs.declared.answer.Answer.{Answer}
 use Rattle.fi_run.specs.declared.answer.Answer.TheVariants.{Made, Pending, Item, Nothing, Done, Newly, Already, Woken, Back, Refused}
 use Rattle.fi_run.specs.declared.oneshot.OneshotCall.{OneshotCall}
-use Rattle.fi_run.specs.declared.oneshot.OneshotCall.TheVariants.{Receive, Poll, Cancel, Send, Close, NextWake}
+use Rattle.fi_run.specs.declared.oneshot.OneshotCall.TheVariants.{Receive, Poll, Cancel, TryReceive, Send, Close, NextWake}
 
 module _ {T W : Type 0} where
   -- when a call on a channel that gives its value so may be refused with this fault
@@ -21,6 +21,7 @@ module _ {T W : Type 0} where
   MayRefuse giving old (Poll slot waker) NoSlot = can_receive (phase_at old slot.0) ≡ false
   MayRefuse giving old (Poll slot waker) NoMemory = MayLack giving (phase_at old slot.0) old.own
   MayRefuse giving old (Cancel slot) NoSlot = phase_at old slot.0 ≡ None
+  MayRefuse giving old TryReceive fault = MayRefuseNow giving old.own fault
   MayRefuse giving old call fault = ⊥
 
   -- From old, a channel that gives its value so may give this answer to the call and go on to new.
@@ -31,6 +32,8 @@ module _ {T W : Type 0} where
   Step giving old (Poll slot waker) (Item value) new = Polls giving old slot.0 waker (polled.Ready (Some value)) new
   Step giving old (Poll slot waker) Nothing new = Polls giving old slot.0 waker (polled.Ready None) new
   Step giving old (Cancel slot) Done new = Cancels old slot.0 new
+  Step giving old TryReceive (Item value) new = TriesReceive giving old (Ok (Some value)) new
+  Step giving old TryReceive Nothing new = TriesReceive giving old (Ok None) new
   Step giving old (Send value) Done new = Sends old value (Ok tt) new
   Step giving old (Send value) (Back given Closed) new = (given ≡ value) × Sends old value (Err (record { 0 = value })) new
   Step giving old Close Newly new = Closes old NewlyClosed new

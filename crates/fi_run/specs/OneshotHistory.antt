@@ -9,7 +9,7 @@ use Rattle.fi_channels.specs.Oneshot.{OneshotMachine, Giving}
 use Rattle.fi_run.specs.declared.answer.Answer.{Answer}
 use Rattle.fi_run.specs.declared.answer.Answer.TheVariants.{Item, Done, Newly, Refused}
 use Rattle.fi_run.specs.declared.oneshot.OneshotCall.{OneshotCall}
-use Rattle.fi_run.specs.declared.oneshot.OneshotCall.TheVariants.{Poll, Cancel, Send, Close}
+use Rattle.fi_run.specs.declared.oneshot.OneshotCall.TheVariants.{Poll, Cancel, TryReceive, Send, Close}
 use Rattle.fi_run.specs.WakerChanges.{Subject, on_wakers}
 use Rattle.fi_run.specs.WakerChanges.Subject.{Polling, Cancelling, Other}
 
@@ -52,9 +52,10 @@ module _ {T W : Type 0} where
   abbrev pub received_step : OneshotCall T W → Answer T W → List T → List T
   received_step call (Refused fault) before = before
   received_step (Poll slot waker) (Item value) before = value ∷ before
+  received_step TryReceive (Item value) before = value ∷ before
   received_step call answer before = before
 
-  -- the values that polls gave, the newest first
+  -- the values that receives gave, by a poll or at once, the newest first
   abbrev pub received : List (OneshotCall T W × Answer T W) → List T
   received [] = []
   received (entry ∷ history) = received_step entry.0 entry.1 (received history)
@@ -113,10 +114,11 @@ module _ {T W : Type 0} where
   DeliversAfter giving [] call answer = ⊤
   DeliversAfter giving (value ∷ earlier) (Poll slot waker) (Refused NoSlot) = ⊤
   DeliversAfter giving (value ∷ earlier) (Poll slot waker) answer = GivesOf giving value answer
+  DeliversAfter giving (value ∷ earlier) TryReceive answer = GivesOf giving value answer
   DeliversAfter giving (value ∷ earlier) call answer = ⊤
 
-  -- Once a value was put in every poll gives of it, whatever is closed later, or is refused: for want of memory, or as no receive
-  -- of this name can be polled.
+  -- Once a value was put in every poll, and every receive at once, gives of it, whatever is closed later, or is refused: for want of
+  -- memory, or as no receive of the polled name can be polled.
   abbrev pub Delivers : Giving T → OneshotMachine T W → List (OneshotCall T W × Answer T W) → Type 0
   Delivers giving first [] = ⊤
   Delivers giving first (entry ∷ history) = DeliversAfter giving (accepted first history) entry.0 entry.1 × Delivers giving first history

@@ -7,8 +7,8 @@ use Rattle.futures.specs.declared.task.Poll.TheVariants as polled
 use Rattle.fi_parts.specs.declared.errors.ChannelSendError.{ChannelSendError}
 use Rattle.fi_parts.specs.declared.errors.CloseStatus.{CloseStatus}
 use Rattle.fi_parts.specs.declared.errors.CloseStatus.TheVariants.{NewlyClosed, AlreadyClosed}
+use Rattle.fi_parts.specs.declared.errors.Fault.TheVariants as faults
 use Rattle.fi_parts.specs.declared.errors.Fault.TheVariants.{Closed, NoMemory, NoSlot}
-use Rattle.fi_parts.specs.declared.errors.Slot.{Slot}
 use Rattle.fi_parts.specs.declared.phase.Phase.{Phase}
 use Rattle.fi_parts.specs.declared.phase.Phase.TheVariants.{Fresh, Registered}
 use Rattle.fi_parts.specs.Machine.{phase_at}
@@ -19,14 +19,14 @@ use Rattle.fi_parts.proofs.Machines.{line_preserves, unchanged, inserts, removes
 use Rattle.fi_parts.proofs.WakerHistories.{line_keeps_wakers, kept_at_first}
 use Rattle.fi_channels.specs.declared.content.Content.{Content}
 use Rattle.fi_channels.specs.declared.content.Content.TheVariants.{Empty, Full, Spent}
-use Rattle.fi_channels.specs.Oneshot.{OneshotMachine, Giving, taking, left_by, can_receive, MayLack}
-use Rattle.fi_channels.specs.Oneshot.{FreshPolls, PollsAs, SendsAt, ClosesAt, IsSound, OwesNoWake}
+use Rattle.fi_channels.specs.Oneshot.{OneshotMachine, Giving, GivesFrom, taking, left_by, can_receive, has_closed, MayLack}
+use Rattle.fi_channels.specs.Oneshot.{MayLackFor, FreshPolls, PollsAs, TriesReceive, SendsAt, ClosesAt, IsSound, OwesNoWake}
 use Rattle.fi_channels.specs.OneshotLaws as laws
 use Rattle.fi_channels.specs.OneshotLaws.{rules, full_empty, spent_empty}
 use Rattle.fi_run.specs.declared.answer.Answer.{Answer}
 use Rattle.fi_run.specs.declared.answer.Answer.TheVariants.{Made, Pending, Item, Nothing, Done, Newly, Already, Woken, Back, Refused}
 use Rattle.fi_run.specs.declared.oneshot.OneshotCall.{OneshotCall}
-use Rattle.fi_run.specs.declared.oneshot.OneshotCall.TheVariants.{Receive, Poll, Cancel, Send, Close, NextWake}
+use Rattle.fi_run.specs.declared.oneshot.OneshotCall.TheVariants.{Receive, Poll, Cancel, TryReceive, Send, Close, NextWake}
 use Rattle.fi_run.specs.Outgoing.{TakesOldest, machine_outgoing}
 use Rattle.fi_run.specs.OutgoingLaws.{pops_oldest}
 use Rattle.fi_run.specs.WakerChanges.{on_wakers}
@@ -94,6 +94,8 @@ module _ {T W : Type 0} (giving : Giving T) where
   is_line old (Poll slot waker) (Item value) new did = (laws.polled giving old slot.0 waker (polled.Ready (Some value)) new did).line
   is_line old (Poll slot waker) Nothing new did = (laws.polled giving old slot.0 waker (polled.Ready None) new did).line
   is_line old (Cancel slot) Done new did = removes rules slot.0 old new did
+  is_line old TryReceive (Item value) new did = laws.tried old new giving (Ok (Some value)) did
+  is_line old TryReceive Nothing new did = laws.tried old new giving (Ok None) did
   is_line old (Send value) Done new did = laws.sent old new value (Ok tt) did
   is_line old (Send value) (Back given Closed) new did = laws.sent old new value (Err (record { 0 = value })) did.1
   is_line old Close Newly new did = laws.closed old new NewlyClosed did
@@ -123,18 +125,33 @@ module _ {T W : Type 0} (giving : Giving T) where
     poll_after : OwesNoWake old → PollsAs giving (phase_at old name) old name waker answer new → AfterPoll old new answer
     poll_after no_wake did = poll_as (phase_at old name) refl no_wake did
 
+  module _ (old new : OneshotMachine T W) (answer : Option T) where
+    try_at : (content left : Content T) → old.own ≡ content → has_closed content ≡ true → GivesFrom giving content answer left →
+        new.own ≡ left → AfterPoll old new (polled.Ready answer)
+    try_at Empty left is closed gives now = absurd (both_ways false refl closed)
+    try_at (Full value) left is closed gives now =
+        subst (λ got. AfterPoll old new (polled.Ready got)) (sym gives.2) (value, is, gives.1, now ∙ gives.3)
+    try_at Spent left is closed gives now =
+        subst (λ got. AfterPoll old new (polled.Ready got)) (sym gives.0) (is, now ∙ gives.1 ∙ sym is)
+
+    -- what a receive at once found, and left: as a poll that is ready
+    try_after : TriesReceive giving old (Ok answer) new → AfterPoll old new (polled.Ready answer)
+    try_after did = try_at old.own did.1 refl did.0 did.2 did.3.0
+
   may_lack : (phase : Option (Phase W)) (content : Content T) (value : T) → content ≡ Full value → MayLack giving phase content →
       giving.may_lack value
   may_lack (Some Fresh) (Full held) value is lacks = subst giving.may_lack (full_same held value is) lacks
   may_lack phase content value is lacks = absurd lacks
 
   module _ (old : OneshotMachine T W) (new : OneshotMachine T W) (no_wake : OwesNoWake old) where
+    gives_at : (value given : T) → old.own ≡ Full value → AfterPoll old new (polled.Ready (Some given)) → giving.gives value given
+    gives_at value given full now = subst (λ (v : T). giving.gives v given) (full_same now.0 value (sym now.1 ∙ full)) now.2
+
     -- what each call was answered while the channel held this value
     delivers_after : (value : T) (earlier : List T) (call : OneshotCall T W) (answer : Answer T W) → old.own ≡ Full value →
         Step giving old call answer new → DeliversAfter giving (value ∷ earlier) call answer
     delivers_after value earlier (Poll slot waker) (Item given) full did =
-        let now = poll_after old new slot.0 waker (polled.Ready (Some given)) no_wake did in
-        subst (λ (v : T). giving.gives v given) (full_same now.0 value (sym now.1 ∙ full)) now.2
+        gives_at value given full (poll_after old new slot.0 waker (polled.Ready (Some given)) no_wake did)
     delivers_after value earlier (Poll slot waker) (Refused NoMemory) full did = may_lack (phase_at old slot.0) old.own value full did.0
     delivers_after value earlier (Poll slot waker) (Refused NoSlot) full did = tt
     delivers_after value earlier (Poll slot waker) (Refused fault) full did = absurd did.0
@@ -143,6 +160,14 @@ module _ {T W : Type 0} (giving : Giving T) where
     delivers_after value earlier (Poll slot waker) Nothing full did =
         absurd (full_spent value (sym full ∙ (poll_after old new slot.0 waker (polled.Ready None) no_wake did).0))
     delivers_after value earlier (Poll slot waker) answer full did = absurd did
+    delivers_after value earlier TryReceive (Item given) full did = gives_at value given full (try_after old new (Some given) did)
+    delivers_after value earlier TryReceive (Refused NoMemory) full did = subst (MayLackFor giving) full did.0
+    delivers_after value earlier TryReceive (Refused faults.Empty) full did =
+        absurd (both_ways (has_closed old.own) did.0 (ap has_closed full))
+    delivers_after value earlier TryReceive (Refused fault) full did = absurd did.0
+    delivers_after value earlier TryReceive Nothing full did =
+        absurd (full_spent value (sym full ∙ (try_after old new None did).0))
+    delivers_after value earlier TryReceive answer full did = absurd did
     delivers_after value earlier call answer full did = tt
 
     -- the same of a poll of a receive that may be polled
@@ -159,23 +184,35 @@ module _ {T W : Type 0} (giving : Giving T) where
         delivers_after value earlier call answer (kept_in giving old.own (value ∷ earlier) got closes value keeps fits (inl refl)) did
 
   module _ (first : OneshotMachine T W) (history : List (OneshotCall T W × Answer T W)) where
-    -- what the content says after this history
-    abbrev Says : List (OneshotCall T W × Answer T W) → Content T → Type 0
-    Says now content = ContentFits giving first now content × (content ≡ Empty → first.own ≡ Empty)
+    -- what the content says once these values were put in and received, with so many closes
+    abbrev SaysOf : List T → List T → ℕ → Content T → Type 0
+    SaysOf sent got closes content = Fits giving content sent got closes × (content ≡ Empty → first.own ≡ Empty)
         × (giving.keeps ≡ true → (first.own ≡ Empty) ⊎ (content ≡ first.own))
 
-    gave_after : (keeps : Bool) → giving.keeps ≡ keeps → (slot : Slot) (waker : W) (value given : T) → giving.gives value given →
-        Says history (Full value) → Says ((Poll slot waker, Item given) ∷ history) (left_by keeps value)
-    gave_after true is slot waker value given gives says = (
+    -- what it says after this history
+    abbrev Says : List (OneshotCall T W × Answer T W) → Content T → Type 0
+    Says now content = SaysOf (accepted first now) (received now) (new_closes first now) content
+
+    -- what it says once a receive, by a poll or at once, was given this besides
+    abbrev GaveAfter : T → Content T → Type 0
+    GaveAfter given content = SaysOf (accepted first history) (given ∷ received history) (new_closes first history) content
+
+    gave_left : (keeps : Bool) → giving.keeps ≡ keeps → (value given : T) → giving.gives value given → Says history (Full value) →
+        GaveAfter given (left_by keeps value)
+    gave_left true is value given gives says = (
       (says.0.0, λ away. absurd (both_ways giving.keeps away is), says.0.2),
       λ e. absurd (full_empty value e),
       says.2,
     )
-    gave_after false is slot waker value given gives says = (
+    gave_left false is value given gives says = (
       inr (is, (value, given, gives, says.0.0, ap (λ got. given ∷ got) (says.0.1 is)), says.0.2),
       λ e. absurd (spent_empty e),
       λ keeps. absurd (both_ways giving.keeps is keeps),
     )
+
+    gave_after : (given : T) (old new : OneshotMachine T W) → Says history old.own → AfterPoll old new (polled.Ready (Some given)) →
+        GaveAfter given new.own
+    gave_after given old new says now = rw now.3 (gave_left giving.keeps refl now.0 given now.2 (subst (Says history) now.1 says))
 
     content_after : (old : OneshotMachine T W) (call : OneshotCall T W) (answer : Answer T W) (new : OneshotMachine T W) → OwesNoWake old →
         Says history old.own → Step giving old call answer new → Says ((call, answer) ∷ history) new.own
@@ -184,11 +221,12 @@ module _ {T W : Type 0} (giving : Giving T) where
     content_after old (Poll slot waker) Pending new no_wake says did =
         rw (poll_after old new slot.0 waker polled.Pending no_wake did).1 says
     content_after old (Poll slot waker) (Item given) new no_wake says did =
-        let now = poll_after old new slot.0 waker (polled.Ready (Some given)) no_wake did in
-        rw now.3 (gave_after giving.keeps refl slot waker now.0 given now.2 (subst (Says history) now.1 says))
+        gave_after given old new says (poll_after old new slot.0 waker (polled.Ready (Some given)) no_wake did)
     content_after old (Poll slot waker) Nothing new no_wake says did =
         rw (poll_after old new slot.0 waker (polled.Ready None) no_wake did).1 says
     content_after old (Cancel slot) Done new no_wake says did = rw did.0 says
+    content_after old TryReceive (Item given) new no_wake says did = gave_after given old new says (try_after old new (Some given) did)
+    content_after old TryReceive Nothing new no_wake says did = rw (try_after old new None did).1 says
     content_after old (Send value) Done new no_wake says did =
         let now = sent_after old new value (Ok tt) did in
         let was = subst (Says history) now.0 says in
@@ -267,6 +305,13 @@ module _ {T W : Type 0} where
     | inl closed ↦ inl closed.1
     | inr given ↦ inr (given.1.0, given.1.3, given.1.4 ∙ ap (λ (x : T). x ∷ []) given.1.2)
   ]
+
+  -- what is taken needs no memory, so of all calls only the making of a receive lacks it
+  pub makings_lack : (old new : OneshotMachine T W) (call : OneshotCall T W) → Step taking old call (Refused NoMemory) new → call ≡ Receive
+  makings_lack old new Receive did = refl
+  makings_lack old new (Poll slot waker) did = absurd (laws.never_lacks (phase_at old slot.0) old.own did.0)
+  makings_lack old new TryReceive did = absurd (laws.takes_without old.own did.0)
+  makings_lack old new call did = absurd did.0
 
 pub oneshot_takes_oldest : {T W : Type 0} (giving : Giving T) (old : OneshotMachine T W) (answer : Answer T W) (new : OneshotMachine T W)
     → Step giving old NextWake answer new → TakesOldest machine_outgoing (λ waker. Woken waker) old answer new

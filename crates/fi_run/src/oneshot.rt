@@ -44,6 +44,8 @@ pub enum OneshotCall<T, W> {
     Poll(Slot, W),
     /// Cancels a receive. Answers `Done`.
     Cancel(Slot),
+    /// Receives at once. Answers `Item`, `Nothing`, `Refused(Empty)`; of a broadcast also `Refused(NoMemory)`.
+    TryReceive,
     /// Sends the value. Answers `Done`, `Back(value, Closed)`.
     Send(T),
     /// Closes the channel. Answers `Newly`, `Already`.
@@ -130,6 +132,11 @@ impl<T: Drop, W: Drop, G: GivesValue<T>> Primitive for OneValueState<T, W, G> {
                 self.remove_receive_waiter(slot);
                 Answer::Done
             }
+            OneshotCall::TryReceive => match self.try_receive() {
+                Ok(Some(value)) => Answer::Item(value),
+                Ok(None) => Answer::Nothing,
+                Err(fault) => Answer::Refused(fault),
+            },
             OneshotCall::Send(value) => match self.send(value) {
                 Ok(()) => Answer::Done,
                 Err(ChannelSendError(value)) => Answer::Back(value, Fault::Closed),
@@ -152,15 +159,15 @@ impl<T: Drop, W: Drop, G: GivesValue<T>> Primitive for OneValueState<T, W, G> {
 }
 
 /// Every oneshot channel follows its promises, in every run from a sound state that owes no wake, so from its opening: at most
-/// one receive gets the value that was put in, and no poll is refused `NoMemory`; at most one value is put in or close answered
-/// `Newly`; what left empty never returns; a pending receive's last waker is registered, stands in the outbox, or was handed out
+/// one receive gets the value that was put in, and none is refused `NoMemory` but its making; at most one value is put in or close
+/// answered `Newly`; what left empty never returns; a pending receive's last waker is registered, stands in the outbox, or was handed out
 /// since; and no wake is owed. A value that the channel held at first counts as put in, and a channel that was spent at first as
 /// closed.
 pub fn every_run_of_a_oneshot<T: Drop, W: Drop>()
     ensures opened { (first : OneshotMachine T W) → Opens tt first → IsSound first × OwesNoWake first }
     ensures once { InEveryRun {T = T} {W = W} taking (λ first history now. GivesOnce first history) }
-    ensures memory { (old new : OneshotMachine T W) (slot : Slot) (waker : W)
-        → Step taking old (calls.Poll slot waker) (answers.Refused Fault.NoMemory) new → ⊥ }
+    ensures memory { (old new : OneshotMachine T W) (call : OneshotCall T W)
+        → Step taking old call (answers.Refused Fault.NoMemory) new → call ≡ calls.Receive }
     ensures settled { InEveryRun {T = T} {W = W} taking (λ first history now. IsSettledOnce first history) }
     ensures content { InEveryRun {T = T} {W = W} taking (λ first history now. ContentFits taking first history now.own) }
     ensures left { InEveryRun {T = T} {W = W} taking (λ first history now. NeverEmptyAgain first now) }
@@ -171,8 +178,8 @@ pub fn every_run_of_a_oneshot<T: Drop, W: Drop>()
 }
 
 /// Every oneshot broadcast channel follows its promises, in every run from a sound state that owes no wake, so from its opening:
-/// once a value was put in every poll of a receive that may be polled gives a clone of it, whatever is closed later, or is refused
-/// for want of the clone's memory (never, if the clone can't fail); at most one value is put in or close answered `Newly`; a
+/// once a value was put in every poll of a receive that may be polled, and every receive at once, gives a clone of it, whatever is
+/// closed later, or is refused for want of the clone's memory (never, if the clone can't fail); at most one value is put in or close answered `Newly`; a
 /// channel that is not empty keeps what it holds; a pending receive's last waker is registered, stands in the outbox, or was
 /// handed out since; and no wake is owed. A value that the channel held at first counts as put in.
 pub fn every_run_of_a_oneshot_broadcast<T: Clone, W: Drop>()

@@ -58,6 +58,7 @@ abbrev pub oneshot_call : Row → Option (OneshotCall ℕ ℕ)
 oneshot_call (Make verb.Receive Absent) = Some oneshot.Receive
 oneshot_call (Poll future (One waker)) = Some (oneshot.Poll future.slot waker)
 oneshot_call (Cancel future Absent) = Some (oneshot.Cancel future.slot)
+oneshot_call (Plain verb.TryReceive Absent) = Some oneshot.TryReceive
 oneshot_call (Plain verb.Send (One value)) = Some (oneshot.Send value)
 oneshot_call (Plain verb.Close Absent) = Some oneshot.Close
 oneshot_call row = None

@@ -27,6 +27,7 @@ impl<G: GivesValue<u64>> Scripted for OneValueState<u64, u64, G> {
             Row::Make(Verb::Receive, Numbers::Absent) => Some(OneshotCall::Receive),
             Row::Poll(future, Numbers::One(waker)) => Some(OneshotCall::Poll(future.slot, waker)),
             Row::Cancel(future, Numbers::Absent) => Some(OneshotCall::Cancel(future.slot)),
+            Row::Plain(Verb::TryReceive, Numbers::Absent) => Some(OneshotCall::TryReceive),
             Row::Plain(Verb::Send, Numbers::One(value)) => Some(OneshotCall::Send(value)),
             Row::Plain(Verb::Close, Numbers::Absent) => Some(OneshotCall::Close),
             _ => None,

@@ -32,7 +32,11 @@ module _ {T : Type 0} where
   PollsReceive = PollsOrRefuses (λ state name. can_receive (kind_of state name) (receive_phase state name))
       (λ old name waker answer new. Answered (channel.PollsReceive old name waker) (λ fault state. ⊥) answer new) (Err Fault.NoSlot)
 
-  -- The same of a channel that takes one value, and gives it so.
+  -- Some hold of the lock answered a receive at once from a channel of one value, which gives it so, with this.
+  abbrev pub TakesAtOnce : Giving T → Option T → Type 0
+  TakesAtOnce giving received = InSomeHold (λ old. oneshot.TriesReceive {W = Option Waker} giving old (Ok received))
+
+  -- The same as PollsReceive of a channel that takes one value, and gives it so.
   abbrev pub PollsOneValue : Giving T → OneshotMachine T (Option Waker) → ℕ → Option Waker → Poll (Result (Option T) Fault)
       → OneshotMachine T (Option Waker) → Type 0
   PollsOneValue giving = PollsOrRefuses (λ state name. oneshot.can_receive (phase_at state name))

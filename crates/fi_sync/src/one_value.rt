@@ -1,9 +1,9 @@
 //! The channels for one value that threads share.
 ghost use Rattle.std.specs.Prelude.{◌≡◌, Option, IfOk, IfErr};
 ghost use Rattle.futures.specs.declared.task.waker.Waker.{Waker};
-ghost use Rattle.fi_channels.specs.Oneshot.{OneshotMachine, Closes, Sends, has_closed};
+ghost use Rattle.fi_channels.specs.Oneshot.{OneshotMachine, Closes, Sends, TriesReceive, has_closed};
 ghost use Rattle.fi_parts.specs.declared.errors.Fault.{Fault};
-ghost use Rattle.fi_sync.specs.Received.{PollsOneValue};
+ghost use Rattle.fi_sync.specs.Received.{PollsOneValue, TakesAtOnce};
 ghost use Rattle.fi_sync.specs.Waiting.{InSomeHold, IsNew, WaitedFor};
 
 use crate::blocking::{Blocking, wait_for};
@@ -100,6 +100,15 @@ impl<T: Drop, G: GivesValue<T>, R: Wait> OneValueChannel<T, G, R> {
         self.monitor.call((), |channel, ()| channel.is_closed())
     }
 
+    /// Receives at once: the value, or None if none will come. Else `Empty` while the channel is open and has no value, or `NoMemory`
+    /// if a broadcast's clone could not be allocated; then nothing has changed. (Futures-intrusive has no such call.)
+    #[inline(always)]
+    pub fn try_receive(&self) -> Result<Option<T>, Fault>
+        ensures tried { InSomeHold (λ old. TriesReceive {W = Option Waker} G.giving old result) }
+    {
+        self.monitor.call((), |channel, ()| channel.try_receive())
+    }
+
     /// A future that receives the value, or None if none will come: the channel was closed without one, or (of a oneshot)
     /// another receive took it. Refused only with `NoMemory`; then nothing has changed. Keeps `OneshotChannel::receive`.
     #[inline(always)]
@@ -120,8 +129,13 @@ impl<T: Drop, G: GivesValue<T>, R: Blocking> OneValueChannel<T, G, R> {
     /// Blocks this thread until the value comes, and receives it as `receive`: None if none will come. Refused with `NoMemory`
     /// where no future or no executor can be made, or there is no memory to clone the value into; then it took nothing.
     pub fn receive_blocking(&self) -> Result<Option<T>, Fault>
-        ensures waited { WaitedFor (λ _. ⊥) (PollsOneValue G.giving) result }
+        ensures waited { WaitedFor (TakesAtOnce G.giving) (PollsOneValue G.giving) result }
     {
+        match self.try_receive() {
+            Ok(received) => return Ok(received),
+            Err(Fault::Empty) => {}
+            Err(fault) => return Err(fault),
+        }
         let receive = self.receive()?;
         wait_for(self.monitor.runtime(), receive)?
     }

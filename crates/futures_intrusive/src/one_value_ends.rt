@@ -2,8 +2,8 @@
 ghost use Rattle.std.specs.Prelude.{◌≡◌, Option, IfOk, IfErr, OnErr};
 ghost use Rattle.futures.specs.declared.task.waker.Waker.{Waker};
 ghost use Rattle.fi_parts.specs.declared.errors.Fault.{Fault};
-ghost use Rattle.fi_channels.specs.Oneshot.{Makes, Sends};
-ghost use Rattle.fi_sync.specs.Received.{PollsOneValue};
+ghost use Rattle.fi_channels.specs.Oneshot.{Makes, Sends, TriesReceive};
+ghost use Rattle.fi_sync.specs.Received.{PollsOneValue, TakesAtOnce};
 ghost use Rattle.fi_sync.specs.Waiting.{InSomeHold, IsNew, WaitedFor};
 ghost use Rattle.futures_intrusive.specs.Ends.{OnState};
 
@@ -114,6 +114,14 @@ impl<T: Drop, G: GivesValue<T>, R: Wait + Drop> OneValueSender<T, G, R> {
 }
 
 impl<T: Drop, G: GivesValue<T>, R: Wait + Drop> OneValueReceiver<T, G, R> {
+    /// Receives at once: the value, or None if none will come. As `OneValueChannel::try_receive`.
+    #[inline(always)]
+    pub fn try_receive(&self) -> Result<Option<T>, Fault>
+        ensures tried { InSomeHold (λ old. TriesReceive {W = Option Waker} G.giving old result) }
+    {
+        self.channel().call((), |ends, ()| ends.try_receive())
+    }
+
     /// A future that receives the value, or None if none will come. As `OneValueChannel::receive`. Keeps
     /// `OneshotReceiver::receive`.
     pub fn receive(&self) -> Result<ChannelReceiveFuture<OneValueState<T, PollWaker, G>, R>, Fault>
@@ -134,8 +142,13 @@ impl<T: Drop, G: GivesValue<T>, R: Wait + Drop> OneValueReceiver<T, G, R> {
     pub fn receive_blocking(&self) -> Result<Option<T>, Fault>
     where
         R: Blocking,
-        ensures waited { WaitedFor (λ _. ⊥) (PollsOneValue G.giving) result }
+        ensures waited { WaitedFor (TakesAtOnce G.giving) (PollsOneValue G.giving) result }
     {
+        match self.try_receive() {
+            Ok(received) => return Ok(received),
+            Err(Fault::Empty) => {}
+            Err(fault) => return Err(fault),
+        }
         let receive = self.receive()?;
         wait_for(self.channel().runtime(), receive)?
     }
@@ -187,6 +200,13 @@ impl<T: Drop, G: GivesValue<T>> CountedEnds<OneValueState<T, PollWaker, G>> {
         ensures { OnState (λ old new. Sends old value result new) self.old self.new }
     {
         self.state.send(value)
+    }
+
+    /// Receives at once: the value, or None if none will come. Refused with `Empty` or `NoMemory`; then nothing has changed.
+    pub fn try_receive(&mut self) -> Result<Option<T>, Fault>
+        ensures { OnState (λ old new. TriesReceive G.giving old result new) self.old self.new }
+    {
+        self.state.try_receive()
     }
 
     /// Makes a receive. Refused only with `NoMemory`; then nothing has changed.

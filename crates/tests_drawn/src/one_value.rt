@@ -74,6 +74,8 @@ impl<G: GivesValue<u64>> Reference<OneValueState<u64, u64, G>> for PlainOneValue
             OneshotCall::Receive => self.receives.make(&ALL),
             OneshotCall::Poll(slot, _) => self.poll(slot.0),
             OneshotCall::Cancel(slot) => self.receives.cancel(slot.0),
+            OneshotCall::TryReceive if self.content == Content::Empty => Answer::Refused(Fault::Empty),
+            OneshotCall::TryReceive => self.give(),
             OneshotCall::Send(value) if self.settle(Content::Full(value)) => Answer::Done,
             OneshotCall::Send(value) => Answer::Back(value, Fault::Closed),
             OneshotCall::Close if self.settle(Content::Spent) => Answer::Newly,
@@ -91,7 +93,7 @@ fn agrees<G: GivesValue<u64>>(alloc: Global, keeps_value: bool) -> Result<bool, 
     let lines = Lines {
         makings: "receive a; receive b; receive c; receive d",
         polls: POLLS,
-        others: "send 5; close",
+        others: "try-receive; send 5; close",
     };
     let reference = PlainOneValue::new(keeps_value);
     agree::<OneValueState<u64, u64, G>, PlainOneValue>(alloc, (), reference, lines)

@@ -39,6 +39,7 @@ impl<'a, R: Wait, G: GivesValue<u64>> Opened<R, OneshotCall<u64, u64>>
                 self.receives.poll(rt, tasks, number, waker)
             }
             OneshotCall::Cancel(Slot(number)) => self.receives.let_go(number),
+            OneshotCall::TryReceive => Seen::given(self.channel.try_receive()),
             OneshotCall::Send(value) => Seen::given(self.channel.send(value)),
             OneshotCall::Close => Seen::given(self.channel.close()),
             OneshotCall::NextWake => Seen::answered(Answer::Woken(None)),

@@ -152,11 +152,13 @@ impl<T: Clone + Drop, R: Wait + Drop> SendsAtOnce<T> for StateSender<T, R> {
     }
 }
 
-/// The call of a receiver of one value.
+/// The calls of a receiver of one value.
 pub trait ReceivesOne<T>: Drop {
     type Receive: Drop;
 
     fn receive(&self) -> Result<Self::Receive, Fault>;
+
+    fn try_receive(&self) -> Result<Option<T>, Fault>;
 }
 
 impl<T: Drop, G: GivesValue<T>, R: Wait + Drop> ReceivesOne<T> for OneValueReceiver<T, G, R> {
@@ -164,6 +166,10 @@ impl<T: Drop, G: GivesValue<T>, R: Wait + Drop> ReceivesOne<T> for OneValueRecei
 
     fn receive(&self) -> Result<ChannelReceiveFuture<OneValueState<T, PollWaker, G>, R>, Fault> {
         OneValueReceiver::receive(self)
+    }
+
+    fn try_receive(&self) -> Result<Option<T>, Fault> {
+        OneValueReceiver::try_receive(self)
     }
 }
 

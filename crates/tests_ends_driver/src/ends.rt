@@ -53,6 +53,7 @@ where
                 self.receives.poll(rt, tasks, number, waker)
             }
             OneshotCall::Cancel(Slot(number)) => self.receives.let_go(number),
+            OneshotCall::TryReceive => Seen::given(self.receiver.try_receive()),
             OneshotCall::Send(value) => Seen::given(self.sender.send(value)),
             OneshotCall::Close => Seen::Lost,
             OneshotCall::NextWake => Seen::answered(Answer::Woken(None)),

@@ -14,9 +14,11 @@ fn bytes(alloc: Global) -> Option<Vec<u8>> {
     Vec::from_slice(alloc, b"seven and seventy bytes").ok()
 }
 
-/// A poll that delivers a broadcast's bytes, by a waker that was named or not.
+/// A poll that delivers a broadcast's bytes, by a waker that was named or not, or a call that receives them at once.
 #[derive(Drop)]
-struct Delivers;
+struct Delivers {
+    at_once: bool,
+}
 
 impl Scene for Delivers {
     type P = OneshotBroadcastState<Vec<u8>, u64>;
@@ -32,7 +34,11 @@ impl Scene for Delivers {
     }
 
     fn call(&self, _alloc: Global) -> Option<OneshotCall<Vec<u8>, u64>> {
-        Some(OneshotCall::Poll(A, 8))
+        Some(if self.at_once {
+            OneshotCall::TryReceive
+        } else {
+            OneshotCall::Poll(A, 8)
+        })
     }
 
     fn refusal(&self, alloc: Global) -> Option<Answer<Vec<u8>, u64>> {
@@ -43,6 +49,7 @@ impl Scene for Delivers {
         let mut calls = Vec::new(alloc);
         calls.push(OneshotCall::Poll(A, 9)).ok()?;
         calls.push(OneshotCall::Poll(Slot(1), 9)).ok()?;
+        calls.push(OneshotCall::TryReceive).ok()?;
         calls.push(OneshotCall::Cancel(A)).ok()?;
         Some(calls)
     }
@@ -133,10 +140,10 @@ impl Scene for FillsArray {
 fn deliveries(rt: HostRuntime) -> Result<(), Fail> {
     let alloc = rt.alloc();
     let mut hoard = Hoard::new(alloc)?;
-    let one_value = tries_of(alloc, &mut hoard, &Delivers);
-    let polled = tries_of(alloc, &mut hoard, &DeliversState { at_once: false });
-    let at_once = tries_of(alloc, &mut hoard, &DeliversState { at_once: true });
-    let tried = one_value.and(polled).and(at_once);
+    let mut tried = tries_of(alloc, &mut hoard, &Delivers { at_once: false });
+    tried = tried.and(tries_of(alloc, &mut hoard, &Delivers { at_once: true }));
+    tried = tried.and(tries_of(alloc, &mut hoard, &DeliversState { at_once: false }));
+    tried = tried.and(tries_of(alloc, &mut hoard, &DeliversState { at_once: true }));
     assert!(rt; tried.is_right(1), "{tried:?}");
     Ok(())
 }

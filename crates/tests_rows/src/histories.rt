@@ -36,6 +36,7 @@ hold poll r0 1 -> none
 hold cancel r1 -> ok
 hold receive r1
 hold poll r1 3 -> none
+hold try-receive -> none
 hold send 7 -> closed 7
 hold close -> already-closed",
 };

@@ -3,7 +3,7 @@
 use crate::Row;
 
 /// On the state, as a script, and on each type that threads share.
-pub const ONESHOT: [Row; 2] = [
+pub const ONESHOT: [Row; 3] = [
     Row {
         name: "oneshot_one_value",
         text: "oneshot
@@ -29,10 +29,23 @@ poll a 1 -> none
 poll a 1 -> no-slot
 cancel a -> ok",
     },
+    Row {
+        name: "oneshot_at_once",
+        text: "oneshot
+try-receive -> empty
+receive a
+poll a 1 -> pending
+try-receive -> empty
+send 5 -> ok wakes 1
+try-receive -> some 5
+poll a 1 -> none
+try-receive -> none
+close -> already-closed",
+    },
 ];
 
 /// The same, of the broadcast.
-pub const BROADCAST: [Row; 2] = [
+pub const BROADCAST: [Row; 3] = [
     Row {
         name: "broadcast_clones",
         text: "oneshot-broadcast
@@ -57,5 +70,17 @@ send 5 -> ok
 poll b 1 -> some 5
 poll b 1 -> no-slot
 poll a 1 -> some 5",
+    },
+    Row {
+        name: "broadcast_at_once",
+        text: "oneshot-broadcast
+try-receive -> empty
+receive a
+send 5 -> ok
+try-receive -> some 5
+poll a 1 -> some 5
+try-receive -> some 5
+close -> already-closed
+try-receive -> some 5",
     },
 ];

@@ -39,6 +39,7 @@ impl<G: GivesValue<u64> + ScriptGiving> ScriptLines for OneValueState<u64, u64, 
                 "poll r{receive} {waker}"
             ),
             (OneshotCall::Cancel(Slot(receive)), _) => write!(script, "cancel r{receive}"),
+            (OneshotCall::TryReceive, _) => script.push_str("try-receive"),
             (OneshotCall::Send(value), _) => write!(script, "send {value}"),
             (OneshotCall::Close, _) => script.push_str("close"),
             (OneshotCall::Receive | OneshotCall::NextWake, _) => Ok(()),

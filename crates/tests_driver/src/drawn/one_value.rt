@@ -6,7 +6,7 @@ use fi_run::OneshotCall;
 
 const MAKINGS: [OneshotCall<u64, u64>; 4] = [OneshotCall::Receive; 4];
 
-const CHOICES: [OneshotCall<u64, u64>; 10] = [
+const CHOICES: [OneshotCall<u64, u64>; 11] = [
     OneshotCall::Poll(Slot(0), 1),
     OneshotCall::Poll(Slot(1), 2),
     OneshotCall::Poll(Slot(2), 3),
@@ -15,6 +15,7 @@ const CHOICES: [OneshotCall<u64, u64>; 10] = [
     OneshotCall::Cancel(Slot(1)),
     OneshotCall::Cancel(Slot(2)),
     OneshotCall::Cancel(Slot(3)),
+    OneshotCall::TryReceive,
     OneshotCall::Send(5),
     OneshotCall::Close,
 ];
@@ -29,6 +30,6 @@ pub fn borrowed() -> Calls<'static, OneshotCall<u64, u64>> {
 pub fn by_ends() -> Calls<'static, OneshotCall<u64, u64>> {
     Calls {
         makings: &MAKINGS,
-        choices: &CHOICES[..9],
+        choices: &CHOICES[..10],
     }
 }

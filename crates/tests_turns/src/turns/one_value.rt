@@ -12,8 +12,8 @@ use tests_driver::one_value::OpenedOneValue;
 
 const LINES: Lines = Lines {
     makings: "receive a; receive b; receive c; receive d",
-    first: "poll a 1; poll b 2; cancel a; cancel b; send 5; close",
-    second: "poll c 3; poll d 4; cancel c; cancel d; send 6; close",
+    first: "poll a 1; poll b 2; cancel a; cancel b; try-receive; send 5; close",
+    second: "poll c 3; poll d 4; cancel c; cancel d; try-receive; send 6; close",
 };
 
 impl Holds for OneshotCall<u64, u64> {}

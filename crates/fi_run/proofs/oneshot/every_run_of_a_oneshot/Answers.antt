@@ -1,16 +1,14 @@
 use Rattle.std.specs.Prelude.{[]}
-use Rattle.fi_parts.specs.Machine.{phase_at}
 use Rattle.fi_channels.specs.Oneshot.{taking}
-use Rattle.fi_channels.specs.OneshotLaws.{never_lacks}
 use Rattle.fi_run.specs.Run.{history_after}
-use Rattle.fi_run.specs.OneshotLaws.{once_by, settled_by}
+use Rattle.fi_run.specs.OneshotLaws.{once_by, settled_by, makings_lack}
 use Rattle.fi_run.proofs.oneshot.every_run_of_a_oneshot.Goals as goal
 
 pub returns-clause-opened : goal.returns-clause-opened
 returns-clause-opened g c first opens = c.every_run.ensures.opened tt first opens
 
 pub returns-clause-memory : goal.returns-clause-memory
-returns-clause-memory g c old new slot waker did = never_lacks (phase_at old slot.0) old.own did.0
+returns-clause-memory g c old new call did = makings_lack old new call did
 
 pub returns-clause-content : goal.returns-clause-content
 returns-clause-content g c first entries now sound no_wake run = (c.every_run.ensures.runs first entries now sound no_wake run).2.content
