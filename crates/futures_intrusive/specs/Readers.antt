@@ -1,5 +1,8 @@
 -- What a contract sees of a reader of states and of an iterator that blocks, and what a read does.
 use Rattle.std.specs.Prelude.{◌≡◌, ℕ, Option, Some, None}
+use Rattle.std.specs.Borrow.{Bor}
+use Rattle.core.specs.Fn.{Once, FnOnceReturnsAt}
+use Rattle.fi_channels.specs.StateBroadcast.{StateMachine}
 
 -- The source that its channel's futures register at, and the number of the newest state that it has read.
 pub record Reader : Type 0 where
@@ -20,3 +23,8 @@ IsRead old (Some state) given new = (given ≡ Some state.1) × (new ≡ record 
 -- Its receiver was answered so, and this is what the reader gives of it.
 abbrev pub Reads : {T : Type 0} → (Option (ℕ × T) → Type 0) → Reader → Option T → Reader → Type 0
 Reads {T} Answers old given new = (state : Option (ℕ × T)) × Answers state × IsRead old state given new
+
+-- The newest state that a channel held was lent to a call, which answered this; the state's number is this.
+abbrev pub IsLent : {T W F A : Type 0} → Once F (Bor T × Unit {0}) A → F → StateMachine T W → ℕ → A → Type 0
+IsLent {T} calls look held id answer =
+    (value : T) × (held.own.value ≡ Some value) × FnOnceReturnsAt calls look value answer × (id ≡ held.own.number)

@@ -1,15 +1,17 @@
 //! A receiver of states that remembers which it has read.
-ghost use Rattle.std.specs.Prelude.{◌≡◌, Option, IfOk, IfErr, OnErr, Ok};
+ghost use Rattle.std.specs.Prelude.{◌≡◌, Option, IfOk, IfErr, IfSome, IfNone, OnErr, Ok};
 ghost use Rattle.futures.specs.declared.task.waker.Waker.{Waker};
 ghost use Rattle.fi_parts.specs.declared.errors.Fault.{Fault};
 ghost use Rattle.fi_channels.specs.StateBroadcast.{StateMachine, TriesReceive, MayLackNewer, newer_than};
 ghost use Rattle.fi_sync.specs.Received.{PollsState};
 ghost use Rattle.fi_sync.specs.Waiting.{WaitedFor};
-ghost use Rattle.futures_intrusive.specs.Readers.{IsRead, Reads};
+ghost use Rattle.futures_intrusive.specs.Readers.{IsRead, Reads, IsLent};
 
+use crate::counted_ends::CountedEnds;
 use crate::state_ends::StateReceiver;
+use fi_channels::StateBroadcastState;
 use fi_parts::{Fault, StateId};
-use fi_sync::Blocking;
+use fi_sync::{Blocking, PollWaker};
 use std::marker::Model;
 use std::sync::Wait;
 
@@ -109,6 +111,27 @@ impl<T: Clone + Drop, R: Wait + Drop> StateReader<T, R> {
     {
         let state = self.receiver.receive_blocking(self.seen)?;
         Ok(self.read(state))
+    }
+
+    /// Lends the newest state to a call, read before or not, and gives what the call answers; that state counts as read then. None
+    /// if no state was sent yet; then nothing has changed.
+    ///
+    /// Takes no memory, as nothing is cloned. The call is made with the channel's lock held, so it must not call the channel.
+    pub fn with_value<A, F: FnOnce(&T) -> A + Drop>(&mut self, look: F) -> Option<A>
+        requires { F.IsAlwaysCallable look }
+        ensures lent { IfSome result (λ answer. (held : StateMachine T (Option Waker)) × IsLent F.FnOnce look held self.new.seen answer) }
+        ensures source { self.new.source ≡ self.old.source }
+        ensures none { IfNone result (self.new ≡ self.old) }
+    {
+        let call = |ends: &mut CountedEnds<StateBroadcastState<T, PollWaker>>, ()| -> Option<
+            (StateId, A),
+        >
+            requires { F.IsAlwaysCallable look }
+            ensures { IfSome result (λ looked. (held : StateMachine T (Option Waker)) × IsLent F.FnOnce look held looked.0 looked.1) }
+        { ends.look(look) };
+        let (id, answer) = self.receiver.channel().call((), call)?;
+        self.seen = id;
+        Some(answer)
     }
 
     // Remembers the number of this state, if there is one, and gives its value.

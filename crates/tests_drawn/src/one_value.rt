@@ -74,7 +74,9 @@ impl<G: GivesValue<u64>> Reference<OneValueState<u64, u64, G>> for PlainOneValue
             OneshotCall::Receive => self.receives.make(&ALL),
             OneshotCall::Poll(slot, _) => self.poll(slot.0),
             OneshotCall::Cancel(slot) => self.receives.cancel(slot.0),
-            OneshotCall::TryReceive if self.content == Content::Empty => Answer::Refused(Fault::Empty),
+            OneshotCall::TryReceive if self.content == Content::Empty => Answer::Refused(
+                Fault::Empty,
+            ),
             OneshotCall::TryReceive => self.give(),
             OneshotCall::Send(value) if self.settle(Content::Full(value)) => Answer::Done,
             OneshotCall::Send(value) => Answer::Back(value, Fault::Closed),
