@@ -14,8 +14,8 @@ pub record Values : Type 0 where
   pub source : ℕ
   pub left : ℕ
 
--- What a reader gives of what its receiver was answered: of a state its value, and it remembers the number; of none nothing, and it
--- remembers what it did.
+-- What a reader gives of what its receiver was answered, or a call that was lent the state: of a state its value, or what the call
+-- answered, and it remembers the number; of none nothing, and it remembers what it did.
 abbrev pub IsRead : {T : Type 0} → Reader → Option (ℕ × T) → Option T → Reader → Type 0
 IsRead old None given new = (given ≡ None) × (new ≡ old)
 IsRead old (Some state) given new = (given ≡ Some state.1) × (new ≡ record old { seen = state.0 })
@@ -24,7 +24,8 @@ IsRead old (Some state) given new = (given ≡ Some state.1) × (new ≡ record 
 abbrev pub Reads : {T : Type 0} → (Option (ℕ × T) → Type 0) → Reader → Option T → Reader → Type 0
 Reads {T} Answers old given new = (state : Option (ℕ × T)) × Answers state × IsRead old state given new
 
--- The newest state that a channel held was lent to a call, which answered this; the state's number is this.
-abbrev pub IsLent : {T W F A : Type 0} → Once F (Bor T × Unit {0}) A → F → StateMachine T W → ℕ → A → Type 0
-IsLent {T} calls look held id answer =
-    (value : T) × (held.own.value ≡ Some value) × FnOnceReturnsAt calls look value answer × (id ≡ held.own.number)
+-- The newest state that a channel held was lent to a call: what that answered, beside the state's number. None if it held none.
+abbrev pub Lends : {T W F A : Type 0} → Once F (Bor T × Unit {0}) A → F → StateMachine T W → Option (ℕ × A) → Type 0
+Lends {T} calls look held (Some looked) =
+    (value : T) × (held.own.value ≡ Some value) × FnOnceReturnsAt calls look value looked.1 × (looked.0 ≡ held.own.number)
+Lends calls look held None = held.own.value ≡ None

@@ -1,12 +1,12 @@
 //! The ends of the state broadcast.
-ghost use Rattle.std.specs.Prelude.{◌≡◌, Option, IfOk, IfErr, IfSome, OnOk, OnErr, Ok, Err};
+ghost use Rattle.std.specs.Prelude.{◌≡◌, Option, IfOk, IfErr, OnOk, OnErr, Ok, Err};
 ghost use Rattle.futures.specs.declared.task.waker.Waker.{Waker};
 ghost use Rattle.fi_parts.specs.declared.errors.Fault.{Fault};
 ghost use Rattle.fi_channels.specs.StateBroadcast.{StateMachine, Makes, Sends, TriesReceive, MayLackNewer, newer_than};
 ghost use Rattle.fi_sync.specs.Received.{PollsState};
 ghost use Rattle.fi_sync.specs.Waiting.{InSomeHold, IsNew, WaitedFor};
 ghost use Rattle.futures_intrusive.specs.Ends.{OnState};
-ghost use Rattle.futures_intrusive.specs.Readers.{IsLent};
+ghost use Rattle.futures_intrusive.specs.Readers.{Lends};
 
 use crate::channel_ends::ChannelReceiveFuture;
 use crate::counted_ends::{ClosesByEnds, CountedEnds, ManyReceivers, ManySenders, ReceivesClosed};
@@ -186,7 +186,7 @@ impl<T: Clone + Drop> CountedEnds<StateBroadcastState<T, PollWaker>> {
     /// Lends the newest state to a call, and gives its number and what the call answers; None before the first send.
     pub fn look<A, F: FnOnce(&T) -> A + Drop>(&self, look: F) -> Option<(StateId, A)>
         requires { F.IsAlwaysCallable look }
-        ensures { IfSome result (λ looked. IsLent F.FnOnce look self.now.state looked.0 looked.1) }
+        ensures { Lends F.FnOnce look self.now.state result }
     {
         let id = self.state.newest_id();
         match self.state.newest() {

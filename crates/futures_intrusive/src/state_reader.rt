@@ -1,11 +1,11 @@
 //! A receiver of states that remembers which it has read.
-ghost use Rattle.std.specs.Prelude.{◌≡◌, Option, IfOk, IfErr, IfSome, IfNone, OnErr, Ok};
+ghost use Rattle.std.specs.Prelude.{◌≡◌, Option, IfOk, IfErr, OnErr, Ok};
 ghost use Rattle.futures.specs.declared.task.waker.Waker.{Waker};
 ghost use Rattle.fi_parts.specs.declared.errors.Fault.{Fault};
 ghost use Rattle.fi_channels.specs.StateBroadcast.{StateMachine, TriesReceive, MayLackNewer, newer_than};
 ghost use Rattle.fi_sync.specs.Received.{PollsState};
 ghost use Rattle.fi_sync.specs.Waiting.{WaitedFor};
-ghost use Rattle.futures_intrusive.specs.Readers.{IsRead, Reads, IsLent};
+ghost use Rattle.futures_intrusive.specs.Readers.{IsRead, Reads, Lends};
 
 use crate::counted_ends::CountedEnds;
 use crate::state_ends::StateReceiver;
@@ -119,23 +119,20 @@ impl<T: Clone + Drop, R: Wait + Drop> StateReader<T, R> {
     /// Takes no memory, as nothing is cloned. The call is made with the channel's lock held, so it must not call the channel.
     pub fn with_value<A, F: FnOnce(&T) -> A + Drop>(&mut self, look: F) -> Option<A>
         requires { F.IsAlwaysCallable look }
-        ensures lent { IfSome result (λ answer. (held : StateMachine T (Option Waker)) × IsLent F.FnOnce look held self.new.seen answer) }
-        ensures source { self.new.source ≡ self.old.source }
-        ensures none { IfNone result (self.new ≡ self.old) }
+        ensures { Reads (λ looked. (held : StateMachine T (Option Waker)) × Lends F.FnOnce look held looked) self.old result self.new }
     {
         let call = |ends: &mut CountedEnds<StateBroadcastState<T, PollWaker>>, ()| -> Option<
             (StateId, A),
         >
             requires { F.IsAlwaysCallable look }
-            ensures { IfSome result (λ looked. (held : StateMachine T (Option Waker)) × IsLent F.FnOnce look held looked.0 looked.1) }
+            ensures { (held : StateMachine T (Option Waker)) × Lends F.FnOnce look held result }
         { ends.look(look) };
-        let (id, answer) = self.receiver.channel().call((), call)?;
-        self.seen = id;
-        Some(answer)
+        let looked = self.receiver.channel().call((), call);
+        self.read(looked)
     }
 
-    // Remembers the number of this state, if there is one, and gives its value.
-    fn read(&mut self, state: Option<(StateId, T)>) -> Option<T>
+    // Remembers the number of this state, if there is one, and gives what comes with it.
+    fn read<A>(&mut self, state: Option<(StateId, A)>) -> Option<A>
         ensures { IsRead self.old state result self.new }
     {
         let Some((id, value)) = state else {
