@@ -2,7 +2,6 @@
 
 use crate::runtime::Runtime;
 use futures_intrusive::Fault;
-use futures_intrusive::channel::StateId;
 use futures_intrusive::channel::shared::{StateReceiver, StateSender, state_broadcast_channel};
 use std::{io, thread};
 
@@ -18,12 +17,11 @@ fn follow<R: Runtime>(
     rt: &R,
     settings: StateReceiver<Settings, R>,
 ) -> Result<Option<Settings>, Fault> {
-    let (mut seen, mut newest) = (StateId::new(), None);
+    let (mut reader, mut newest) = (settings.into_reader(), None);
     for _ in rt.forever() {
-        let Some((id, settings)) = settings.receive_blocking(seen)? else {
+        let Some(settings) = reader.next_blocking()? else {
             break;
         };
-        seen = id;
         newest = Some(settings);
     }
     Ok(newest)

@@ -2,8 +2,9 @@
 
 use futures_intrusive::Fault;
 use futures_intrusive::blocking::Blocking;
-use futures_intrusive::channel::shared::{StateReceiver, state_broadcast_channel};
+use futures_intrusive::channel::shared::{StateReader, StateReceiver, state_broadcast_channel};
 use std::alloc::AllocGlobal;
+use std::sync::Wait;
 use tests_ends_calls::{ReadsStates, SendsAtOnce};
 
 // The last setting, once nobody is left who changes it.
@@ -51,4 +52,25 @@ fn a_reader_gives_each_newest_state_once(rt: HostRuntime) {
     let ends = state_broadcast_channel::<u64, HostRuntime>(rt.alloc(), rt);
     let (sender, receiver) = ends.expect(&rt, "memory");
     assert!(rt; each_newest_state_is_read_once(sender, receiver.into_reader()));
+}
+
+// The newest state is lent, read before or not, also once nobody sends any more, and counts as read.
+fn newest_is_lent<S, R>(sender: S, mut reader: StateReader<u64, R>) -> bool
+where
+    S: SendsAtOnce<u64>,
+    R: Wait + Drop,
+{
+    let is_empty = reader.with_value(|state| *state) == None && reader.seen().value() == 0;
+    let are_sent = sender.send(5).is_ok() && sender.send(6).is_ok();
+    let is_lent = reader.with_value(|state| *state) == Some(6) && reader.seen().value() == 2;
+    let is_read = reader.try_next() == Ok(None);
+    drop(sender);
+    is_empty && are_sent && is_lent && is_read && reader.with_value(|state| *state) == Some(6)
+}
+
+#[test]
+fn a_reader_lends_the_newest_state(rt: HostRuntime) {
+    let ends = state_broadcast_channel::<u64, HostRuntime>(rt.alloc(), rt);
+    let (sender, receiver) = ends.expect(&rt, "memory");
+    assert!(rt; newest_is_lent(sender, receiver.into_reader()));
 }
