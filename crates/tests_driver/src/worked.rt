@@ -7,7 +7,7 @@ use fi_scripts::Scripted;
 use std::alloc::AllocGlobal;
 use std::random::RandomSource;
 use std::sync::Wait;
-use tests_rows::Row;
+use tests_rows::{Row, opening_of};
 
 /// A type that is opened as scripts open its plain state.
 pub trait OfOpening<O> {
@@ -135,13 +135,5 @@ fn first_line(row: &str) -> &str {
     match row.split_once('\n') {
         Some((first, _)) => first,
         None => row,
-    }
-}
-
-// What the first line of a row opens, by the words behind the primitive's name.
-fn opening_of<P: Scripted>(row: &str) -> Option<P::Opening> {
-    match first_line(row).split_once(' ') {
-        Some((_, words)) => P::opening(Some(words.as_bytes())),
-        None => P::opening(None),
     }
 }

@@ -5,8 +5,9 @@ use fi_parts::{Slot, StateId};
 use fi_run::{Answer, ChannelCall, OneshotCall, Primitive, StateCall};
 use std::alloc::Global;
 use std::test::Fail;
-use tests_driver::refusals::scene::{Scene, no_memory, tries_of};
+use tests_driver::refusals::scene::{Scene, tries_of};
 use tests_help::hoard::Hoard;
+use tests_help::refusals::no_memory;
 
 const A: Slot = Slot(0);
 

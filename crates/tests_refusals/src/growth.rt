@@ -7,8 +7,8 @@ use fi_run::{Answer, ChannelCall, Primitive};
 use std::alloc::{AllocError, Global};
 use std::process::Abort;
 use std::test::Fail;
-use tests_driver::refusals::scene::no_memory;
 use tests_help::hoard::Hoard;
+use tests_help::refusals::no_memory;
 
 type Growing = ChannelState<u64, GrowingHeapBuf<u64>, u64>;
 

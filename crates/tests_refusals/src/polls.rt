@@ -14,13 +14,13 @@ use tests_driver::event::Event;
 use tests_driver::mutex::MutexOf;
 use tests_driver::one_value::{BROADCAST, ONESHOT};
 use tests_driver::refusals::rows::play_starved;
-use tests_driver::refusals::scene::no_memory;
 use tests_driver::semaphore::{ByOwners, ByReference, Opening};
 use tests_driver::state::StateBroadcast;
 use tests_driver::tasks::Tasks;
 use tests_driver::timer::Timer;
 use tests_driver::{Flavour, Opened, Play, Played, agrees};
 use tests_help::hoard::Hoard;
+use tests_help::refusals::no_memory;
 use tests_rows::{channel, event, mutex, one_value, semaphore, state, text_of, timer};
 
 // The row of this name, on an event that is reset.

@@ -6,6 +6,7 @@
 //! `calls` reads the lines by which other tests list calls.
 #![tactic(auto)]
 
+use fi_scripts::Scripted;
 use std::alloc::{AllocError, Global};
 
 pub mod calls;
@@ -37,6 +38,15 @@ pub fn text_of(rows: &[Row], name: &str) -> &'static str {
         }
     }
     ""
+}
+
+/// What the first line of a row opens, by the words behind the primitive's name.
+pub fn opening_of<P: Scripted>(row: &str) -> Option<P::Opening> {
+    let (first, _) = row.split_once('\n')?;
+    match first.split_once(' ') {
+        Some((_, words)) => P::opening(Some(words.as_bytes())),
+        None => P::opening(None),
+    }
 }
 
 /// What a line of a row says of its script: all but the answer.

@@ -11,8 +11,8 @@ use fi_scripts::{ScriptFault, Scripted, run_script};
 use std::alloc::{AllocGlobal, Global};
 use std::process::Abort;
 use tests_rows::{
-    Row, answers_of, channel, event, mutex, one_value, over_buffer, pool, recorded_answers_of,
-    script_of, semaphore, state, timer,
+    Row, answers_of, channel, event, mutex, one_value, opening_of, over_buffer, pool,
+    recorded_answers_of, script_of, semaphore, state, timer,
 };
 
 /// What a script is answered, and how its run ends.
@@ -61,15 +61,6 @@ where
         is_answered(alloc, script.as_str(), wanted.as_str())
             && is_answered(alloc, history.as_str(), recorded.as_str()),
     )
-}
-
-// What the first line of a row opens, by the words behind the primitive's name.
-fn opening_of<P: Scripted>(row: &str) -> Option<P::Opening> {
-    let (first, _) = row.split_once('\n')?;
-    match first.split_once(' ') {
-        Some((_, words)) => P::opening(Some(words.as_bytes())),
-        None => P::opening(None),
-    }
 }
 
 // The first of these rows that is not right.

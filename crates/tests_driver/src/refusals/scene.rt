@@ -1,9 +1,8 @@
 //! A call that may be refused memory, and how to come to it.
-use fi_parts::Fault;
-use fi_parts::memory::items_for;
 use fi_run::{Answer, Primitive};
 use std::alloc::Global;
 use tests_help::hoard::Hoard;
+use tests_help::refusals::no_memory;
 
 /// The step by which what is left grows: no block takes less.
 pub const STEP: usize = 32;
@@ -26,14 +25,6 @@ pub trait Scene {
 
     /// What is called afterwards, by which differences show.
     fn after(&self, alloc: Global) -> Option<Vec<<Self::P as Primitive>::Call>>;
-}
-
-/// The fault of a request for more memory than any address space has.
-pub fn no_memory(alloc: Global) -> Option<Fault> {
-    match items_for::<u64>(alloc, usize::MAX) {
-        Ok(_) => None,
-        Err(refused) => Some(Fault::from(refused)),
-    }
 }
 
 /// What a call is answered that is refused memory.
