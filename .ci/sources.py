@@ -1,4 +1,5 @@
 """What the scripts of this folder share: readers of the sources in Rust and in antt."""
+import functools
 import glob
 import os
 import pathlib
@@ -10,8 +11,6 @@ os.chdir(TOP)  # so that all paths are those of the repository
 FRONT = "futures_intrusive"
 PUB = r"(?:pub(?:\([a-z]+\))? )?(?:unsafe )?"
 ITEM = re.compile(rf"{PUB}(impl|trait|struct|enum|type|fn)\b\s*")
-METHOD = re.compile(rf"^    (?={PUB}fn \w)", flags=re.M)
-CLAUSE = re.compile(r"((?:requires|ensures)\*?(?: \w+)?) \{")
 NAME = r"[^\s(){}\[\];,:\"]+"
 HEAD = re.compile(rf"(?:abbrev |unfoldable )?(?:pub )?(?:(data|record) )?({NAME})(?=\s|$)")
 KEYWORDS = set("abbrev unfoldable pub data record module where let in if then else elim Type Unit tt".split())
@@ -52,7 +51,7 @@ def libraries():
 
 
 def crates_under(crate):
-    """Returns the crates of this repository that a crate stands on, in the order of its line in crates.txt, and itself."""
+    """Returns the crates of this repository that a crate stands on, in the order of crates.txt, and itself."""
     others = re.search(rf"^{crate}\b[^:\n]*:(.*)$", text_of("crates.txt"), flags=re.M)[1]
     return [name for name in [*others.split(), crate] if os.path.isdir(f"crates/{name}")]
 
@@ -63,7 +62,7 @@ def without_comments(text):
 
 
 def closing(text, start, pair="{}"):
-    """Returns the place of the bracket that closes the one at `start`, or the text's end. The `>` of an arrow closes nothing."""
+    """Returns the place of the bracket that closes the one at `start`, or the text's end. No arrow's `>` closes one."""
     depth = 0
     for found in re.compile(rf"\{pair[0]}|(?<![-=])\{pair[1]}").finditer(text, start):
         depth += 1 if found[0] == pair[0] else -1
@@ -73,7 +72,7 @@ def closing(text, start, pair="{}"):
 
 
 def braced(pattern, text):
-    """Yields the first group of each match of a pattern, which ends in an open brace, with what stands in the braces."""
+    """Yields the first group of each match of a pattern that ends in an open brace, with what stands in the braces."""
     for found in re.finditer(pattern, text, flags=re.M):
         yield found[1], text[found.end() : closing(text, found.end() - 1)]
 
@@ -87,32 +86,26 @@ def without_generics(text):
 
 
 class Function:
-    """A function of Rust: its file, whether it is public, its name, and the text that begins with it."""
+    """A function of Rust: its item, file and name, the text that begins with it, this deep; and that as one line."""
 
-    def __init__(self, path, text):
-        self.path, self.text = path, text
+    def __init__(self, item, text, depth):
+        self.item, self.path, self.text, self.depth = item, item.path, text, depth
         self.is_public, self.name = text.startswith("pub "), re.match(rf"{PUB}fn (\w+)", text)[1]
+        self.body = re.sub(r"\s*\n\s*", "", without_comments(text))
 
     def contract(self):
         """Returns its signature, and its clauses: each one's first words with its text."""
-        text = without_comments(self.text) + "\n{"
-        at = re.search(r"\n\s*(?:where\b|requires\b|ensures\b|\{)|;\n| \{", text).start()
-        head = re.sub(rf"^{PUB}fn ", "", re.sub(r"\s+", " ", text[:at]))
-        signature, clauses = head.replace("( ", "(").replace(", )", ")").replace(",)", ")").strip(), []
-        while True:
-            at += len(re.match(r"(?:\s|where\b[^{]*?,\n)*", text[at:])[0])
-            found = CLAUSE.match(text, at)
-            if not found:
-                return signature, clauses
-            at = closing(text, found.end() - 1) + 1
-            clauses.append((found[1], text[found.end() : at - 1]))
+        text = without_comments(self.text)
+        head = re.split(r"\n\s*(?:where|requires|ensures|\{)|;\n| \{", re.sub(rf"^{PUB}fn ", "", text))[0]
+        signature = re.sub(r",? \)|,\)", ")", re.sub(r"\s+", " ", head).replace("( ", "(")).strip(" ;")
+        return signature, list(braced(rf"^ {{{self.depth + 4}}}((?:requires|ensures)\*?(?: \w+)?) \{{", text))
 
 
 class Item:
-    """An item of a file of Rust: its first word, the type (as it stands there) and its name, the trait of an impl, and its text."""
+    """An item of Rust: its first word, its type (as it stands there) and name, an impl's trait, and its text."""
 
     def __init__(self, path, number, text):
-        self.path, self.number, self.text = path, number, text
+        self.path, self.crate, self.number, self.text = path, path.split("/")[1], number, text
         head = re.split(r" where\b|;", re.sub(r"\s+", " ", without_comments(text.partition("{")[0])))[0]
         found = ITEM.match(head)
         self.word, self.is_public, head = found[1], head.startswith("pub "), head[found.end() :]
@@ -124,38 +117,32 @@ class Item:
 
     def functions(self):
         """Yields the function that it is, or its methods."""
-        starts = [found.end() for found in METHOD.finditer(self.text)] if self.word in ("impl", "trait") else []
-        starts = [0] if self.word == "fn" else starts
-        for start, end in zip(starts, [*starts[1:], None]):
-            yield Function(self.path, self.text[start:end])
+        if self.word == "fn":
+            yield Function(self, self.text, 0)
+        elif self.word in ("impl", "trait"):
+            for text in re.split(rf"^    (?={PUB}fn \w)", self.text, flags=re.M)[1:]:
+                yield Function(self, text, 4)
 
 
-def items(path, text=""):
-    """Yields the items of a file of Rust (or of this text of it), which begin at a line's start, each up to the line that ends it."""
-    lines = (text or text_of(path)).split("\n")
+@functools.cache
+def items(path):
+    """Returns the items of a file of Rust, which begin at a line's start, each up to the line that ends it."""
+    lines, found = text_of(path).split("\n"), []
     for start in (at for at, line in enumerate(lines) if ITEM.match(line)):
         ends = (at for at in range(start, len(lines)) if re.match(r"\}|\{\}|\S.*[;}]$", lines[at]))
-        yield Item(path, start, "\n".join(lines[start : next(ends, start) + 1]))
+        found.append(Item(path, start, "\n".join(lines[start : next(ends, start) + 1])))
+    return found
 
 
-def enclosing(text, at):
-    """Returns the name of the last function above the end of a place's line, and the line of its impl or trait ("" outside of any)."""
-    found = re.match(rf"(.*^|)( *){PUB}fn (\w+)", text[: text.find("\n", at)], flags=re.M | re.S)
-    block = re.match(r".*^((?:pub )?(?:unsafe )?(?:impl|trait)\b[^\n]*)", found[1], flags=re.M | re.S) if found and found[2] else None
-    return found and found[3], block[1] if block else ""
-
-
-def leaves(tree, base=""):
-    """Yields the name that each leaf of a tree of imports brings in, and its path, with `::` before a definition of antt."""
-    tree, at = re.sub(r"\s+", " ", tree).replace(".{", "::{"), 0
-    while found := re.compile(r"[, ]*([^,{ ][^,{]*)(\{?)").match(tree, at):
-        at = closing(tree, found.end() - 1) + 1 if found[2] else found.end()
-        if found[2]:
-            yield from leaves(tree[found.end() : at - 1], base + found[1])
-        else:
-            path, _, other = found[1].strip().partition(" as ")
-            path = (base + path).removesuffix("::self")
-            yield other or re.split(r"::|\.", path)[-1], path
+def leaves(tree):
+    """Yields the name that each leaf of a tree of imports brings in, and its path, with `::` before a definition."""
+    tree = re.sub(r"\s+", " ", tree).replace(".{", "::{")
+    while inner := re.search(r"([^\s,{}]*)\{([^{}]*)\}", tree):
+        tree = tree.replace(inner[0], ", ".join(inner[1] + it.strip() for it in inner[2].split(",") if it.strip()))
+    for leaf in filter(None, map(str.strip, tree.split(","))):
+        path, _, other = leaf.partition(" as ")
+        path = path.removesuffix("::self")
+        yield other or re.split(r"::|\.", path)[-1], path
 
 
 def imports(text, words=r"\s*(?:pub )?(?:ghost )?use"):
@@ -173,15 +160,6 @@ def front_door():
         for name, source in imports(text_of(path), "pub use").items():
             doors[f"{module}::{name}"] = source.replace("crate::", FRONT + "::", 1)
     return doors
-
-
-def methods_of_traits():
-    """Returns the methods that traits of the front door alone have, each with its trait."""
-    traits = {path.split("::")[-1] for path in front_door()}
-    every = [(item, function) for path in libraries() for item in items(path) for function in item.functions() if item.word != "fn"]
-    others = {"new", *(function.name for _, function in every if function.is_public)}
-    return {function.name: item.name for item, function in every
-            if item.word == "trait" and item.name in traits and function.name not in others}
 
 
 def plain(text):
