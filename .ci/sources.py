@@ -12,9 +12,7 @@ FRONT = "futures_intrusive"
 PUB = r"(?:pub(?:\([a-z]+\))? )?(?:unsafe )?"
 ITEM = re.compile(rf"{PUB}(impl|trait|struct|enum|type|fn)\b\s*")
 NAME = r"[^\s(){}\[\];,:\"]+"
-HEAD = re.compile(rf"(?:abbrev |unfoldable )?(?:pub )?(?:(data|record) )?({NAME})(?=\s|$)")
-KEYWORDS = set("abbrev unfoldable pub data record module where let in if then else elim Type Unit tt".split())
-WHERE = re.compile(r"\bwhere\s*$", flags=re.M)
+HEAD = re.compile(rf"\s*(?:abbrev |unfoldable )?(?:pub )?(?:(data|record) )?({NAME})")
 
 
 def text_of(path):
@@ -168,124 +166,73 @@ def plain(text):
 
 
 def statements(text):
-    """Returns the statements of a text of antt that begin as deep as the first, each with its lines up to the next one."""
+    """Returns the statements of a text of antt that begin as deep as the first, each with its lines up to the next."""
     text = "\n".join(line for line in plain(text).split("\n") if line.strip())
     depth = re.match(" *", text)[0]
     return re.split(rf"\n(?={depth}[^\s)}}\]])", text) if text else []
 
 
-def binders(text):
-    """Returns the names that a text binds: those of `(x : T)`, of functions, of `let` and of what stands under `where`."""
-    names = re.findall(rf"[({{]\s*((?:{NAME}\s+)*{NAME})\s*:", text)
-    for pattern in (r"λ\s+([^.()]*)\.", rf"\blet\s+({NAME})", r"\|([^|↦]*)↦"):
-        names += re.findall(pattern, text)
-    if WHERE.search(text):
-        names += re.findall(rf"^\s+(?:abbrev )?({NAME}) :", text, flags=re.M)
-    return set(re.findall(NAME, " ".join(names)))
+class Definition:
+    """A definition of antt: its file, its name, how many lines it has, its text, and why it is believed, if it is."""
+
+    def __init__(self, file, name, text):
+        self.file, self.name, self.size, self.text, self.why = file, name, 0, text, None
+
+
+class Antt:
+    """A file of antt, or an item of Rust: its imports, and its definitions by their and their constructors' names."""
+
+    def __init__(self, path, imported=()):
+        self.path, self.imports, self.defined = path, dict(imported), {}
+
+    def read(self, text, parameters=""):
+        """Reads the statements of a file, or of a module with these parameters."""
+        last = None
+        for statement in statements(text):
+            used = re.match(r"\s*(?:pub )?use\s+(.*)", statement, flags=re.S)
+            kind, name = HEAD.match(statement).groups()
+            before, _, inside = statement.partition(" where\n")
+            if used:
+                self.imports.update(leaves(used[1]))
+            elif name == "module":
+                self.read(inside, parameters + before)
+            elif kind or not last or name != last.name:
+                last = self.defined[name] = Definition(self, name, parameters)
+                self.defined.update({HEAD.match(part)[2]: last for part in statements(inside) if kind == "data"})
+            if last and name == last.name:
+                last.size += statement.count("\n") + 1
+                last.text += "\n" + statement
+        return self
+
+    def definitions(self):
+        """Returns its definitions."""
+        return list(dict.fromkeys(self.defined.values()))
+
+    def meant(self, name, member=""):
+        """Returns the definition that a name means here: None if that is elsewhere, False if there is none."""
+        base, _, imported = self.imports.get(name, "").partition("::")
+        return defined_at(base, imported or member) if imported or base and member else self.defined.get(name)
+
+
+@functools.cache
+def antt(path):
+    """Returns a file of antt, or None if there is none."""
+    return Antt(path).read(text_of(path)) if os.path.isfile(path) else None
+
+
+def defined_at(base, name):
+    """Returns the definition of a name in a file or a type: None if that is elsewhere, False if there is none."""
+    found = re.fullmatch(r"Rattle\.(\w+)\.((?:specs|proofs)\.(?!declared\.|contracts\.).*)", base)
+    if not found or not os.path.isdir(f"crates/{found[1]}"):
+        return None
+    path = f"crates/{found[1]}/" + found[2].replace(".", "/")
+    outer, _, owner = path.rpartition("/")
+    file, name = (antt(path + ".antt"), name) if antt(path + ".antt") else (antt(outer + ".antt"), owner)
+    return file and file.meant(name) or False
 
 
 def words(text):
-    """Yields the names in a text of antt, each with what stands behind its first dot; not the labels of fields and arguments."""
-    for word in re.findall(NAME, re.sub(rf"(?<=[{{;])\s*{NAME}\s*=(?![=\w])", " ", text)):
+    """Yields the names in a text of antt, each with what stands behind its first dot; not the labels of arguments."""
+    for word in re.findall(NAME, re.sub(rf"(?<=[{{;])\s*{NAME}\s*=(?![=\w])", " ", plain(text))):
         head, _, rest = word.partition(".")
-        if head:
-            yield head, rest.split(".")[0]
-
-
-class Definition:
-    """A definition of antt: where it stands, its name, its parts (constructors or fields), how many lines it has, its statements, each with
-    the names that it binds, and why it is believed, if it is."""
-
-    def __init__(self, scope, name):
-        self.scope, self.name, self.parts, self.size, self.statements, self.why = scope, name, set(), 0, [], None
-
-    def add(self, text, bound):
-        """Adds a statement, which binds these names and those of its own text. Returns them all."""
-        self.statements.append((text, bound | binders(text)))
-        return self.statements[-1][1]
-
-
-class Scope:
-    """What names mean in a file of antt, or in a file or an item of Rust: its imports, its definitions (of antt), the scopes around it."""
-
-    def __init__(self, path, outer=None, names=()):
-        self.path, self.around, self.imports, self.exports = path, [self, *(outer.around if outer else [])], dict(names), set()
-        self.definitions, self.constructors, self.members = {}, {}, set()
-
-    def find(self, name):
-        """Returns the definition that has this name, or a constructor of it."""
-        return self.definitions.get(name) or self.constructors.get(name)
-
-    def is_unknown(self, name):
-        """Whether an identifier is neither defined nor imported. In clauses those with a capital letter may be types of Rust."""
-        if not re.match(r"[A-Za-z]" if self.path.endswith(".antt") else r"[a-z]", name) or name in KEYWORDS:
-            return False
-        return not any(it.find(name) or name in it.imports or name in it.members for it in self.around)
-
-    def read(self, text, telescope=""):
-        """Reads the statements of a file of antt, or of a block with these parameters."""
-        last = None
-        for statement in statements(text):
-            used = re.match(r"(pub )?use\s+(.*)", statement, flags=re.S)
-            if used:
-                self.imports.update(leaves(used[2]))
-                self.exports.update(name for name, path in leaves(used[2]) if used[1])
-            elif statement.lstrip().startswith("module "):
-                cut = WHERE.search(statement).end()
-                self.read(statement[cut:], telescope + " " + statement[:cut])
-            elif not statement.startswith("pub mod "):
-                last = self.define(statement, telescope, last)
-
-    def define(self, statement, telescope, last):
-        """Reads a signature, an equation, a data type or a record, and returns the definition that it is of."""
-        kind, name = HEAD.match(statement.lstrip()).groups()
-        if kind or not last or name != last.name:
-            last = self.definitions.setdefault(name, Definition(self, name))
-            last.add(telescope, set())
-        last.size += statement.count("\n") + 1
-        # An equation binds the names on its left; a type what stands before `where`, and a record's field is bound in those behind it.
-        left = re.match(rf"\s*{re.escape(name)}\s((?:\{{[^}}]*\}}|[^=:{{])*)=(?!=)", "" if kind else statement)
-        cut = WHERE.search(statement).end() if kind else len(statement)
-        bound = last.add(statement[:cut], binders(telescope) | {word for word, _ in words(left[1] if left else "")})
-        for part in statements(statement[cut:]):
-            part, text = re.match(rf"\s*(?:pub )?({NAME})(.*)", part, flags=re.S).groups()
-            last.parts.add(part)
-            last.add(text, bound)
-            bound = bound | {part} if kind == "record" else bound
-        self.constructors.update({part: last for part in last.parts if kind == "data"})
-        return last
-
-
-class Specs:
-    """All files of antt, by the path that an import has."""
-
-    def __init__(self):
-        self.files = {}
-        for path in sorted(glob.glob("crates/*/specs/*.antt") + glob.glob("crates/*/proofs/**/*.antt", recursive=True)):
-            scope = self.files["Rattle." + path[len("crates/") : -len(".antt")].replace("/", ".")] = Scope(path)
-            scope.read(text_of(path))
-
-    def at(self, base, name):
-        """Returns the definition that a file or a type has under this name: None if that is elsewhere, False if it has none."""
-        outer, _, of = base.rpartition(".")
-        scope, name = (self.files[base], name) if base in self.files else (self.files.get(outer), of)
-        if scope:
-            return scope.find(name) or name in scope.exports and self.at(*scope.imports[name].split("::"))
-        found = re.match(r"Rattle\.(\w+)\.specs\.(?!declared\.|contracts\.)", base)
-        return False if found and os.path.isdir("crates/" + found[1]) else None
-
-    def named(self, scope, head, rest):
-        """Returns the definition that a name means in a scope: None if that is elsewhere, False if there is none."""
-        for it in scope.around:
-            base, _, name = it.imports.get(head, "").partition("::")
-            if it.find(head) and not (base and not name and rest):
-                return it.find(head)
-            if name or base and rest:
-                return self.at(base, name or rest)
-        return None
-
-    def missing(self, scope):
-        """Yields the imports of a scope that have no definition."""
-        for base, _, name in (path.partition("::") for path in scope.imports.values()):
-            if name and self.at(base, name) is False:
-                yield f"{scope.path}: no definition of {name} in {base}"
+        yield head, rest.split(".")[0]
