@@ -16,20 +16,12 @@ mod drops;
 #[cfg(test)]
 mod event;
 #[cfg(test)]
-mod many;
-#[cfg(test)]
 mod mutex;
 #[cfg(test)]
 mod owned;
-#[cfg(test)]
-mod polls;
 #[cfg(test)]
 mod shared_semaphore;
 #[cfg(test)]
 mod timer;
 #[cfg(test)]
-mod timer_runs;
-#[cfg(test)]
 mod waited;
-#[cfg(test)]
-mod wakes;

@@ -1,10 +1,9 @@
 //! A call that wakes many wakes each of them, however many there are.
 ghost use Rattle.fi_sync.specs.Blanks.{IsPermitBlank};
 
-use crate::timer::Shown;
 use fi_channels::ChannelState;
-use fi_parts::StateId;
 use fi_parts::buffer::ArrayBuf;
+use fi_parts::{MockClock, StateId};
 use fi_sync::{
     Blocking, Channel, ChannelReceiveFuture, ManualResetEvent, PollWaker, Semaphore,
     SemaphoreAcquireFuture, StateBroadcastChannel, StateReceiveFuture, TimerFuture, TimerService,
@@ -12,7 +11,7 @@ use fi_sync::{
 };
 use futures::test::MockTask;
 use std::marker::Brand;
-use std::sync::atomic::{AtomicU64, Ordering};
+use std::sync::Arc;
 use std::sync::ledger::{Blank, Ledger};
 
 const MANY: usize = 100;
@@ -90,23 +89,23 @@ impl<'a, R: Blocking> Crowd for &'a StateBroadcastChannel<u64, R> {
     }
 }
 
-/// A timer, and its time.
+/// A timer, and its clock.
 #[derive(Drop)]
-struct Timed<'a, 'b, R> {
-    time: &'b AtomicU64,
-    timer: &'a TimerService<Shown<'b>, R>,
+struct Timed<'a, R> {
+    clock: &'a MockClock,
+    timer: &'a TimerService<Arc<MockClock>, R>,
 }
 
-impl<'a, 'b, R: Blocking> Crowd for Timed<'a, 'b, R> {
-    type Wait = TimerFuture<'a, Shown<'b>, R>;
+impl<'a, R: Blocking> Crowd for Timed<'a, R> {
+    type Wait = TimerFuture<'a, Arc<MockClock>, R>;
 
-    fn begin(&self, task: &MockTask) -> Option<TimerFuture<'a, Shown<'b>, R>> {
+    fn begin(&self, task: &MockTask) -> Option<TimerFuture<'a, Arc<MockClock>, R>> {
         let mut wait = self.timer.deadline(5).ok()?;
         task.poll(&mut wait).is_pending().then_some(wait)
     }
 
     fn wake(&self) {
-        self.time.store(5, Ordering::SeqCst);
+        self.clock.set_time(5);
         self.timer.check_expirations();
     }
 }
@@ -145,9 +144,18 @@ fn a_state_wakes_a_hundred(rt: HostRuntime) {
 
 #[test]
 fn a_check_wakes_a_hundred(rt: HostRuntime) {
-    let time = &AtomicU64::new(0);
-    let timer = &TimerService::new(rt.alloc(), rt, Shown { time });
-    assert!(rt; wakes_all(&rt, &Timed { time, timer }) == Some(true));
+    let clock = Arc::new(rt.alloc(), MockClock::new()).expect(&rt, "memory");
+    let shared = Arc::try_clone(&clock).expect(&rt, "memory");
+    let timer = &TimerService::new(rt.alloc(), rt, shared);
+    assert!(rt;
+        wakes_all(
+            &rt,
+            &Timed {
+                clock: &clock,
+                timer
+            }
+        ) == Some(true)
+    );
 }
 
 fn release_wakes<R: Blocking + Copy, L: Ledger>(rt: R, blank: Blank) -> Option<bool>
