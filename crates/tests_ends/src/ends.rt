@@ -15,19 +15,16 @@ use fi_parts::{ChannelSendError, Fault, StateId};
 use futures::Future;
 use futures::task::Poll;
 use futures::test::MockTask;
-use futures_intrusive::channel::shared::{
-    channel, oneshot_broadcast_channel, oneshot_channel, state_broadcast_channel,
-};
 use std::alloc::AllocGlobal;
 use std::random::RandomSource;
 use tests_driver::pollable::Pollable;
+use tests_ends_calls::many::channel;
+use tests_ends_calls::one_value::{oneshot_broadcast_channel, oneshot_channel};
+use tests_ends_calls::states::state_broadcast_channel;
 use tests_ends_calls::{
-    ClonedEnd, ReceivesOne, ReceivesStates, ReceivingEnd, SaysClosed, SendingEnd, SendsAtOnce,
-    TriesToReceive, TriesToSend,
+    ClonedEnd, Made, ReceivesOne, ReceivesStates, ReceivingEnd, SaysClosed, SendingEnd,
+    SendsAtOnce, TriesToReceive, TriesToSend,
 };
-
-/// Two ends, if they could be made.
-pub type Made<S, E> = Result<(S, E), Fault>;
 
 // The clone of a sender is dropped, then the sender: the value that it sent comes, and then the end.
 fn value_comes_before_the_end<S, E>(ends: Made<S, E>) -> Option<bool>

@@ -3,9 +3,6 @@
 use fi_parts::{Fault, Slot, StateId};
 use fi_run::{Answer, OneshotCall, StateCall};
 use futures::Future;
-use futures_intrusive::channel::shared::{
-    oneshot_broadcast_channel, oneshot_channel, state_broadcast_channel,
-};
 use std::alloc::AllocGlobal;
 use std::sync::Wait;
 use tests_driver::owned::Futures;
@@ -14,6 +11,8 @@ use tests_driver::state::asked;
 use tests_driver::tasks::Tasks;
 use tests_driver::worked::OfOpening;
 use tests_driver::{Flavour, Opened, Play, Played, Seen};
+use tests_ends_calls::one_value::{oneshot_broadcast_channel, oneshot_channel};
+use tests_ends_calls::states::state_broadcast_channel;
 use tests_ends_calls::{ReceivesOne, ReceivesStates, SendsAtOnce};
 
 /// Both ends, with the receives.

@@ -1,49 +1,54 @@
 //! Calls of ends that block their thread until another thread brings what they wait for.
 
-use super::Made;
+use fi_parts::buffer::GrowingHeapBuf;
 use fi_parts::{Fault, StateId};
 use fi_run::Answer;
 use futures_intrusive::blocking::Blocking;
 use futures_intrusive::channel::GivesValue;
-use futures_intrusive::channel::shared::{
-    OneValueReceiver, OneValueSender, Receiver, Sender, StateReceiver, StateSender, channel,
-    oneshot_broadcast_channel, oneshot_channel, state_broadcast_channel,
-};
 use std::alloc::AllocGlobal;
 use std::sync::Wait;
 use std::thread::{self, Threads};
 use std::time::{self, CpuClock, Duration};
 use tests_driver::answers::IntoAnswer;
-use tests_ends_calls::{SendsAtOnce, TriesToReceive, TriesToSend};
+use tests_ends_calls::many::channel;
+use tests_ends_calls::one_value::{oneshot_broadcast_channel, oneshot_channel};
+use tests_ends_calls::states::state_broadcast_channel;
+use tests_ends_calls::{Made, SendsAtOnce, TriesToReceive, TriesToSend, many, one_value, states};
 
 const DELAY_MILLIS: u64 = 20;
+
+type Sender<R> = many::Sender<u64, GrowingHeapBuf<u64>, R>;
+
+type Receiver<R> = many::Receiver<u64, GrowingHeapBuf<u64>, R>;
 
 /// The call of an end that blocks.
 trait Blocks: Drop {
     fn block(&self) -> Answer<u64, u64>;
 }
 
-impl<R: Blocking + Drop> Blocks for Sender<u64, R> {
+impl<R: Blocking + Drop> Blocks for Sender<R> {
     fn block(&self) -> Answer<u64, u64> {
-        self.send_blocking(6).into_answer()
+        self.end.send_blocking(6).into_answer()
     }
 }
 
-impl<R: Blocking + Drop> Blocks for Receiver<u64, R> {
+impl<R: Blocking + Drop> Blocks for Receiver<R> {
     fn block(&self) -> Answer<u64, u64> {
-        self.receive_blocking().into_answer()
+        self.end.receive_blocking().into_answer()
     }
 }
 
-impl<G: GivesValue<u64>, R: Blocking + Drop> Blocks for OneValueReceiver<u64, G, R> {
+impl<G: GivesValue<u64>, R: Blocking + Drop> Blocks for one_value::Receiver<u64, G, R> {
     fn block(&self) -> Answer<u64, u64> {
-        self.receive_blocking().into_answer()
+        self.end.receive_blocking().into_answer()
     }
 }
 
-impl<R: Blocking + Drop> Blocks for StateReceiver<u64, R> {
+impl<R: Blocking + Drop> Blocks for states::Receiver<u64, R> {
     fn block(&self) -> Answer<u64, u64> {
-        self.receive_blocking(StateId::from_value(1)).into_answer()
+        self.end
+            .receive_blocking(StateId::from_value(1))
+            .into_answer()
     }
 }
 
@@ -52,25 +57,25 @@ trait Acts: Drop {
     fn act(&self) -> Answer<u64, u64>;
 }
 
-impl<R: Wait + Drop> Acts for Sender<u64, R> {
+impl<R: Wait + Drop> Acts for Sender<R> {
     fn act(&self) -> Answer<u64, u64> {
-        TriesToSend::try_send(self, 7).into_answer()
+        self.try_send(7).into_answer()
     }
 }
 
-impl<R: Wait + Drop> Acts for Receiver<u64, R> {
+impl<R: Wait + Drop> Acts for Receiver<R> {
     fn act(&self) -> Answer<u64, u64> {
-        TriesToReceive::try_receive(self).into_answer()
+        self.try_receive().into_answer()
     }
 }
 
-impl<G: GivesValue<u64>, R: Wait + Drop> Acts for OneValueSender<u64, G, R> {
+impl<G: GivesValue<u64>, R: Wait + Drop> Acts for one_value::Sender<u64, G, R> {
     fn act(&self) -> Answer<u64, u64> {
         self.send(7).into_answer()
     }
 }
 
-impl<R: Wait + Drop> Acts for StateSender<u64, R> {
+impl<R: Wait + Drop> Acts for states::Sender<u64, R> {
     fn act(&self) -> Answer<u64, u64> {
         self.send(7).into_answer()
     }

@@ -1,8 +1,9 @@
 //! What ends tell of how many there are.
 
-use super::Made;
-use futures_intrusive::channel::shared::{channel, state_broadcast_channel};
-use tests_ends_calls::{ClonedEnd, CountsEnds};
+use std::alloc::AllocGlobal;
+use tests_ends_calls::many::channel;
+use tests_ends_calls::states::state_broadcast_channel;
+use tests_ends_calls::{ClonedEnd, CountsEnds, Made};
 
 // Both ends tell the counts of both sides, after a clone of each and after drops.
 fn counts_are_told<S, E>(ends: Made<S, E>) -> Option<bool>

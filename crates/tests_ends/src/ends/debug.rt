@@ -1,6 +1,5 @@
 //! The texts of `Debug`: those of the Rust crate, and a name alone where it has none.
 
-use super::Made;
 use fi_channels::{OneValueState, TakesValue};
 use fi_sync::PollWaker;
 use futures_intrusive::channel::shared::{
@@ -8,7 +7,8 @@ use futures_intrusive::channel::shared::{
 };
 use std::alloc::{AllocGlobal, Global};
 use std::fmt;
-use tests_ends_calls::ReceivingEnd;
+use std::sync::Wait;
+use tests_ends_calls::Made;
 use tests_help::texts::shows;
 
 // Whether the sender and the receiver show these names.
@@ -29,21 +29,15 @@ fn ends_of_a_channel_show_their_names(rt: HostRuntime) {
     assert!(rt; show(rt.alloc(), ends, "Sender", "Receiver"));
 }
 
-fn stream_shows<S, E>(alloc: Global, ends: Made<S, E>, wanted: &str) -> Option<bool>
-where
-    S: Drop,
-    E: ReceivingEnd<u64>,
-    E::Items: fmt::Debug,
-{
-    let (_sender, receiver) = ends.ok()?;
-    let stream = receiver.stream().ok()?;
+fn stream_shows<R: Wait + Drop>(alloc: Global, rt: R, wanted: &str) -> Option<bool> {
+    let (_sender, receiver) = channel::<u64, R>(alloc, rt, 1).ok()?;
+    let stream = receiver.into_stream().ok()?;
     Some(shows(alloc, &stream, wanted))
 }
 
 #[test]
 fn a_shared_stream_shows_its_name(rt: HostRuntime) {
-    let ends = channel::<u64, HostRuntime>(rt.alloc(), rt, 1);
-    assert!(rt; stream_shows(rt.alloc(), ends, "SharedStream") == Some(true));
+    assert!(rt; stream_shows(rt.alloc(), rt, "SharedStream") == Some(true));
 }
 
 #[test]

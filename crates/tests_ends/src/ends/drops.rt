@@ -1,9 +1,9 @@
 //! Each value is dropped once, whatever is dropped first, and with no lock held.
 
-use super::Made;
-use fi_channels::TrySendError;
+use fi_channels::{SendFault, TrySendError};
+use fi_parts::buffer::GrowingHeapBuf;
+use futures::Future;
 use futures::test::MockTask;
-use futures_intrusive::channel::shared::{Sender, StateReceiver, channel, state_broadcast_channel};
 use std::alloc::AllocGlobal;
 use std::process::Abort;
 use std::random::RandomSource;
@@ -11,7 +11,10 @@ use std::rc::Rc;
 use std::sync::Wait;
 use std::test::Fail;
 use std::thread;
-use tests_ends_calls::TriesToSend;
+use tests_driver::pollable::Pollable;
+use tests_ends_calls::many::{Sender, channel};
+use tests_ends_calls::states::{Receiver, state_broadcast_channel};
+use tests_ends_calls::{Made, ReceivingEnd, SaysClosed, SendingEnd, SendsAtOnce, TriesToSend};
 use tests_help::meeting::{Guest, Meeting};
 
 type Counted = Rc<u64>;
@@ -52,22 +55,34 @@ impl<A: Drop, B: Drop, C: Drop, D: Drop, E: Drop> Living<A, B, C, D, E> {
     }
 }
 
-// Makes a channel with a value buffered, one waiting and one refused, and drops its parts.
-fn drop_parts<R>(rt: R, counted: &Counted, order: u32)
+// Sends a value that is buffered, one that waits and one that is refused. The send that waits.
+fn fill<R, S>(rt: R, task: &MockTask, sender: &S, counted: &Counted) -> S::Send
 where
-    R: Wait + Abort + Drop + Copy + RandomSource + AllocGlobal,
+    R: Abort + Copy,
+    S: SendingEnd<Counted>,
+    S::Send: Pollable + Future<Output = Result<(), SendFault<Counted>>>,
 {
-    let task = MockTask::new(&rt).expect(&rt, "memory");
-    let ends = channel::<Counted, R>(rt.alloc(), rt, 1);
-    let (sender, receiver) = ends.expect(&rt, "memory");
     assert!(rt; sender.try_send(owner(&rt, counted)).is_ok());
     let mut send = sender.send(owner(&rt, counted)).ok().expect(&rt, "memory");
     assert!(rt; task.poll(&mut send).is_pending());
     assert!(rt; sender.try_send(owner(&rt, counted)).is_err());
     assert_eq!(rt; Rc::strong_count(counted), 3);
+    send
+}
+
+// Fills the channel, and drops its parts.
+fn drop_parts<R, S, E>(rt: R, ends: Made<S, E>, counted: &Counted, order: u32)
+where
+    R: Abort + Copy + RandomSource + AllocGlobal,
+    S: SendingEnd<Counted>,
+    S::Send: Pollable + Future<Output = Result<(), SendFault<Counted>>>,
+    E: ReceivingEnd<Counted>,
+{
+    let task = MockTask::new(&rt).expect(&rt, "memory");
+    let (sender, receiver) = ends.expect(&rt, "memory");
+    let send = fill(rt, &task, &sender, counted);
     let receive = receiver.receive().expect(&rt, "memory");
-    let other = receiver.clone().expect(&rt, "memory");
-    let stream = other.into_stream().ok().expect(&rt, "memory");
+    let stream = receiver.stream().expect(&rt, "memory");
     let living = Living {
         sender: Some(sender),
         receiver: Some(receiver),
@@ -82,7 +97,8 @@ where
 fn each_value_is_dropped_once(rt: HostRuntime) {
     let counted = Rc::new(rt.alloc(), 7u64).expect(&rt, "memory");
     for order in 0..625u32 {
-        drop_parts(rt, &counted, order);
+        let ends = channel::<Counted, HostRuntime>(rt.alloc(), rt, 1);
+        drop_parts(rt, ends, &counted, order);
         assert_eq!(rt; Rc::strong_count(&counted), 1);
     }
 }
@@ -109,7 +125,10 @@ fn last_receiver_drops_what_is_buffered(rt: HostRuntime) -> Result<(), Fail> {
 }
 
 // Whether a send that is made once a value's drop has begun finds the channel closed.
-fn send_is_refused<'a, R: Wait + Drop>(sender: Sender<Guest<'a>, R>, meeting: &'a Meeting) -> bool {
+fn send_is_refused<'a, R: Wait + Drop>(
+    sender: Sender<Guest<'a>, GrowingHeapBuf<Guest<'a>>, R>,
+    meeting: &'a Meeting,
+) -> bool {
     let has_begun = meeting.has_begun();
     let sent = sender.try_send(Guest { meeting: None });
     meeting.end_call();
@@ -132,10 +151,7 @@ fn cleared_values_are_let_go_without_the_lock(rt: HostRuntime) {
 }
 
 // Whether the channel is found open once a value's drop has begun.
-fn is_open<'a, R: Wait + Drop>(
-    receiver: StateReceiver<Guest<'a>, R>,
-    meeting: &'a Meeting,
-) -> bool {
+fn is_open<'a, R: Wait + Drop>(receiver: Receiver<Guest<'a>, R>, meeting: &'a Meeting) -> bool {
     let has_begun = meeting.has_begun();
     let is_open = !receiver.is_closed();
     meeting.end_call();

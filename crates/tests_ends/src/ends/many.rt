@@ -1,11 +1,11 @@
 //! Many values in a channel, and many ends of one at once.
 
-use super::Made;
 use fi_channels::TrySendError;
 use fi_parts::buffer::FixedHeapBuf;
-use futures_intrusive::channel::shared::{channel, generic_channel, state_broadcast_channel};
 use std::alloc::{AllocGlobal, Global};
-use tests_ends_calls::{ClonedEnd, CountsEnds, TriesToReceive, TriesToSend};
+use tests_ends_calls::many::{channel, generic_channel};
+use tests_ends_calls::states::state_broadcast_channel;
+use tests_ends_calls::{ClonedEnd, CountsEnds, Made, TriesToReceive, TriesToSend};
 
 /// So many values fit into a channel.
 const PLACES: u64 = 5_000;

@@ -2,9 +2,10 @@
 
 use futures_intrusive::Fault;
 use futures_intrusive::blocking::Blocking;
-use futures_intrusive::channel::shared::{StateReader, StateReceiver, state_broadcast_channel};
+use futures_intrusive::channel::shared::{StateReader, StateReceiver};
 use std::alloc::AllocGlobal;
 use std::sync::Wait;
+use tests_ends_calls::states::state_broadcast_channel;
 use tests_ends_calls::{ReadsStates, SendsAtOnce};
 
 // The last setting, once nobody is left who changes it.
@@ -29,7 +30,7 @@ fn is_changed_twice<S: SendsAtOnce<u64>>(sender: S) -> bool {
 fn a_reader_follows_to_the_end(rt: HostRuntime) {
     let ends = state_broadcast_channel::<u64, HostRuntime>(rt.alloc(), rt);
     let (sender, receiver) = ends.expect(&rt, "memory");
-    assert!(rt; is_changed_twice(sender) && follow(&rt, receiver) == Ok(6));
+    assert!(rt; is_changed_twice(sender) && follow(&rt, receiver.end) == Ok(6));
 }
 
 // Each newest state is read once; the reader's drop is that of the only receiver.
@@ -72,5 +73,5 @@ where
 fn a_reader_lends_the_newest_state(rt: HostRuntime) {
     let ends = state_broadcast_channel::<u64, HostRuntime>(rt.alloc(), rt);
     let (sender, receiver) = ends.expect(&rt, "memory");
-    assert!(rt; newest_is_lent(sender, receiver.into_reader()));
+    assert!(rt; newest_is_lent(sender, receiver.end.into_reader()));
 }

@@ -1,14 +1,13 @@
 //! What ends say of their channel: what a borrowed channel says that gets the same calls.
 
-use super::Made;
 use fi_channels::TrySendError;
 use fi_parts::Fault;
 use fi_parts::buffer::GrowingHeapBuf;
 use futures_intrusive::channel::GenericChannel;
-use futures_intrusive::channel::shared::{Receiver, Sender, channel, unbuffered_channel};
 use std::alloc::AllocGlobal;
 use std::sync::Wait;
-use tests_ends_calls::{TriesToReceive, TriesToSend};
+use tests_ends_calls::many::{Receiver, Sender, channel, unbuffered_channel};
+use tests_ends_calls::{Made, TriesToReceive, TriesToSend};
 
 /// What is said of a channel.
 #[derive(Clone, Copy, PartialEq, Eq)]
@@ -24,26 +23,26 @@ trait Says {
     fn said(&self) -> Said;
 }
 
-impl<R: Wait + Drop> Says for Sender<u64, R> {
+impl<R: Wait + Drop> Says for Sender<u64, GrowingHeapBuf<u64>, R> {
     fn said(&self) -> Said {
         Said {
-            len: Sender::len(self),
-            capacity: Sender::capacity(self),
-            is_closed: Sender::is_closed(self),
-            is_empty: Sender::is_empty(self),
-            is_full: Sender::is_full(self),
+            len: self.end.len(),
+            capacity: self.end.capacity(),
+            is_closed: self.end.is_closed(),
+            is_empty: self.end.is_empty(),
+            is_full: self.end.is_full(),
         }
     }
 }
 
-impl<R: Wait + Drop> Says for Receiver<u64, R> {
+impl<R: Wait + Drop> Says for Receiver<u64, GrowingHeapBuf<u64>, R> {
     fn said(&self) -> Said {
         Said {
-            len: Receiver::len(self),
-            capacity: Receiver::capacity(self),
-            is_closed: Receiver::is_closed(self),
-            is_empty: Receiver::is_empty(self),
-            is_full: Receiver::is_full(self),
+            len: self.end.len(),
+            capacity: self.end.capacity(),
+            is_closed: self.end.is_closed(),
+            is_empty: self.end.is_empty(),
+            is_full: self.end.is_full(),
         }
     }
 }

@@ -1,45 +1,47 @@
 //! Ends, futures and streams in several threads.
 
-use super::Made;
-use fi_channels::{OneValueState, TrySendError};
-use fi_parts::StateId;
+use fi_channels::TrySendError;
+use fi_parts::{Fault, StateId};
 use fi_run::Answer;
-use fi_sync::PollWaker;
+use futures::Future;
 use futures::executor::block_on;
 use futures::task::Poll;
 use futures::test::MockTask;
 use futures_intrusive::blocking::Blocking;
 use futures_intrusive::channel::GivesValue;
-use futures_intrusive::channel::shared::{
-    ChannelReceiveFuture, Receiver, Sender, StateReceiveFuture, channel, oneshot_broadcast_channel,
-    oneshot_channel, state_broadcast_channel,
-};
 use std::alloc::AllocGlobal;
-use std::process::Abort;
 use std::random::RandomSource;
 use std::sync::Wait;
 use std::thread;
 use std::thread::Threads;
 use tests_driver::answers::IntoAnswer;
 use tests_driver::pollable::Pollable;
-use tests_ends_calls::{ReceivesOne, ReceivesStates, ReceivingEnd, SendsAtOnce, TriesToSend};
+use tests_ends_calls::many::channel;
+use tests_ends_calls::one_value::{oneshot_broadcast_channel, oneshot_channel};
+use tests_ends_calls::states::state_broadcast_channel;
+use tests_ends_calls::{
+    ClonedEnd, Made, ReceivesOne, ReceivesStates, ReceivingEnd, SendsAtOnce, TriesToSend,
+    one_value, states,
+};
 
 const ROUNDS: u32 = 10_000;
 
 // Clones both ends and drops the clones, in each round. The ends that it was given are dropped at the end.
-fn clones<R: Wait + Drop>(sender: Sender<u64, R>, receiver: Receiver<u64, R>) {
+fn clones<S: ClonedEnd, E: ClonedEnd>(sender: S, receiver: E) {
     for _ in 0..ROUNDS {
-        let _ = (sender.clone(), receiver.clone());
+        let _ = (sender.try_clone(), receiver.try_clone());
     }
 }
 
-fn clone_all<'a, R>(rt: &'a R, sender: &'a Sender<u64, R>, receiver: &'a Receiver<u64, R>)
+fn clone_all<'a, R, S, E>(rt: &'a R, sender: &'a S, receiver: &'a E)
 where
-    R: Wait + Threads + Abort + RandomSource + AllocGlobal + Drop + Send + Sync,
+    R: Wait + Threads + Sync,
+    S: ClonedEnd + Send + Sync,
+    E: ClonedEnd + Send + Sync,
 {
     thread::scope(thread::scope_env(), rt, |scope| {
         for _ in 0..4 {
-            if let (Ok(sender), Ok(receiver)) = (sender.clone(), receiver.clone()) {
+            if let (Ok(sender), Ok(receiver)) = (sender.try_clone(), receiver.try_clone()) {
                 let _ = scope.spawn(move || clones(sender, receiver));
             }
         }
@@ -48,37 +50,45 @@ where
 
 // Four threads clone and drop ends. The senders are counted exactly: the channel stays open until the last one goes, and then closes
 // once.
-fn counts_senders<R>(rt: R)
+fn counts_senders<R, S, E>(rt: &R, ends: Made<S, E>) -> Option<bool>
 where
-    R: Wait + Threads + Abort + Drop + Copy + RandomSource + AllocGlobal + Send + Sync,
+    R: Wait + Threads + RandomSource + AllocGlobal + Sync,
+    S: ClonedEnd + Send + Sync,
+    E: ReceivingEnd<u64> + ClonedEnd + Send + Sync,
+    E::Receive: Pollable + Future<Output = Result<Option<u64>, Fault>>,
 {
-    let task = MockTask::new(&rt).expect(&rt, "memory");
-    let (sender, receiver) = channel::<u64, R>(rt.alloc(), rt, 1).expect(&rt, "memory");
-    let mut receive = receiver.receive().expect(&rt, "memory");
-    clone_all(&rt, &sender, &receiver);
-    assert!(rt; task.poll(&mut receive).is_pending() && !task.is_woken());
+    let task = MockTask::new(rt).ok()?;
+    let (sender, receiver) = ends.ok()?;
+    let mut receive = receiver.receive().ok()?;
+    clone_all(rt, &sender, &receiver);
+    let waits = task.poll(&mut receive).is_pending() && !task.is_woken();
     drop(sender);
-    assert!(rt; task.is_woken() && task.poll(&mut receive) == Poll::Ready(Ok(None)));
-    assert!(rt; !receiver.close().is_newly_closed());
+    let is_told = waits && task.is_woken();
+    let ends = is_told && task.poll(&mut receive) == Poll::Ready(Ok(None));
+    Some(ends && !receiver.close().is_newly_closed())
 }
 
 // And so are the receivers.
-fn counts_receivers<R>(rt: R)
+fn counts_receivers<R, S, E>(rt: &R, ends: Made<S, E>) -> Option<bool>
 where
-    R: Wait + Threads + Abort + Drop + Copy + RandomSource + AllocGlobal + Send + Sync,
+    R: Wait + Threads + Sync,
+    S: TriesToSend<u64> + ClonedEnd + Send + Sync,
+    E: ClonedEnd + Send + Sync,
 {
-    let (sender, receiver) = channel::<u64, R>(rt.alloc(), rt, 1).expect(&rt, "memory");
-    clone_all(&rt, &sender, &receiver);
-    assert!(rt; sender.try_send(1) == Ok(()));
+    let (sender, receiver) = ends.ok()?;
+    clone_all(rt, &sender, &receiver);
+    let is_open = sender.try_send(1) == Ok(());
     drop(receiver);
-    assert!(rt; sender.try_send(2) == Err(TrySendError::Closed(2)));
-    assert!(rt; !sender.close().is_newly_closed());
+    let is_closed = sender.try_send(2) == Err(TrySendError::Closed(2));
+    Some(is_open && is_closed && !sender.close().is_newly_closed())
 }
 
 #[test]
 fn four_threads_clone_and_drop_ends(rt: HostRuntime) {
-    counts_senders(rt);
-    counts_receivers(rt);
+    let ends = channel::<u64, HostRuntime>(rt.alloc(), rt, 1);
+    assert!(rt; counts_senders(&rt, ends) == Some(true));
+    let ends = channel::<u64, HostRuntime>(rt.alloc(), rt, 1);
+    assert!(rt; counts_receivers(&rt, ends) == Some(true));
 }
 
 // A stream is moved to another thread, and dropped there.
@@ -116,15 +126,13 @@ trait Awaited: Drop {
     fn answer<R: Blocking>(self, rt: &R) -> Option<Answer<u64, u64>>;
 }
 
-type OneValue<G> = OneValueState<u64, PollWaker, G>;
-
-impl<G: GivesValue<u64>, R: Wait + Drop> Awaited for ChannelReceiveFuture<OneValue<G>, R> {
+impl<G: GivesValue<u64>, R: Wait + Drop> Awaited for one_value::Receiving<u64, G, R> {
     fn answer<Q: Blocking>(self, rt: &Q) -> Option<Answer<u64, u64>> {
         answer_of(rt, self)
     }
 }
 
-impl<R: Wait + Drop> Awaited for StateReceiveFuture<u64, R> {
+impl<R: Wait + Drop> Awaited for states::Receiving<u64, R> {
     fn answer<Q: Blocking>(self, rt: &Q) -> Option<Answer<u64, u64>> {
         answer_of(rt, self)
     }

@@ -1,10 +1,11 @@
 //! Clones of ends with no memory left.
-use fi_parts::Fault;
-use futures_intrusive::channel::shared::{Sender, StateSender, channel, state_broadcast_channel};
+use fi_parts::buffer::GrowingHeapBuf;
 use std::alloc::AllocGlobal;
 use std::sync::Wait;
 use std::test::Fail;
-use tests_ends_calls::{ClonedEnd, SendsAtOnce, TriesToSend};
+use tests_ends_calls::many::channel;
+use tests_ends_calls::states::state_broadcast_channel;
+use tests_ends_calls::{ClonedEnd, Made, SendsAtOnce, TriesToSend, many, states};
 use tests_help::hoard::Hoard;
 
 /// A sender of many values or of states.
@@ -12,20 +13,20 @@ trait Sends: ClonedEnd {
     fn is_sent(&self, value: u64) -> bool;
 }
 
-impl<R: Wait + Drop> Sends for Sender<u64, R> {
+impl<R: Wait + Drop> Sends for many::Sender<u64, GrowingHeapBuf<u64>, R> {
     fn is_sent(&self, value: u64) -> bool {
-        TriesToSend::try_send(self, value).is_ok()
+        self.try_send(value).is_ok()
     }
 }
 
-impl<R: Wait + Drop> Sends for StateSender<u64, R> {
+impl<R: Wait + Drop> Sends for states::Sender<u64, R> {
     fn is_sent(&self, value: u64) -> bool {
-        SendsAtOnce::send(self, value).is_ok()
+        self.send(value).is_ok()
     }
 }
 
 // Whether both ends are cloned with no memory left, and the clone of the receiver counts.
-fn are_cloned<S, E>(hoard: &mut Hoard, ends: Result<(S, E), Fault>) -> Option<bool>
+fn are_cloned<S, E>(hoard: &mut Hoard, ends: Made<S, E>) -> Option<bool>
 where
     S: Sends,
     E: ClonedEnd,

@@ -3,12 +3,13 @@ use fi_parts::{Fault, StateId};
 use futures::Future;
 use futures::task::Poll;
 use futures::test::MockTask;
-use futures_intrusive::channel::shared::{oneshot_broadcast_channel, state_broadcast_channel};
 use std::alloc::{AllocGlobal, Global};
 use std::test::Fail;
 use tests_driver::pollable::Pollable;
 use tests_driver::refusals::making::{Making, tries};
-use tests_ends_calls::{ReceivesOne, ReceivesStates, SendsAtOnce};
+use tests_ends_calls::one_value::oneshot_broadcast_channel;
+use tests_ends_calls::states::state_broadcast_channel;
+use tests_ends_calls::{Made, ReceivesOne, ReceivesStates, SendsAtOnce};
 use tests_help::hoard::Hoard;
 
 const BYTES: &[u8] = b"seven and seventy bytes";
@@ -116,7 +117,7 @@ fn delivers_one_value<S, E>(
     alloc: Global,
     task: &MockTask,
     hoard: &mut Hoard,
-    ends: Result<(S, E), Fault>,
+    ends: Made<S, E>,
 ) -> Option<bool>
 where
     S: SendsAtOnce<Vec<u8>>,
@@ -147,7 +148,7 @@ fn delivers_states<S, E>(
     alloc: Global,
     task: &MockTask,
     hoard: &mut Hoard,
-    ends: Result<(S, E), Fault>,
+    ends: Made<S, E>,
 ) -> Option<bool>
 where
     S: SendsAtOnce<Vec<u8>>,
