@@ -1,7 +1,7 @@
 -- What a contract sees of a reader of states and of an iterator that blocks, and what a read does.
 use Rattle.std.specs.Prelude.{◌≡◌, ℕ, Option, Some, None}
 use Rattle.std.specs.Borrow.{Bor}
-use Rattle.core.specs.Fn.{Once, FnOnceReturnsAt}
+use Rattle.std.specs.Fn.{Once, FnOnceReturnsAt}
 use Rattle.fi_channels.specs.StateBroadcast.{StateMachine}
 
 -- The source that its channel's futures register at, and the number of the newest state that it has read.
