@@ -307,7 +307,8 @@ module _ {T W : Type 0} where
   ]
 
   -- what is taken needs no memory, so of all calls only the making of a receive lacks it
-  pub makings_lack : (old new : OneshotMachine T W) (call : OneshotCall T W) → Step taking old call (Refused NoMemory) new → call ≡ Receive
+  pub makings_lack : (old new : OneshotMachine T W) (call : OneshotCall T W) → Step taking old call (Refused NoMemory) new →
+      call ≡ Receive
   makings_lack old new Receive did = refl
   makings_lack old new (Poll slot waker) did = absurd (laws.never_lacks (phase_at old slot.0) old.own did.0)
   makings_lack old new TryReceive did = absurd (laws.takes_without old.own did.0)

@@ -158,11 +158,11 @@ impl<T: Drop, W: Drop, G: GivesValue<T>> Primitive for OneValueState<T, W, G> {
     }
 }
 
-/// Every oneshot channel follows its promises, in every run from a sound state that owes no wake, so from its opening: at most
-/// one receive gets the value that was put in, and none is refused `NoMemory` but its making; at most one value is put in or close
-/// answered `Newly`; what left empty never returns; a pending receive's last waker is registered, stands in the outbox, or was handed out
-/// since; and no wake is owed. A value that the channel held at first counts as put in, and a channel that was spent at first as
-/// closed.
+/// Every oneshot channel follows its promises, in every run from a sound state that owes no wake, so from its opening: at
+/// most one receive gets the value that was put in, and of all calls only the making of a receive is refused `NoMemory`; at
+/// most one value is put in or close answered `Newly`; what left empty never returns; a pending receive's last waker is
+/// registered, stands in the outbox, or was handed out since; and no wake is owed. A value that the channel held at first
+/// counts as put in, and a channel that was spent at first as closed.
 pub fn every_run_of_a_oneshot<T: Drop, W: Drop>()
     ensures opened { (first : OneshotMachine T W) → Opens tt first → IsSound first × OwesNoWake first }
     ensures once { InEveryRun {T = T} {W = W} taking (λ first history now. GivesOnce first history) }
@@ -177,11 +177,12 @@ pub fn every_run_of_a_oneshot<T: Drop, W: Drop>()
     every_run::<OneshotState<T, W>>();
 }
 
-/// Every oneshot broadcast channel follows its promises, in every run from a sound state that owes no wake, so from its opening:
-/// once a value was put in every poll of a receive that may be polled, and every receive at once, gives a clone of it, whatever is
-/// closed later, or is refused for want of the clone's memory (never, if the clone can't fail); at most one value is put in or close answered `Newly`; a
-/// channel that is not empty keeps what it holds; a pending receive's last waker is registered, stands in the outbox, or was
-/// handed out since; and no wake is owed. A value that the channel held at first counts as put in.
+/// Every oneshot broadcast channel follows its promises, in every run from a sound state that owes no wake, so from its
+/// opening: once a value was put in every poll of a receive that may be polled, and every receive at once, gives a clone of
+/// it, whatever is closed later, or is refused for want of the clone's memory (never, if the clone can't fail); at most one
+/// value is put in or close answered `Newly`; a channel that is not empty keeps what it holds; a pending receive's last waker
+/// is registered, stands in the outbox, or was handed out since; and no wake is owed. A value that the channel held at first
+/// counts as put in.
 pub fn every_run_of_a_oneshot_broadcast<T: Clone, W: Drop>()
     ensures opened { (first : OneshotMachine T W) → Opens tt first → IsSound first × OwesNoWake first }
     ensures deliveries { InEveryRun {T = T} {W = W} (cloning T.is_clone T.is_infallible)
