@@ -1,16 +1,26 @@
 """What the scripts of this folder share: readers of the sources in Rust and in antt."""
+import difflib
 import functools
 import glob
 import os
 import pathlib
 import re
 import subprocess
+import sys
+from types import SimpleNamespace
 
 TOP = os.path.dirname(os.path.dirname(os.path.realpath(__file__)))
 os.chdir(TOP)  # so that all paths are those of the repository
+RUST = sorted(glob.glob("crates/*/src/**/*.rt", recursive=True))  # all files of Rust, tests and programs too
+LIBRARIES = [path for path in RUST if not re.search(r"/(tests|uses)", path)]  # and the other programs
 FRONT = "futures_intrusive"
 PUB = r"(?:pub(?:\([a-z]+\))? )?(?:unsafe )?"
-ITEM = re.compile(rf"{PUB}(impl|trait|struct|enum|type|fn)\b\s*")
+# An item's docs, its text, which begins at a line's start and ends with a line's `}` or `;`, and its first word.
+ITEM = re.compile(r"((?:^(?:///|#\[).*\n)*)"
+                  rf"^({PUB}(impl|trait|struct|enum|type|fn)\b(?:.*[;}}]|(?:.*\n)+?(?:\}}.*|\S.*[;}}]))$)", flags=re.M)
+BRACED = r"[^{}]*"  # what stands in braces, at most so deep in each other
+for _ in range(9):
+    BRACED = rf"(?:[^{{}}]|\{{{BRACED}\}})*"
 NAME = r"[^\s(){}\[\];,:\"]+"
 HEAD = re.compile(rf"\s*(?:abbrev |unfoldable )?(?:pub )?(?:(data|record) )?({NAME})")
 
@@ -25,10 +35,21 @@ def write(path, text):
     pathlib.Path(path).write_text(text, encoding="utf-8")
 
 
-def report(summary, faults):
-    """Prints faults, and how many they are behind a summary. Returns the exit status."""
+def end(summary, faults):
+    """Prints faults, and how many they are behind a summary, and ends with the status that they give."""
     print(*faults, f"{summary}{len(faults)} faults", sep="\n")
-    return 1 if faults else 0
+    sys.exit(1 if faults else 0)
+
+
+def renewed(page, new):
+    """Writes a page anew; with --check returns how it differs from the sources instead."""
+    if "--check" not in sys.argv:
+        write(page, new)
+        return []
+    rows = list(difflib.unified_diff(text_of(page).split("\n"), new.split("\n"), n=0, lineterm=""))[2:]
+    says = {"+": "lacks", "-": "has, unlike the sources,"}
+    return [f'{page}: {says[row[0]]} the line "{row[1:]}"; run .ci/{os.path.basename(sys.argv[0])}'
+            for row in rows if row[0] in says]
 
 
 def rt(crate, *words):
@@ -38,14 +59,9 @@ def rt(crate, *words):
     return ran.returncode, ran.stdout
 
 
-def rust_files(crate="*"):
-    """Returns the files of Rust of the crates of this name, tests and programs too."""
-    return sorted(glob.glob(f"crates/{crate}/src/**/*.rt", recursive=True))
-
-
-def libraries():
-    """Returns the files of Rust that are neither of tests nor of `uses`."""
-    return [path for path in rust_files() if not re.search(r"/(tests|uses)", path)]
+def rust_files(*crates):
+    """Returns the files of Rust of these crates, in their order."""
+    return [path for crate in crates for path in RUST if path.startswith(f"crates/{crate}/")]
 
 
 def crates_under(crate):
@@ -59,77 +75,54 @@ def without_comments(text):
     return re.sub(r"//[^\n]*", "", text)
 
 
-def closing(text, start, pair="{}"):
-    """Returns the place of the bracket that closes the one at `start`, or the text's end. No arrow's `>` closes one."""
-    depth = 0
-    for found in re.compile(rf"\{pair[0]}|(?<![-=])\{pair[1]}").finditer(text, start):
-        depth += 1 if found[0] == pair[0] else -1
-        if depth == 0:
-            return found.start()
-    return len(text)
-
-
-def braced(pattern, text):
-    """Yields the first group of each match of a pattern that ends in an open brace, with what stands in the braces."""
-    for found in re.finditer(pattern, text, flags=re.M):
-        yield found[1], text[found.end() : closing(text, found.end() - 1)]
-
-
 def without_generics(text):
     """Returns a text without what stands between angle brackets."""
-    while "<" in text:
-        start = text.index("<")
-        text = text[:start] + text[closing(text, start, "<>") + 1 :]
+    text, count = re.sub(r"[-=]>", "", text), 1
+    while count:
+        text, count = re.subn(r"<[^<>]*>", "", text)
     return text
 
 
 class Function:
-    """A function of Rust: its item, file and name, the text that begins with it, this deep; and that as one line."""
+    """A function of Rust: its item, file and name, the text that begins with it, this deep; and its code, each chain of
+    calls in one line, without attributes and the first lines of clauses."""
 
     def __init__(self, item, text, depth):
-        self.item, self.path, self.text, self.depth = item, item.path, text, depth
+        self.item, self.path, self.text, self.depth = item, item.path, without_comments(text), depth
         self.is_public, self.name = text.startswith("pub "), re.match(rf"{PUB}fn (\w+)", text)[1]
-        self.body = re.sub(r"\s*\n\s*", "", without_comments(text))
+        code = re.sub(r"^ *(?:ensures|requires|ghost|#).*", "", self.text, flags=re.M)
+        self.body = re.sub(r"\s*\n\s*\.", ".", code)
 
     def contract(self):
         """Returns its signature, and its clauses: each one's first words with its text."""
-        text = without_comments(self.text)
-        head = re.split(r"\n\s*(?:where|requires|ensures|\{)|;\n| \{", re.sub(rf"^{PUB}fn ", "", text))[0]
+        head = re.split(r"\n\s*(?:where|requires|ensures|\{)|;\n| \{", re.sub(rf"^{PUB}fn ", "", self.text))[0]
         signature = re.sub(r",? \)|,\)", ")", re.sub(r"\s+", " ", head).replace("( ", "(")).strip(" ;")
-        return signature, list(braced(rf"^ {{{self.depth + 4}}}((?:requires|ensures)\*?(?: \w+)?) \{{", text))
+        clause = rf"^ {{{self.depth + 4}}}((?:requires|ensures)\*?(?: \w+)?) \{{({BRACED})\}}"
+        return signature, re.findall(clause, self.text, flags=re.M)
 
 
 class Item:
-    """An item of Rust: its first word, its type (as it stands there) and name, an impl's trait, and its text."""
+    """An item of Rust: its file and line, its docs and text, its first word, its name or that of its type, an impl's
+    trait, and what a name of a type stands for."""
 
-    def __init__(self, path, number, text):
-        self.path, self.crate, self.number, self.text = path, path.split("/")[1], number, text
-        head = re.split(r" where\b|;", re.sub(r"\s+", " ", without_comments(text.partition("{")[0])))[0]
-        found = ITEM.match(head)
-        self.word, self.is_public, head = found[1], head.startswith("pub "), head[found.end() :]
-        if head.startswith("<"):
-            head = head[closing(head, 0, "<>") + 1 :]
-        trait, _, owner = head.rpartition(" for ") if self.word == "impl" else ("", "", re.split(r"[:<(]", head)[0])
-        self.owner, self.target = owner.strip(), head.partition(" = ")[2].strip()
-        self.name, self.trait = (re.match(r"\W*(?:\w+::)*(\w*)", without_generics(it))[1] for it in (owner, trait))
-
-    def functions(self):
-        """Yields the function that it is, or its methods."""
-        if self.word == "fn":
-            yield Function(self, self.text, 0)
-        elif self.word in ("impl", "trait"):
-            for text in re.split(rf"^    (?={PUB}fn \w)", self.text, flags=re.M)[1:]:
-                yield Function(self, text, 4)
+    def __init__(self, path, found):
+        self.path, self.crate, self.line = path, path.split("/")[1], found.string.count("\n", 0, found.start(2)) + 1
+        self.docs, self.text, self.word = found.groups()
+        self.head = re.sub(r"\s+", " ", re.split(r"\bwhere\b|[{;]", without_comments(self.text))[0]).strip()
+        self.is_public, self.target = self.head.startswith("pub "), self.head.partition(" = ")[2]
+        name = r"[^\w(]*(?:\w+::)*(\w*)"
+        found = re.search(rf"{self.word}(?:{name} for\b)?{name}", without_generics(self.head))
+        self.trait, self.name = found.groups("")
 
 
-@functools.cache
-def items(path):
-    """Returns the items of a file of Rust, which begin at a line's start, each up to the line that ends it."""
-    lines, found = text_of(path).split("\n"), []
-    for start in (at for at, line in enumerate(lines) if ITEM.match(line)):
-        ends = (at for at in range(start, len(lines)) if re.match(r"\}|\{\}|\S.*[;}]$", lines[at]))
-        found.append(Item(path, start, "\n".join(lines[start : next(ends, start) + 1])))
-    return found
+def items(paths):
+    """Returns the items of these files of Rust, and their functions: those that stand alone, and methods."""
+    found, functions = [Item(path, it) for path in paths for it in ITEM.finditer(text_of(path))], []
+    for item in found:
+        depth = 0 if item.word == "fn" else 4
+        texts = re.split(rf"^ {{{depth}}}(?={PUB}fn \w)", item.text, flags=re.M)[1:]
+        functions += [Function(item, text, depth) for text in texts]
+    return found, functions
 
 
 def leaves(tree):
@@ -160,35 +153,23 @@ def front_door():
     return doors
 
 
-def plain(text):
-    """Returns a text of antt without its comments and strings."""
-    return re.sub(r'"[^"\n]*"|--[^\n]*', " ", text)
-
-
 def statements(text):
     """Returns the statements of a text of antt that begin as deep as the first, each with its lines up to the next."""
-    text = "\n".join(line for line in plain(text).split("\n") if line.strip())
+    text = "\n".join(line for line in text.split("\n") if line.strip())
     depth = re.match(" *", text)[0]
     return re.split(rf"\n(?={depth}[^\s)}}\]])", text) if text else []
 
 
-class Definition:
-    """A definition of antt: its file, its name, how many lines it has, its text, and why it is believed, if it is."""
-
-    def __init__(self, file, name, text):
-        self.file, self.name, self.size, self.text, self.why = file, name, 0, text, None
-
-
 class Antt:
-    """A file of antt, or an item of Rust: its imports, and its definitions by their and their constructors' names."""
+    """A file of antt, or one of Rust, which imports from such files: its imports by name; its definitions, each with
+    its text, its number of lines and why it is believed, if it is; and these by their and their constructors' names."""
 
     def __init__(self, path, imported=()):
-        self.path, self.imports, self.defined = path, dict(imported), {}
+        self.path, self.imports, self.definitions, self.named = path, dict(imported), [], {}
 
     def read(self, text, parameters=""):
         """Reads the statements of a file, or of a module with these parameters."""
-        last = None
-        for statement in statements(text):
+        for statement in statements(re.sub(r'"[^"\n]*"|--[^\n]*', " ", text)):
             used = re.match(r"\s*(?:pub )?use\s+(.*)", statement, flags=re.S)
             kind, name = HEAD.match(statement).groups()
             before, _, inside = statement.partition(" where\n")
@@ -196,43 +177,34 @@ class Antt:
                 self.imports.update(leaves(used[1]))
             elif name == "module":
                 self.read(inside, parameters + before)
-            elif kind or not last or name != last.name:
-                last = self.defined[name] = Definition(self, name, parameters)
-                self.defined.update({HEAD.match(part)[2]: last for part in statements(inside) if kind == "data"})
-            if last and name == last.name:
-                last.size += statement.count("\n") + 1
-                last.text += "\n" + statement
+            else:
+                if name not in self.named:
+                    self.named[name] = SimpleNamespace(file=self, name=name, text=parameters, size=0, why=None)
+                    self.definitions.append(self.named[name])
+                it = self.named[name]
+                it.text, it.size = f"{it.text}\n{statement}", it.size + statement.count("\n") + 1
+                self.named.update({HEAD.match(part)[2]: it for part in statements(inside) if kind == "data"})
         return self
-
-    def definitions(self):
-        """Returns its definitions."""
-        return list(dict.fromkeys(self.defined.values()))
 
     def meant(self, name, member=""):
         """Returns the definition that a name means here: None if that is elsewhere, False if there is none."""
         base, _, imported = self.imports.get(name, "").partition("::")
-        return defined_at(base, imported or member) if imported or base and member else self.defined.get(name)
+        if not base or not (imported or member):
+            return self.named.get(name)
+        found = re.fullmatch(r"Rattle\.(\w+)\.((?:specs|proofs)\.(?!declared\.|contracts\.).*)", base)
+        if not found or not os.path.isdir(f"crates/{found[1]}"):
+            return None
+        path = f"crates/{found[1]}/" + found[2].replace(".", "/")
+        file = antt(path) or antt(os.path.dirname(path))  # a constructor's path ends in its type
+        return file and file.meant(imported or member) or False
+
+    def names(self, text):
+        """Yields the names in a text of this file, but for the labels of arguments, each with the definition meant."""
+        for word in re.findall(NAME, re.sub(rf"(?<=[{{;])\s*{NAME}\s*=(?![=\w])", " ", text)):
+            yield word, self.meant(*word.split(".")[:2])
 
 
 @functools.cache
 def antt(path):
-    """Returns a file of antt, or None if there is none."""
-    return Antt(path).read(text_of(path)) if os.path.isfile(path) else None
-
-
-def defined_at(base, name):
-    """Returns the definition of a name in a file or a type: None if that is elsewhere, False if there is none."""
-    found = re.fullmatch(r"Rattle\.(\w+)\.((?:specs|proofs)\.(?!declared\.|contracts\.).*)", base)
-    if not found or not os.path.isdir(f"crates/{found[1]}"):
-        return None
-    path = f"crates/{found[1]}/" + found[2].replace(".", "/")
-    outer, _, owner = path.rpartition("/")
-    file, name = (antt(path + ".antt"), name) if antt(path + ".antt") else (antt(outer + ".antt"), owner)
-    return file and file.meant(name) or False
-
-
-def words(text):
-    """Yields the names in a text of antt, each with what stands behind its first dot; not the labels of arguments."""
-    for word in re.findall(NAME, re.sub(rf"(?<=[{{;])\s*{NAME}\s*=(?![=\w])", " ", plain(text))):
-        head, _, rest = word.partition(".")
-        yield head, rest.split(".")[0]
+    """Returns the file of antt of this path and name, or None if there is none."""
+    return Antt(f"{path}.antt").read(text_of(f"{path}.antt")) if os.path.isfile(f"{path}.antt") else None

@@ -10,7 +10,7 @@ use Rattle.std.specs.FinMap as map
 use Rattle.futures.specs.declared.task.Poll.{Poll}
 use Rattle.futures.specs.declared.task.Poll.TheVariants.{Ready, Pending}
 use Rattle.fi_parts.specs.declared.errors.CloseStatus.TheVariants.{NewlyClosed}
-use Rattle.fi_parts.specs.declared.phase.Future.{Future}
+use Rattle.fi_parts.specs.declared.phase.LiveFuture.{LiveFuture}
 use Rattle.fi_parts.specs.declared.phase.Phase.{Phase}
 use Rattle.fi_parts.specs.declared.phase.Phase.TheVariants.{Fresh, Registered, Told, Complete, Ended}
 use Rattle.fi_parts.specs.Buffer.{Bounded, Fits, pushed}
@@ -52,15 +52,15 @@ told_phase (Some phase) is = absurd (both_ways false refl is)
 
 module _ {D W : Type 0} where
   pub future_there : (side : Waiters D W) (name : ℕ) (phase : Phase W) → phase_of side name ≡ Some phase →
-      (future : Future D W) × (map.get side.live name ≡ Some future)
+      (future : LiveFuture D W) × (map.get side.live name ≡ Some future)
   future_there side name phase is = each (map.get side.live name) is
     where
-      each : (o : Option (Future D W)) → phase_in o ≡ Some phase → (future : Future D W) × (o ≡ Some future)
+      each : (o : Option (LiveFuture D W)) → phase_in o ≡ Some phase → (future : LiveFuture D W) × (o ≡ Some future)
       each None e = absurd (none_some phase e)
       each (Some future) e = (future, refl)
 
   -- The phase and what a future asks for may be set in either order.
-  phase_then_asks : (live : map.FinMap nat_cmp (Future D W)) (n : ℕ) (d : D) (p : Phase W) (f : Future D W) →
+  phase_then_asks : (live : map.FinMap nat_cmp (LiveFuture D W)) (n : ℕ) (d : D) (p : Phase W) (f : LiveFuture D W) →
       map.get live n ≡ Some f →
       with_phase (with_asks live n d) n p ≡ with_asks (with_phase live n p) n d
   phase_then_asks live n d p f is = map.same_map nat_cmp_total map.nat_cmp-IsAntisymmetric _ _ (λ q. elim (cases_eq q n) [
@@ -71,7 +71,7 @@ module _ {D W : Type 0} where
   ])
 
   -- What a future asked for is put back.
-  asks_back : (live : map.FinMap nat_cmp (Future D W)) (n : ℕ) (d : D) (f : Future D W) → map.get live n ≡ Some f →
+  asks_back : (live : map.FinMap nat_cmp (LiveFuture D W)) (n : ℕ) (d : D) (f : LiveFuture D W) → map.get live n ≡ Some f →
       with_asks (with_asks live n d) n f.asks ≡ live
   asks_back live n d f is = map.same_map nat_cmp_total map.nat_cmp-IsAntisymmetric _ _ (λ q. elim (cases_eq q n) [
     | inl same ↦ rw same (get-with_asks (with_asks live n d) n f.asks (record f { asks = d }) (get-with_asks live n d f is)
@@ -277,7 +277,7 @@ module _ {T W : Type 0} (buffer : Bounded T) (waiters : ChannelWaiters T W) (is_
               ap may_be_named was,
               (
                 ap (λ (v : ChannelWaiters T W). v.receives) is
-                    ∙ ap (λ (live : map.FinMap nat_cmp (Future ReceiveKind W)). let after : Waiters ReceiveKind W =
+                    ∙ ap (λ (live : map.FinMap nat_cmp (LiveFuture ReceiveKind W)). let after : Waiters ReceiveKind W =
                     record waiters.receives { live = live } in after)
                     (sym (with_phase-same waiters.receives.live name Ended was)),
                 ap (λ (v : ChannelWaiters T W). v.out) is,
@@ -376,7 +376,7 @@ module _ {T W : Type 0} (buffer : Bounded T) (waiters : ChannelWaiters T W) (is_
       (out ∙ ap (λ (v : ChannelWaiters T W). let after : ChannelWaiters T W = record v {
         out = without_by same_waiter (Send name) v.out;
       } in after) asks)
-      ∙ ap (λ (live : map.FinMap nat_cmp (Future (Option T) W)). let after : ChannelWaiters T W = record no_send_pair {
+      ∙ ap (λ (live : map.FinMap nat_cmp (LiveFuture (Option T) W)). let after : ChannelWaiters T W = record no_send_pair {
         sends = record waiters.sends { live = live };
       } in after) (phase_then_asks waiters.sends.live name None Ended f.0 f.1)
 
@@ -389,7 +389,7 @@ module _ {T W : Type 0} (buffer : Bounded T) (waiters : ChannelWaiters T W) (is_
       put ∙ ap (λ (v : ChannelWaiters T W). let after : ChannelWaiters T W = record v {
         sends = exchange v.sends name (Some value);
       } in after) took
-      ∙ ap (λ (live : map.FinMap nat_cmp (Future (Option T) W)). let after : ChannelWaiters T W = record waiters {
+      ∙ ap (λ (live : map.FinMap nat_cmp (LiveFuture (Option T) W)). let after : ChannelWaiters T W = record waiters {
         sends = record waiters.sends { live = live };
       } in after)
       (ap (λ (d : Option T). with_asks (with_asks waiters.sends.live name None) name d) (sym same)

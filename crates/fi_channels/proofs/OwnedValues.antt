@@ -3,7 +3,7 @@ use Rattle.std.proofs.Common.{◌≡◌, ◌≢◌, ℕ, List, [], ◌∷◌, Op
 use Rattle.std.proofs.lemmas.Bool.{cases_eq}
 use Rattle.std.specs.Option.{option_flatten}
 use Rattle.std.specs.FinMap as map
-use Rattle.fi_parts.specs.declared.phase.Future.{Future}
+use Rattle.fi_parts.specs.declared.phase.LiveFuture.{LiveFuture}
 use Rattle.fi_parts.specs.declared.phase.Phase.{Phase}
 use Rattle.fi_parts.specs.declared.phase.Phase.TheVariants.{Fresh, Registered, Told, Complete, Ended}
 use Rattle.fi_parts.specs.Oldest.{complete_first, complete_oldest}
@@ -28,7 +28,7 @@ module _ {W : Type 0} where
   still_owns (Some Ended) = refl
 
 module _ {T W : Type 0} where
-  abbrev pub OwnedAt : Option (Future (Option T) W) → Type 0
+  abbrev pub OwnedAt : Option (LiveFuture (Option T) W) → Type 0
   OwnedAt future = is_some (option_flatten (asks_in future)) ≡ owns_value (phase_in future)
 
   abbrev pub Owned : Waiters (Option T) W → Type 0

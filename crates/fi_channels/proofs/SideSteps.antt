@@ -1,8 +1,8 @@
--- One side of two: its line lent and changed, and its futures named one after another. All is said for either side.
+-- One side of two: its wait queue lent and changed, and its futures named one after another. All is said for either side.
 use Rattle.std.proofs.Common.{◌≡◌, ◌≢◌, ℕ, true, false, List, [], ◌∷◌, ◌++◌, Option, Some, None, MatchOption, refl, sym, ap, ◌∙◌, inl, inr}
 use Rattle.std.specs.FinMap as finmap
 use Rattle.std.specs.FinSet as set
-use Rattle.fi_parts.specs.LineModel.{LineModel}
+use Rattle.fi_parts.specs.WaitQueueModel.{WaitQueueModel}
 use Rattle.fi_parts.specs.NamedPairs.{has_by, waker_by, without_by, waker_in_pair}
 use Rattle.fi_parts.specs.Oldest.{pop_first, pop_oldest, complete_first, complete_oldest, pair_of_first, pair_of_oldest}
 use Rattle.fi_parts.specs.Oldest.{asks_of_first, asks_of_oldest}
@@ -16,121 +16,122 @@ use Rattle.fi_parts.specs.declared.phase.Phase.TheVariants.{Complete}
 use Rattle.fi_channels.specs.SideView.{SideView, IsSide, two_sides_of, ticket_in, AreBothTied, pairs_of, change, change_naming, notify}
 use Rattle.fi_channels.specs.TwoSidesModel.{TwoSidesModel}
 use Rattle.fi_channels.specs.Waiter.{same_waiter}
-use Rattle.fi_channels.specs.declared.two_sides.Lines.{Lines}
+use Rattle.fi_channels.specs.declared.two_sides.WaitQueues.{WaitQueues}
 use Rattle.fi_channels.specs.declared.two_sides.Waiter.{Waiter}
 use Rattle.fi_parts.proofs.FiniteMaps.{get-insert_same, get-insert_other, get-remove_same, get-remove_other}
-use Rattle.fi_parts.proofs.Lines.{registered_with}
+use Rattle.fi_parts.proofs.WaitQueues.{registered_with}
 use Rattle.fi_parts.proofs.Oldest.{phase-with_asks, emptied-step, emptied-none, marked-step, marked-none}
 use Rattle.fi_parts.proofs.Tied.{tied_same, tied_made, tied_released, tied_after_name, out-without, has-out, waker-out, out-named}
 use Rattle.fi_parts.proofs.Waiting.{first_registered, ordered-next, no_pair}
 use Rattle.fi_channels.proofs.Sides.{waiter_test}
 
--- The line of a side was lent, and is another one afterwards.
-module _ {D E A W : Type 0} {s : SideView D E A W} (is : IsSide s) {lines : Lines D E W} {line : LineModel A W}
-    (lent : line ≡ s.line lines) where
-  pub same_waiters : (box : OutboxModel (Waiter × W)) → s.waiters (two_sides_of lines box) ≡ line.side
-  same_waiters box = is.seen lines box ∙ ap (λ (l : LineModel A W). l.side) (sym lent)
+-- The wait queue of a side was lent, and is another one afterwards.
+module _ {D E A W : Type 0} {s : SideView D E A W} (is : IsSide s) {wait_queues : WaitQueues D E W} {wait_queue : WaitQueueModel A W}
+    (lent : wait_queue ≡ s.wait_queue wait_queues) where
+  pub same_waiters : (box : OutboxModel (Waiter × W)) → s.waiters (two_sides_of wait_queues box) ≡ wait_queue.side
+  same_waiters box = is.seen wait_queues box ∙ ap (λ (l : WaitQueueModel A W). l.side) (sym lent)
 
-  pub its_ticket : (n t : ℕ) → finmap.get line.tickets n ≡ Some t → ticket_in lines (s.waiter n) ≡ Some t
-  its_ticket n t at = is.its_ticket lines n ∙ ap (λ (l : LineModel A W). finmap.get l.tickets n) (sym lent) ∙ at
+  pub its_ticket : (n t : ℕ) → finmap.get wait_queue.tickets n ≡ Some t → ticket_in wait_queues (s.waiter n) ≡ Some t
+  its_ticket n t at = is.its_ticket wait_queues n ∙ ap (λ (l : WaitQueueModel A W). finmap.get l.tickets n) (sym lent) ∙ at
 
-  new_at : (next : LineModel A W) (m : ℕ) → finmap.get next.tickets m ≡ finmap.get line.tickets m →
-      ticket_in (s.with_line lines next) (s.waiter m) ≡ ticket_in lines (s.waiter m)
+  new_at : (next : WaitQueueModel A W) (m : ℕ) → finmap.get next.tickets m ≡ finmap.get wait_queue.tickets m →
+      ticket_in (s.with_queue wait_queues next) (s.waiter m) ≡ ticket_in wait_queues (s.waiter m)
   new_at next m same =
-      is.new_ticket lines next m ∙ same ∙ ap (λ (l : LineModel A W). finmap.get l.tickets m) lent
-      ∙ sym (is.its_ticket lines m)
+      is.new_ticket wait_queues next m ∙ same ∙ ap (λ (l : WaitQueueModel A W). finmap.get l.tickets m) lent
+      ∙ sym (is.its_ticket wait_queues m)
 
   -- all but one have the tickets that they had
-  others : (n : ℕ) (next : LineModel A W) → ((m : ℕ) → m ≢ n → finmap.get next.tickets m ≡ finmap.get line.tickets m) →
-      (q : Waiter) → q ≢ s.waiter n → ticket_in (s.with_line lines next) q ≡ ticket_in lines q
-  others n next same q ne = elim (is.others lines next q) [
+  others : (n : ℕ) (next : WaitQueueModel A W) → ((m : ℕ) → m ≢ n → finmap.get next.tickets m ≡ finmap.get wait_queue.tickets m) →
+      (q : Waiter) → q ≢ s.waiter n → ticket_in (s.with_queue wait_queues next) q ≡ ticket_in wait_queues q
+  others n next same q ne = elim (is.others wait_queues next q) [
     | inl its ↦ rw its.1 (new_at next its.0 (same its.0 (λ e. ne (its.1 ∙ ap s.waiter e))))
     | inr kept ↦ kept
   ]
 
-  pub tied_still : (box : OutboxModel (Waiter × W)) {next : LineModel A W} {side : Waiters A W} →
-      next ≡ record line { side = side } → AreBothTied lines box → AreBothTied (s.with_line lines next) box
+  pub tied_still : (box : OutboxModel (Waiter × W)) {next : WaitQueueModel A W} {side : Waiters A W} →
+      next ≡ record wait_queue { side = side } → AreBothTied wait_queues box → AreBothTied (s.with_queue wait_queues next) box
   tied_still box {next} {side} now was =
-      tied_same (ticket_in lines) (ticket_in (s.with_line lines next)) box.tickets box.pairs
-      (λ q. elim (is.others lines next q) [
-        | inl its ↦ rw its.1 (new_at next its.0 (ap (λ (l : LineModel A W). finmap.get l.tickets its.0) now))
+      tied_same (ticket_in wait_queues) (ticket_in (s.with_queue wait_queues next)) box.tickets box.pairs
+      (λ q. elim (is.others wait_queues next q) [
+        | inl its ↦ rw its.1 (new_at next its.0 (ap (λ (l : WaitQueueModel A W). finmap.get l.tickets its.0) now))
         | inr kept ↦ kept
       ]) was
 
-  pub tied_inserted : (box : OutboxModel (Waiter × W)) (n t : ℕ) {next : LineModel A W} {side : Waiters A W} →
-      finmap.get line.tickets n ≡ None → set.contains box.tickets t ≡ false →
-      next ≡ record { side = side; tickets = finmap.insert line.tickets n t } → AreBothTied lines box →
-      IsTied (ticket_in (s.with_line lines next)) (set.insert box.tickets t) box.pairs
+  pub tied_inserted : (box : OutboxModel (Waiter × W)) (n t : ℕ) {next : WaitQueueModel A W} {side : Waiters A W} →
+      finmap.get wait_queue.tickets n ≡ None → set.contains box.tickets t ≡ false →
+      next ≡ record { side = side; tickets = finmap.insert wait_queue.tickets n t } → AreBothTied wait_queues box →
+      IsTied (ticket_in (s.with_queue wait_queues next)) (set.insert box.tickets t) box.pairs
   tied_inserted box n t {next} {side} free unused now was =
-      tied_made same_waiter waiter_test (ticket_in lines) (ticket_in (s.with_line lines next)) (s.waiter n) t box.tickets
+      tied_made same_waiter waiter_test (ticket_in wait_queues) (ticket_in (s.with_queue wait_queues next)) (s.waiter n) t box.tickets
       box.pairs was
-      (is.its_ticket lines n ∙ ap (λ (l : LineModel A W). finmap.get l.tickets n) (sym lent) ∙ free) unused
-      (is.new_ticket lines next n ∙ ap (λ (l : LineModel A W). finmap.get l.tickets n) now
-      ∙ get-insert_same line.tickets n t)
-      (others n next (λ m ne. ap (λ (l : LineModel A W). finmap.get l.tickets m) now
-      ∙ get-insert_other line.tickets n t m ne))
+      (is.its_ticket wait_queues n ∙ ap (λ (l : WaitQueueModel A W). finmap.get l.tickets n) (sym lent) ∙ free) unused
+      (is.new_ticket wait_queues next n ∙ ap (λ (l : WaitQueueModel A W). finmap.get l.tickets n) now
+      ∙ get-insert_same wait_queue.tickets n t)
+      (others n next (λ m ne. ap (λ (l : WaitQueueModel A W). finmap.get l.tickets m) now
+      ∙ get-insert_other wait_queue.tickets n t m ne))
 
-  pub tied_removed : (box after : OutboxModel (Waiter × W)) (n t : ℕ) {next : LineModel A W} {side : Waiters A W} →
-      finmap.get line.tickets n ≡ Some t → next ≡ record { side = side; tickets = finmap.remove line.tickets n } →
-      after.tickets ≡ set.remove box.tickets t → after.pairs ≡ without_pair t box.pairs → AreBothTied lines box →
-      AreBothTied (s.with_line lines next) after
+  pub tied_removed : (box after : OutboxModel (Waiter × W)) (n t : ℕ) {next : WaitQueueModel A W} {side : Waiters A W} →
+      finmap.get wait_queue.tickets n ≡ Some t → next ≡ record { side = side; tickets = finmap.remove wait_queue.tickets n } →
+      after.tickets ≡ set.remove box.tickets t → after.pairs ≡ without_pair t box.pairs → AreBothTied wait_queues box →
+      AreBothTied (s.with_queue wait_queues next) after
   tied_removed box after n t {next} {side} at now tickets pairs was =
-      tied_released same_waiter waiter_test (ticket_in lines) (ticket_in (s.with_line lines next)) (s.waiter n) t box
+      tied_released same_waiter waiter_test (ticket_in wait_queues) (ticket_in (s.with_queue wait_queues next)) (s.waiter n) t box
       after was (its_ticket n t at)
-      (is.new_ticket lines next n ∙ ap (λ (l : LineModel A W). finmap.get l.tickets n) now
-      ∙ get-remove_same line.tickets n)
-      (others n next (λ m ne. ap (λ (l : LineModel A W). finmap.get l.tickets m) now
-      ∙ get-remove_other line.tickets n m ne))
+      (is.new_ticket wait_queues next n ∙ ap (λ (l : WaitQueueModel A W). finmap.get l.tickets n) now
+      ∙ get-remove_same wait_queue.tickets n)
+      (others n next (λ m ne. ap (λ (l : WaitQueueModel A W). finmap.get l.tickets m) now
+      ∙ get-remove_other wait_queue.tickets n m ne))
       tickets pairs
 
-  pub changed : (box after : OutboxModel (Waiter × W)) {next : LineModel A W} (f : Waiters A W → Waiters A W) → next.side ≡ f line.side →
-      let both = two_sides_of lines box in
-      two_sides_of (s.with_line lines next) after ≡ s.put both (f (s.waiters both)) (out_of after.pairs)
+  pub changed : (box after : OutboxModel (Waiter × W)) {next : WaitQueueModel A W} (f : Waiters A W → Waiters A W) →
+      next.side ≡ f wait_queue.side →
+      let both = two_sides_of wait_queues box in
+      two_sides_of (s.with_queue wait_queues next) after ≡ s.put both (f (s.waiters both)) (out_of after.pairs)
   changed box after {next} f now =
-      is.seen_with lines next box after
-      ∙ ap (λ side. s.put (two_sides_of lines box) side (out_of after.pairs)) (now ∙ ap f (sym (same_waiters box)))
+      is.seen_with wait_queues next box after
+      ∙ ap (λ side. s.put (two_sides_of wait_queues box) side (out_of after.pairs)) (now ∙ ap f (sym (same_waiters box)))
 
-  pub unchanged : (box : OutboxModel (Waiter × W)) {next : LineModel A W} → next ≡ line →
-      two_sides_of (s.with_line lines next) box ≡ two_sides_of lines box
+  pub unchanged : (box : OutboxModel (Waiter × W)) {next : WaitQueueModel A W} → next ≡ wait_queue →
+      two_sides_of (s.with_queue wait_queues next) box ≡ two_sides_of wait_queues box
   unchanged box {next} same =
-      changed box box (λ side. side) (ap (λ (l : LineModel A W). l.side) same) ∙ is.put_back (two_sides_of lines box)
+      changed box box (λ side. side) (ap (λ (l : WaitQueueModel A W). l.side) same) ∙ is.put_back (two_sides_of wait_queues box)
 
   -- a live future was taken out of the outbox, or is named there
-  module _ (box : OutboxModel (Waiter × W)) (was : AreBothTied lines box) (n t : ℕ)
-      (at : finmap.get line.tickets n ≡ Some t) where
+  module _ (box : OutboxModel (Waiter × W)) (was : AreBothTied wait_queues box) (n t : ℕ)
+      (at : finmap.get wait_queue.tickets n ≡ Some t) where
     pub out_without : out_of (without_pair t box.pairs) ≡ without_by same_waiter (s.waiter n) (out_of box.pairs)
-    out_without = out-without same_waiter waiter_test (ticket_in lines) (s.waiter n) t box.tickets box.pairs was (its_ticket n t at)
+    out_without = out-without same_waiter waiter_test (ticket_in wait_queues) (s.waiter n) t box.tickets box.pairs was (its_ticket n t at)
 
     pub waker_out : waker_in_pair (waker_of t box.pairs) ≡ waker_by same_waiter (s.waiter n) (out_of box.pairs)
-    waker_out = waker-out same_waiter waiter_test (ticket_in lines) (s.waiter n) t box.tickets box.pairs was (its_ticket n t at)
+    waker_out = waker-out same_waiter waiter_test (ticket_in wait_queues) (s.waiter n) t box.tickets box.pairs was (its_ticket n t at)
 
     pub has_out : has_by same_waiter (s.waiter n) (out_of box.pairs) ≡ has t box.pairs
-    has_out = has-out same_waiter waiter_test (ticket_in lines) (s.waiter n) t box.tickets box.pairs was (its_ticket n t at)
+    has_out = has-out same_waiter waiter_test (ticket_in wait_queues) (s.waiter n) t box.tickets box.pairs was (its_ticket n t at)
 
-    pub tied_named : (after : OutboxModel (Waiter × W)) (w : W) {next : LineModel A W} {side : Waiters A W} {q : Waiter} →
-        next ≡ record line { side = side } → q ≡ s.waiter n → after.tickets ≡ box.tickets →
-        after.pairs ≡ box.pairs ++ (t, (q, w)) ∷ [] → AreBothTied (s.with_line lines next) after
+    pub tied_named : (after : OutboxModel (Waiter × W)) (w : W) {next : WaitQueueModel A W} {side : Waiters A W} {q : Waiter} →
+        next ≡ record wait_queue { side = side } → q ≡ s.waiter n → after.tickets ≡ box.tickets →
+        after.pairs ≡ box.pairs ++ (t, (q, w)) ∷ [] → AreBothTied (s.with_queue wait_queues next) after
     tied_named after w {next} {side} {q} now name tickets pairs =
         tied_still after now
-        (tied_after_name (ticket_in lines) box was q t w after (ap (ticket_in lines) name ∙ its_ticket n t at) tickets pairs)
+        (tied_after_name (ticket_in wait_queues) box was q t w after (ap (ticket_in wait_queues) name ∙ its_ticket n t at) tickets pairs)
 
     -- a registered one is named with the waker that it gave
-    pub named : (after : OutboxModel (Waiter × W)) {next : LineModel A W} {r : Option W} {w : W} {q : Waiter} (phase : Phase W) →
-        MatchOption (phase_of line.side n) ⊥ (λ before. r ≡ waker_in before) → r ≡ Some w →
-        next ≡ record line { side = record line.side { live = with_phase line.side.live n phase } } → q ≡ s.waiter n →
+    pub named : (after : OutboxModel (Waiter × W)) {next : WaitQueueModel A W} {r : Option W} {w : W} {q : Waiter} (phase : Phase W) →
+        MatchOption (phase_of wait_queue.side n) ⊥ (λ before. r ≡ waker_in before) → r ≡ Some w →
+        next ≡ record wait_queue { side = record wait_queue.side { live = with_phase wait_queue.side.live n phase } } → q ≡ s.waiter n →
         after.pairs ≡ box.pairs ++ (t, (q, w)) ∷ [] →
-        two_sides_of (s.with_line lines next) after
+        two_sides_of (s.with_queue wait_queues next) after
         ≡ change_naming s (λ side. record side { live = with_phase side.live n phase }) (λ side. pair side n)
-        (two_sides_of lines box)
+        (two_sides_of wait_queues box)
     named after {next} {r} {w} {q} phase gave some now name pairs =
-        let both = two_sides_of lines box in
+        let both = two_sides_of wait_queues box in
         let f = λ (side : Waiters A W). let v : Waiters A W = record side { live = with_phase side.live n phase } in v in
-        let its = registered_with (phase_of line.side n) r w gave some in
+        let its = registered_with (phase_of wait_queue.side n) r w gave some in
         let out : out_of after.pairs ≡ both.out ++ pairs_of s (pair (s.waiters both) n) =
         ap out_of pairs ∙ out-named box.pairs t q w ∙ ap (λ p. both.out ++ (p, w) ∷ []) name
         ∙ ap (λ p. both.out ++ pairs_of s (pair_of n p)) (sym its)
         ∙ ap (λ (side : Waiters A W). both.out ++ pairs_of s (pair side n)) (sym (same_waiters box)) in
-        changed box after f (ap (λ (l : LineModel A W). l.side) now) ∙ ap (λ o. s.put both (f (s.waiters both)) o) out
+        changed box after f (ap (λ (l : WaitQueueModel A W). l.side) now) ∙ ap (λ o. s.put both (f (s.waiters both)) o) out
 
 -- The futures of a side are named, one after another.
 module _ {D E A W : Type 0} {s : SideView D E A W} (is : IsSide s) (both : TwoSidesModel D E W) where

@@ -36,11 +36,11 @@ module _ {W : Type 0} where
 module _ {D E W : Type 0} where
   pub sends_are_a_side : IsSide (sends_side {D = D} {E = E} {W = W})
   sends_are_a_side = record {
-    seen = λ lines box. refl;
-    seen_with = λ lines line box after. refl;
-    its_ticket = λ lines slot. refl;
-    new_ticket = λ lines line slot. refl;
-    others = λ lines line. elim [ (Send slot) ↦ inl (slot, refl) | (Receive slot) ↦ inr refl ];
+    seen = λ wait_queues box. refl;
+    seen_with = λ wait_queues wait_queue box after. refl;
+    its_ticket = λ wait_queues slot. refl;
+    new_ticket = λ wait_queues wait_queue slot. refl;
+    others = λ wait_queues wait_queue. elim [ (Send slot) ↦ inl (slot, refl) | (Receive slot) ↦ inr refl ];
     put_in = λ both side out. refl;
     put_out = λ both side out. refl;
     put_again = λ both side next out last. refl;
@@ -51,11 +51,11 @@ module _ {D E W : Type 0} where
 
   pub receives_are_a_side : IsSide (receives_side {D = D} {E = E} {W = W})
   receives_are_a_side = record {
-    seen = λ lines box. refl;
-    seen_with = λ lines line box after. refl;
-    its_ticket = λ lines slot. refl;
-    new_ticket = λ lines line slot. refl;
-    others = λ lines line. elim [ (Send slot) ↦ inr refl | (Receive slot) ↦ inl (slot, refl) ];
+    seen = λ wait_queues box. refl;
+    seen_with = λ wait_queues wait_queue box after. refl;
+    its_ticket = λ wait_queues slot. refl;
+    new_ticket = λ wait_queues wait_queue slot. refl;
+    others = λ wait_queues wait_queue. elim [ (Send slot) ↦ inr refl | (Receive slot) ↦ inl (slot, refl) ];
     put_in = λ both side out. refl;
     put_out = λ both side out. refl;
     put_again = λ both side next out last. refl;

@@ -1,7 +1,9 @@
 //! The channel of many values, with sends and receives that wait.
 ghost use Rattle.std.specs.Prelude.{◌≡◌, ◌==◌, not, true, false, Option, None, IfOk, IfErr, OnOk, OnErr, is_some, length};
+ghost use Rattle.std.specs.Option.{option_map};
 ghost use Rattle.futures.specs.Poll.{OnPending};
 ghost use Rattle.fi_parts.specs.Buffer.{empty};
+ghost use Rattle.fi_parts.specs.Stages.{stage_of, AppendsQueue};
 ghost use Rattle.fi_channels.specs.Polled.{unused_after, Answered, displaced_by, WouldBeReady, LeavesWhere};
 ghost use Rattle.fi_channels.specs.Channel.{MakesSend, MakesReceive, PollsSend, PollsReceive, PollsNext, CancelsSend};
 ghost use Rattle.fi_channels.specs.Channel.{CancelsReceive, TriesSend, TriesReceive, Closes, Wakes, IsSound};
@@ -19,10 +21,12 @@ use crate::channel_fields::{ChannelFields, ReceiveKind};
 use crate::channel_stream::LocalChannelStream;
 use crate::receive_future::LocalReceiveFuture;
 use crate::send_future::LocalSendFuture;
+use crate::two_sides::{Receives, Sends};
 use fi_parts::buffer::{ArrayBuf, RingBuf};
-use fi_parts::{CloseStatus, Fault, Leftover, NoRoom, Slot};
+use fi_parts::{CloseStatus, Fault, Leftover, NoRoom, Refused, Slot, Stage};
 use futures::task::Poll;
 use std::alloc::Global;
+use std::fmt;
 use std::marker::Model;
 
 /// A channel of many senders and receivers over a bounded buffer: what was sent first is received first.
@@ -48,6 +52,12 @@ use std::marker::Model;
 #[derive(Drop)]
 pub struct ChannelState<T: Drop, B: RingBuf<Item = T>, W> {
     fields: ChannelFields<T, B, W>,
+}
+
+impl<T: Drop, B: RingBuf<Item = T>, W> fmt::Debug for ChannelState<T, B, W> {
+    fn fmt<F: fmt::Write>(&self, f: &mut fmt::Formatter<F>) -> fmt::Result {
+        f.debug_struct("Channel").finish()
+    }
 }
 
 /// The channel for one thread over an array of `N` values: sends, receives and streams are polled with the channel lent to
@@ -315,6 +325,36 @@ impl<T: Drop, B: RingBuf<Item = T>, W: Drop> ChannelState<T, B, W> {
         ensures all_stay { AllStay self.old self.new }
     {
         self.fields.claim_receive(ReceiveKind::Stream)
+    }
+
+    /// How far the send under this slot is; None if none lives there.
+    pub fn send_stage(&self, slot: Slot) -> Option<Stage>
+        ensures { result ≡ option_map stage_of (send_phase self.now slot.0) }
+    {
+        self.fields.waiters.stage::<Sends>(slot)
+    }
+
+    /// How far the receive or stream under this slot is; None if none lives there.
+    pub fn receive_stage(&self, slot: Slot) -> Option<Stage>
+        ensures { result ≡ option_map stage_of (receive_phase self.now slot.0) }
+    {
+        self.fields.waiters.stage::<Receives>(slot)
+    }
+
+    /// Appends the slots of the queue of sends, the oldest first. Where there was no memory for all, a beginning was appended.
+    pub fn send_queue(&mut self, slots: &mut Vec<Slot>) -> Result<(), Refused>
+        ensures same { self.new ≡ self.old }
+        ensures appended { OnOk result (AppendsQueue self.old.waiting.sends.queue slots.old.items slots.new.items) }
+    {
+        self.fields.waiters.queue::<Sends>(slots)
+    }
+
+    /// Appends the slots of the queue of receives and streams, as `send_queue` does.
+    pub fn receive_queue(&mut self, slots: &mut Vec<Slot>) -> Result<(), Refused>
+        ensures same { self.new ≡ self.old }
+        ensures appended { OnOk result (AppendsQueue self.old.waiting.receives.queue slots.old.items slots.new.items) }
+    {
+        self.fields.waiters.queue::<Receives>(slots)
     }
 
     /// Returns `true` if a poll of the stream under this slot would have to wait now, so that it needs a waker; `false` where none lives.

@@ -16,7 +16,7 @@ use crate::access::Sent;
 use crate::channel_errors::{SendFault, TryReceiveError, TrySendError};
 use crate::two_sides::{Receives, Sends, TwoSides};
 use fi_parts::buffer::RingBuf;
-use fi_parts::{CloseStatus, Fault, Future, Leftover, NoRoom, Notice, Phase, Slot, last_waker};
+use fi_parts::{CloseStatus, Fault, Leftover, LiveFuture, NoRoom, Notice, Phase, Slot, last_waker};
 use futures::task::Poll;
 use std::alloc::Global;
 
@@ -34,7 +34,7 @@ pub enum ReceiveKind {
 pub struct ChannelFields<T, B, W> {
     is_open: bool,
     buffer: B,
-    waiters: TwoSides<Option<T>, ReceiveKind, W>,
+    pub waiters: TwoSides<Option<T>, ReceiveKind, W>,
 }
 
 // How a receive that was given an item stands: a single one has ended, and a stream is fresh again.
@@ -506,7 +506,7 @@ impl<T: Drop, B: RingBuf<Item = T>, W: Drop> ChannelFields<T, B, W> {
             Some(left) => left,
             None => return (None, None),
         };
-        let Future { asks, phase } = future;
+        let LiveFuture { asks, phase } = future;
         (asks, last_waker(phase, named))
     }
 

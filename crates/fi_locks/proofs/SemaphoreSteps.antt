@@ -6,7 +6,7 @@ use Rattle.std.specs.FinMap as map
 use Rattle.std.specs.Option.{IsSome}
 use Rattle.futures.specs.declared.task.Poll.TheVariants.{Ready, Pending}
 use Rattle.fi_parts.specs.declared.errors.Slot.{Slot}
-use Rattle.fi_parts.specs.declared.phase.Future.{Future}
+use Rattle.fi_parts.specs.declared.phase.LiveFuture.{LiveFuture}
 use Rattle.fi_parts.specs.declared.phase.Phase.TheVariants.{Told}
 use Rattle.fi_parts.specs.Effects.{WaiterEffect}
 use Rattle.fi_parts.specs.Effects.WaiterEffect.{Registers, EndsPlaced}
@@ -35,7 +35,7 @@ module _ {W : Type 0} where
   pub live_from : (side : Waiters ℕ W) (name : ℕ) → is_some (phase_of side name) ≡ true → IsLive side name
   live_from side name is = each (map.get side.live name) is
     where
-      each : (o : Option (Future ℕ W)) → is_some (phase_in o) ≡ true → IsSome o
+      each : (o : Option (LiveFuture ℕ W)) → is_some (phase_in o) ≡ true → IsSome o
       each None r = r
       each (Some f) r = refl
 

@@ -9,7 +9,7 @@ use Rattle.std.specs.Ordering.{nat_cmp}
 use Rattle.std.specs.FinMap as map
 use Rattle.std.proofs.lemmas.List.{append-nil}
 use Rattle.fi_parts.specs.declared.errors.Slot.{Slot}
-use Rattle.fi_parts.specs.declared.phase.Future.{Future}
+use Rattle.fi_parts.specs.declared.phase.LiveFuture.{LiveFuture}
 use Rattle.fi_parts.specs.declared.phase.Phase.{Phase}
 use Rattle.fi_parts.specs.declared.phase.Phase.TheVariants.{Told}
 use Rattle.fi_parts.specs.Order.{holds, Apart}
@@ -30,7 +30,7 @@ use Rattle.fi_locks.proofs.SemaphoreMarks.{marks_fair, marks_unfair}
 
 -- to tell those told already changes nothing
 
-with_phases-same : {D W : Type 0} (live : map.FinMap nat_cmp (Future D W)) (names : List ℕ) (phase : Phase W) →
+with_phases-same : {D W : Type 0} (live : map.FinMap nat_cmp (LiveFuture D W)) (names : List ℕ) (phase : Phase W) →
     ((q : ℕ) → holds q names ≡ true → phase_in (map.get live q) ≡ Some phase) → with_phases live names phase ≡ live
 unfolding with_phases
 with_phases-same live [] phase all = refl
@@ -38,7 +38,7 @@ with_phases-same live (n ∷ names) phase all =
     ap (λ l. with_phases l names phase) (with_phase-same live n phase (all n (or_left (eqb n n) _ (eqb_same n))))
     ∙ with_phases-same live names phase (λ q at. all q (or_right (eqb q n) _ at))
 
-named-told : {D W : Type 0} (live : map.FinMap nat_cmp (Future D W)) (names : List ℕ) →
+named-told : {D W : Type 0} (live : map.FinMap nat_cmp (LiveFuture D W)) (names : List ℕ) →
     ((q : ℕ) → holds q names ≡ true → phase_in (map.get live q) ≡ Some Told) → named live names ≡ []
 unfolding named
 named-told live [] all = refl

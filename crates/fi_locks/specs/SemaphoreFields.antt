@@ -4,12 +4,12 @@ use Rattle.fi_parts.specs.declared.errors.Slot.{Slot}
 use Rattle.fi_parts.specs.Order.{without}
 use Rattle.fi_parts.specs.Places.{is_told}
 use Rattle.fi_parts.specs.Waiting.{Waiters, Waiting, phase_of, front_told}
-use Rattle.fi_locks.specs.declared.semaphore.Fields.{Fields}
+use Rattle.fi_locks.specs.declared.semaphore.SemaphoreFields.{SemaphoreFields}
 use Rattle.fi_locks.specs.Semaphore.{SemaphoreMachine, need_of}
 use Rattle.fi_locks.specs.ToldFutures.{IsToldFront}
 
 -- the machine that the fields stand for
-abbrev pub machine_of : {W : Type 0} → Fields W → SemaphoreMachine W
+abbrev pub machine_of : {W : Type 0} → SemaphoreFields W → SemaphoreMachine W
 machine_of fields = record {
   own = record { is_fair = fields.is_fair; free = fields.free; held = fields.held; asked = fields.asked };
   waiting = fields.waits;
@@ -39,7 +39,7 @@ module _ {W : Type 0} where
   MarksIf true free promised untold side = Marks free promised untold side
   MarksIf false free promised untold side = promised ≡ 0
 
-  abbrev pub IsMarked : Fields W → Type 0
+  abbrev pub IsMarked : SemaphoreFields W → Type 0
   IsMarked fields = MarksIf fields.is_fair fields.free fields.promised fields.untold fields.waits.side
 
   -- the same of all but this name, which is about to leave the queue

@@ -13,7 +13,6 @@
 #![tactic(auto)]
 
 mod asked;
-mod debug;
 mod mutex;
 mod mutex_future;
 mod mutex_guard;

@@ -1,5 +1,7 @@
 //! A mutex.
 ghost use Rattle.std.specs.Prelude.{◌≡◌, ◌&&◌, not, true, false, Option, Some, None, Result, Ok, Err, IfOk, IfErr, OnErr, is_some, length};
+ghost use Rattle.std.specs.Prelude.{OnOk};
+ghost use Rattle.std.specs.Option.{option_map};
 ghost use Rattle.fi_parts.specs.Machine.{phase_at, displaced_at};
 ghost use Rattle.fi_parts.specs.Polled.{unused_after, WouldBeReady, LeavesWhere};
 ghost use Rattle.fi_parts.specs.Order.{holds};
@@ -12,12 +14,14 @@ ghost use Rattle.fi_locks.specs.Mutex.{Unlocks, Wakes, tells_oldest, IsLockedIfR
 ghost use Rattle.futures.specs.declared.task.Poll.TheVariants as polled;
 ghost use Rattle.futures.specs.Poll.{OnPending};
 ghost use Rattle.fi_parts.specs.Stays.{AllStay, OthersStay, IsApart};
+ghost use Rattle.fi_parts.specs.Stages.{stage_of, AppendsQueue};
 
 use crate::mutex_future::LocalMutexLockFuture;
 use crate::mutex_guard::LocalMutexGuard;
-use fi_parts::{Fault, Leftover, Phase, Slot, Waits, last_waker};
+use fi_parts::{Fault, Leftover, Phase, Refused, Slot, Stage, Waits, last_waker};
 use futures::task::Poll;
 use std::alloc::Global;
+use std::fmt;
 use std::marker::Model;
 
 /// A mutex: one holder at a time has its value, and futures wait for it.
@@ -47,6 +51,14 @@ pub struct MutexState<T, W> {
     is_fair: bool,
     value: Option<T>,
     locks: Waits<(), W>,
+}
+
+impl<T: Drop, W: Drop> fmt::Debug for MutexState<T, W> {
+    fn fmt<F: fmt::Write>(&self, f: &mut fmt::Formatter<F>) -> fmt::Result {
+        f.debug_struct("Mutex")
+            .field("is_locked", &self.is_locked())
+            .finish()
+    }
 }
 
 /// The mutex for one thread: futures are polled with the mutex lent to them. Keeps `LocalMutex` of futures-intrusive's `sync`.
@@ -256,6 +268,21 @@ impl<T: Drop, W: Drop> MutexState<T, W> {
         ensures { result ≡ is_some (phase_at self.now slot.0) }
     {
         self.locks.phase(slot).is_some()
+    }
+
+    /// How far the future under this slot is; None if none lives there.
+    pub fn stage(&self, slot: Slot) -> Option<Stage>
+        ensures { result ≡ option_map stage_of (phase_at self.now slot.0) }
+    {
+        self.locks.stage(slot)
+    }
+
+    /// Appends the slots of the queue, the oldest first. Where there was no memory for all, a beginning was appended.
+    pub fn queue(&mut self, slots: &mut Vec<Slot>) -> Result<(), Refused>
+        ensures same { self.new ≡ self.old }
+        ensures appended { OnOk result (AppendsQueue self.old.waiting.side.queue slots.old.items slots.new.items) }
+    {
+        self.locks.queue(slots)
     }
 
     /// Returns `true` if a poll of the future under this slot would have to wait now, so that it needs a waker; `false` where none may be

@@ -5,6 +5,7 @@ ghost use Rattle.fi_parts.specs.Stays.{AllStay};
 ghost use Rattle.fi_locks.specs.Mutex.{can_be_polled, is_free, Unlocks};
 
 use crate::mutex::LocalMutex;
+use std::fmt;
 use std::marker::Model;
 use std::ops::{Deref, DerefMut};
 
@@ -13,6 +14,12 @@ use std::ops::{Deref, DerefMut};
 /// Keeps `GenericMutexGuard` of futures-intrusive's `sync`.
 pub struct LocalMutexGuard<T> {
     value: T,
+}
+
+impl<T> fmt::Debug for LocalMutexGuard<T> {
+    fn fmt<F: fmt::Write>(&self, f: &mut fmt::Formatter<F>) -> fmt::Result {
+        f.debug_struct("GenericMutexGuard").finish()
+    }
 }
 
 impl<T> Model for LocalMutexGuard<T> {

@@ -1,6 +1,7 @@
 //! A semaphore.
 ghost use Rattle.std.specs.Prelude.{◌≡◌, ◌≤◌, ◌<◌, ◌+◌, ◌-◌, ◌^◌, ◌&&◌, not, true, false, Option, Some};
-ghost use Rattle.std.specs.Prelude.{None, IfOk, IfErr, OnErr, MatchOption, is_some, length, ⊤};
+ghost use Rattle.std.specs.Prelude.{None, IfOk, IfErr, OnOk, OnErr, MatchOption, is_some, length, ⊤};
+ghost use Rattle.std.specs.Option.{option_map};
 ghost use Rattle.fi_parts.specs.Effects.{TakesEffect};
 ghost use Rattle.fi_parts.specs.Effects.WaiterEffect.{EndsPlaced};
 ghost use Rattle.fi_parts.specs.Machine.{phase_at, displaced_at};
@@ -12,30 +13,16 @@ ghost use Rattle.fi_locks.specs.Semaphore.{cancel_tells, Makes, Polls, Cancels, 
 ghost use Rattle.fi_locks.specs.Semaphore.{GivesBack, Disarms, Wakes, Tells, AreHeld, IsSound, OwesNoWake};
 ghost use Rattle.futures.specs.Poll.{OnPending};
 ghost use Rattle.fi_parts.specs.Stays.{AllStay, OthersStay, IsApart};
+ghost use Rattle.fi_parts.specs.Stages.{stage_of, AppendsQueue};
 ghost use Rattle.fi_locks.specs.SemaphoreFields.{IsMarked};
 
 use crate::asked::Asked;
 use crate::semaphore_future::{LocalSemaphoreAcquireFuture, LocalSemaphoreReleaser};
-use fi_parts::{Fault, Leftover, Phase, Slot, Waits, last_waker};
+use fi_parts::{Fault, Leftover, Phase, Refused, Slot, Stage, Waits, last_waker};
 use futures::task::Poll;
 use std::alloc::Global;
+use std::fmt;
 use std::marker::Model;
-
-/// The fields of a semaphore. Between two calls on them the semaphore's law may be broken.
-///
-/// A telling round of a fair semaphore goes on where the one before ended, so those told already are not walked over again.
-#[derive(Drop)]
-struct Fields<W> {
-    is_fair: bool,
-    free: usize,
-    held: usize,
-    asked: Asked,
-    // Of a fair semaphore: how many permits the told futures need together.
-    promised: usize,
-    // Of a fair semaphore: the oldest future that waits and isn't told. An unfair one doesn't read it.
-    untold: Option<Slot>,
-    waits: Waits<usize, W>,
-}
 
 /// A semaphore: futures acquire permits, several at once, and give them back.
 ///
@@ -63,7 +50,15 @@ struct Fields<W> {
 /// ```
 #[derive(Drop)]
 pub struct SemaphoreState<W> {
-    fields: Fields<W>,
+    fields: SemaphoreFields<W>,
+}
+
+impl<W: Drop> fmt::Debug for SemaphoreState<W> {
+    fn fmt<F: fmt::Write>(&self, f: &mut fmt::Formatter<F>) -> fmt::Result {
+        f.debug_struct("Semaphore")
+            .field("permits", &self.permits())
+            .finish()
+    }
 }
 
 /// The semaphore for one thread: futures are polled, and permits given back, with the semaphore lent to them. Keeps
@@ -109,7 +104,7 @@ impl<W: Drop> SemaphoreState<W> {
         ensures { result ≡ opened is_fair permits }
     {
         SemaphoreState {
-            fields: Fields {
+            fields: SemaphoreFields {
                 is_fair,
                 free: permits,
                 held: 0,
@@ -221,6 +216,21 @@ impl<W: Drop> SemaphoreState<W> {
         self.fields.waits.phase(slot).is_some()
     }
 
+    /// How far the future under this slot is; None if none lives there.
+    pub fn stage(&self, slot: Slot) -> Option<Stage>
+        ensures { result ≡ option_map stage_of (phase_at self.now slot.0) }
+    {
+        self.fields.waits.stage(slot)
+    }
+
+    /// Appends the slots of the queue, the oldest first. Where there was no memory for all, a beginning was appended.
+    pub fn queue(&mut self, slots: &mut Vec<Slot>) -> Result<(), Refused>
+        ensures same { self.new ≡ self.old }
+        ensures appended { OnOk result (AppendsQueue self.old.waiting.side.queue slots.old.items slots.new.items) }
+    {
+        self.fields.waits.queue(slots)
+    }
+
     /// Returns `true` if a poll of the future under this slot would have to wait now, so that it needs a waker; `false` where none may be
     /// polled.
     pub fn would_wait(&self, slot: Slot) -> bool
@@ -298,7 +308,23 @@ impl<W: Drop> SemaphoreState<W> {
     }
 }
 
-impl<W: Drop> Fields<W> {
+/// The fields of a semaphore. Between two calls on them the semaphore's law may be broken.
+///
+/// A telling round of a fair semaphore goes on where the one before ended, so those told already are not walked over again.
+#[derive(Drop)]
+struct SemaphoreFields<W> {
+    is_fair: bool,
+    free: usize,
+    held: usize,
+    asked: Asked,
+    // Of a fair semaphore: how many permits the told futures need together.
+    promised: usize,
+    // Of a fair semaphore: the oldest future that waits and isn't told. An unfair one doesn't read it.
+    untold: Option<Slot>,
+    waits: Waits<usize, W>,
+}
+
+impl<W: Drop> SemaphoreFields<W> {
     ghost use Rattle.fi_locks.specs.SemaphoreFields.{machine_of, MarksWithoutIf, promised_without, left_promised, Walk, IsStopped};
 
     fn next_wake(&mut self) -> Option<W>

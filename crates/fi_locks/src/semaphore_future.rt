@@ -7,7 +7,7 @@ use crate::semaphore::{LocalSemaphore, SemaphoreState};
 use fi_parts::{FutureKind, FuturesOf, LocalFuture, Slot};
 use futures::task::Poll;
 use std::marker::Model;
-use std::mem;
+use std::{fmt, mem};
 
 /// The kind of a semaphore's futures: ready with their permits, once these are granted. A cancel passes a notice that was not
 /// used on to those who wait; after that of one that waited in a fair semaphore, the longest front of the queue whose needs
@@ -86,6 +86,12 @@ impl<W: Drop> FuturesOf<SemaphoreState<W>> for SemaphoreAcquire {
 /// Keeps `GenericSemaphoreReleaser` of futures-intrusive's `sync`.
 pub struct LocalSemaphoreReleaser {
     permits: usize,
+}
+
+impl fmt::Debug for LocalSemaphoreReleaser {
+    fn fmt<F: fmt::Write>(&self, f: &mut fmt::Formatter<F>) -> fmt::Result {
+        f.debug_struct("GenericSemaphoreReleaser").finish()
+    }
 }
 
 impl Model for LocalSemaphoreReleaser {

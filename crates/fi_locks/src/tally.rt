@@ -1,6 +1,7 @@
 //! How much of a primitive is held, by the count of a ledger.
 ghost use Rattle.std.specs.Prelude.{◌≡◌, ◌+◌, ◌≤◌};
 
+use std::fmt;
 use std::marker::Model;
 use std::sync::ledger::{Blank, Book, Ledger, Share};
 
@@ -10,6 +11,12 @@ pub struct Tally<L: Ledger> {
     book: Book<L>,
     // The parts of the ledger that no grant has.
     rest: Share<L>,
+}
+
+impl<L: Ledger> fmt::Debug for Tally<L> {
+    fn fmt<F: fmt::Write>(&self, f: &mut fmt::Formatter<F>) -> fmt::Result {
+        f.debug_struct("Tally").finish()
+    }
 }
 
 impl<L: Ledger> Model for Tally<L> {
@@ -67,6 +74,12 @@ pub struct Grant<L: Ledger> {
     units: usize,
     // A part of the ledger for each unit.
     share: Share<L>,
+}
+
+impl<L: Ledger> fmt::Debug for Grant<L> {
+    fn fmt<F: fmt::Write>(&self, f: &mut fmt::Formatter<F>) -> fmt::Result {
+        f.debug_struct("Grant").finish()
+    }
 }
 
 impl<L: Ledger> Model for Grant<L> {

@@ -1,19 +1,22 @@
 //! A timer.
 ghost use Rattle.std.specs.Prelude.{◌≡◌, ◌&&◌, not, nat_le, true, false, IfOk, IfErr, OnErr, IfSome, is_some, length};
+ghost use Rattle.std.specs.Option.{option_map};
 ghost use Rattle.std.specs.Duration.{as_nanos};
-ghost use Rattle.fi_parts.specs.Waiting.{is_registered};
+ghost use Rattle.fi_parts.specs.Waiting.{asks_of, is_registered};
 ghost use Rattle.fi_parts.specs.Machine.{phase_at, displaced_at};
 ghost use Rattle.fi_parts.specs.Deadlines.{IsNextExpiry, is_fresh, expiry_of};
 ghost use Rattle.fi_parts.specs.Polled.{unused_after, WouldBeReady, LeavesWhere};
 ghost use Rattle.futures.specs.Poll.{OnPending};
 ghost use Rattle.fi_parts.specs.Stays.{AllStay, OthersStay, IsApart};
+ghost use Rattle.fi_parts.specs.Stages.{stage_of};
 ghost use Rattle.fi_locks.specs.Timer.{opened, expiry_after, can_be_polled, Makes, Polls, Cancels, Checks, Wakes};
 ghost use Rattle.fi_locks.specs.Timer.{IsSound, OwesNoWake};
 
 use crate::timer_future::LocalTimerFuture;
-use fi_parts::{Deadlines, Fault, Leftover, Phase, Slot, whole_millis};
+use fi_parts::{Deadlines, Fault, Leftover, Phase, Slot, Stage, whole_millis};
 use futures::task::Poll;
 use std::alloc::Global;
+use std::fmt;
 use std::marker::Model;
 use std::time::Duration;
 
@@ -43,6 +46,12 @@ use std::time::Duration;
 pub struct TimerState<W> {
     floor: u64,
     deadlines: Deadlines<W>,
+}
+
+impl<W> fmt::Debug for TimerState<W> {
+    fn fmt<F: fmt::Write>(&self, f: &mut fmt::Formatter<F>) -> fmt::Result {
+        f.debug_struct("TimerService").finish()
+    }
 }
 
 /// The timer for one thread: futures are polled with the timer lent to them, and the moment.
@@ -195,6 +204,23 @@ impl<W: Drop> TimerState<W> {
         ensures { result ≡ is_some (phase_at self.now slot.0) }
     {
         self.deadlines.phase(slot).is_some()
+    }
+
+    /// When the future under this slot expires; None if none lives there.
+    pub fn expiry(&self, slot: Slot) -> Option<u64>
+        ensures { result ≡ asks_of self.now.waiting.side slot.0 }
+    {
+        match self.deadlines.future(slot) {
+            Some(future) => Some(future.asks.expiry),
+            None => None,
+        }
+    }
+
+    /// How far the future under this slot is; None if none lives there.
+    pub fn stage(&self, slot: Slot) -> Option<Stage>
+        ensures { result ≡ option_map stage_of (phase_at self.now slot.0) }
+    {
+        self.deadlines.stage(slot)
     }
 
     /// Returns `true` if a poll of the future under this slot would have to wait at this moment, so that it needs a waker; `false` where

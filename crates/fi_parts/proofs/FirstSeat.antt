@@ -4,10 +4,10 @@ use Rattle.std.proofs.Common.{refl, sym, ap, ◌∙◌, inl, inr, arith}
 use Rattle.std.proofs.lemmas.Bool.{cases_Bool, ltb-false, leb-true, le-leb, both_ways, false_from_ne_true, and_parts}
 use Rattle.std.specs.FinMap as map
 use Rattle.std.specs.FinSet as set
-use Rattle.fi_parts.specs.declared.phase.Future.{Future}
+use Rattle.fi_parts.specs.declared.phase.LiveFuture.{LiveFuture}
 use Rattle.fi_parts.specs.HeapModel.{HeapModel, value_under}
 use Rattle.fi_parts.specs.Waiting.{Waiters, Waiting, phase_in, asks_in, is_registered}
-use Rattle.fi_parts.specs.declared.deadlines.Timed.{Timed}
+use Rattle.fi_parts.specs.declared.deadlines.Deadline.{Deadline}
 use Rattle.fi_parts.specs.Deadlines.{expiry_of, is_entered, IsLeastDue, NoneDue}
 use Rattle.fi_parts.specs.Seats.{deadlines_of, due_of, AreSeated, IsFirst}
 use Rattle.fi_parts.proofs.Seats.{one_value, unseated_in, get-unseated, phase-unseated}
@@ -24,20 +24,21 @@ no_later later due apart = elim (cases_Bool (nat_lt later.expiry due.expiry)) [
   | inr not_earlier ↦ ltb-false later.expiry due.expiry not_earlier
 ]
 
-module _ {W : Type 0} (w : Waiting Timed W) (heap : HeapModel Due) (was : AreSeated w.side.live heap) where
+module _ {W : Type 0} (w : Waiting Deadline W) (heap : HeapModel Due) (was : AreSeated w.side.live heap) where
   abbrev pub seen : Waiters ℕ W
   seen = (deadlines_of w).side
 
-  registered_here : (q : ℕ) → is_entered seen q ≡ true → (g : Future Timed W) × (map.get w.side.live q ≡ Some g) ×
+  registered_here : (q : ℕ) → is_entered seen q ≡ true → (g : LiveFuture Deadline W) × (map.get w.side.live q ≡ Some g) ×
       (is_registered (Some g.phase) ≡ true)
   registered_here q is = each (map.get w.side.live q) refl (ap is_registered (sym (phase-unseated w.side.live q)) ∙ is)
     where
-      each : (o : Option (Future Timed W)) → map.get w.side.live q ≡ o → is_registered (phase_in o) ≡ true → (g : Future Timed W) ×
+      each : (o : Option (LiveFuture Deadline W)) → map.get w.side.live q ≡ o → is_registered (phase_in o) ≡ true →
+          (g : LiveFuture Deadline W) ×
           (map.get w.side.live q ≡ Some g) × (is_registered (Some g.phase) ≡ true)
       each None at h = absurd (both_ways false refl h)
       each (Some g) at h = (g, at, h)
 
-  expiry_at : (q : ℕ) (g : Future Timed W) → map.get w.side.live q ≡ Some g → expiry_of seen q ≡ g.asks.expiry
+  expiry_at : (q : ℕ) (g : LiveFuture Deadline W) → map.get w.side.live q ≡ Some g → expiry_of seen q ≡ g.asks.expiry
   expiry_at q g is = ap (λ o. unwrap_or (asks_in o) 0) (get-unseated w.side.live q ∙ ap unseated_in is)
 
   pub none_entered : heap.members ≡ set.empty → (q : ℕ) → is_entered seen q ≡ false
@@ -50,7 +51,7 @@ module _ {W : Type 0} (w : Waiting Timed W) (heap : HeapModel Due) (was : AreSea
 
   module _ (seat : ℕ) (due : Due) (first : IsFirst heap seat due) where
     -- the future of the first seat
-    pub its_future : (f : Future Timed W) × (map.get w.side.live due.name ≡ Some f) × (f.asks.seat.0 ≡ seat)
+    pub its_future : (f : LiveFuture Deadline W) × (map.get w.side.live due.name ≡ Some f) × (f.asks.seat.0 ≡ seat)
     its_future = was.owned seat due first.value
 
     pub first_entered : is_entered seen due.name ≡ true

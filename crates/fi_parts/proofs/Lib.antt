@@ -22,9 +22,10 @@ pub mod BlockEnds
 pub mod Pairs
 pub mod OutboxList
 pub mod Queues
+pub mod QueueWalks
 pub mod Waiting
 pub mod Tied
-pub mod Lines
+pub mod WaitQueues
 pub mod SpareTickets
 pub mod Stores
 pub mod Notified

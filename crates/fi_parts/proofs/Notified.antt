@@ -8,7 +8,7 @@ use Rattle.std.specs.Ordering.{nat_cmp}
 use Rattle.std.specs.FinMap as map
 use Rattle.fi_parts.specs.declared.phase.Phase.{Phase}
 use Rattle.fi_parts.specs.declared.phase.Phase.TheVariants.{Fresh, Registered, Told, Complete, Ended}
-use Rattle.fi_parts.specs.declared.phase.Future.{Future}
+use Rattle.fi_parts.specs.declared.phase.LiveFuture.{LiveFuture}
 use Rattle.fi_parts.specs.Effects.{notified, AreRegistered}
 use Rattle.fi_parts.specs.Order.{holds, Apart}
 use Rattle.fi_parts.specs.Pairs.{has, PairsApart}
@@ -48,7 +48,7 @@ module _ {W : Type 0} where
   )
 
 module _ {D W : Type 0} where
-  has-named : (live : map.FinMap nat_cmp (Future D W)) (names : List ℕ) (q : ℕ) → has q (named live names) ≡ true →
+  has-named : (live : map.FinMap nat_cmp (LiveFuture D W)) (names : List ℕ) (q : ℕ) → has q (named live names) ≡ true →
       (holds q names ≡ true) × (is_registered (phase_in (map.get live q)) ≡ true)
   unfolding named
   has-named live [] q at = absurd (both_ways false refl at)
@@ -60,7 +60,7 @@ module _ {D W : Type 0} where
     | inr later ↦ let rest = has-named live names q later in (or_right (eqb q n) _ rest.0, rest.1)
   ]
 
-  PairsApart-named : (live : map.FinMap nat_cmp (Future D W)) (names : List ℕ) → Apart names →
+  PairsApart-named : (live : map.FinMap nat_cmp (LiveFuture D W)) (names : List ℕ) → Apart names →
       PairsApart (named live names)
   unfolding named
   PairsApart-named live [] a = tt

@@ -7,7 +7,7 @@ use Rattle.std.specs.Option.{IsSome}
 use Rattle.std.specs.Ordering.{nat_cmp}
 use Rattle.std.specs.FinMap as finmap
 use Rattle.fi_parts.specs.declared.phase.Phase.{Phase}
-use Rattle.fi_parts.specs.declared.phase.Future.{Future}
+use Rattle.fi_parts.specs.declared.phase.LiveFuture.{LiveFuture}
 use Rattle.fi_parts.specs.Waiting.{Waiters, Waiting, phase_in, asks_in, may_be_named, with_asks_in, with_asks, exchange}
 use Rattle.fi_parts.specs.Waiting.{noticed, pair, clear_queue, named_all, IsOrdered, AreSoundBy}
 use Rattle.fi_parts.proofs.FiniteMaps.{get-insert_same, get-insert_other}
@@ -16,27 +16,27 @@ use Rattle.fi_parts.proofs.Waiting.{all_noticed-none}
 
 module _ {D W : Type 0} where
   -- only what this name asks for has changed
-  pub get-with_asks : (live : finmap.FinMap nat_cmp (Future D W)) (n : ℕ) (d : D) (f : Future D W) →
+  pub get-with_asks : (live : finmap.FinMap nat_cmp (LiveFuture D W)) (n : ℕ) (d : D) (f : LiveFuture D W) →
       finmap.get live n ≡ Some f → finmap.get (with_asks live n d) n ≡ Some (record f { asks = d })
   unfolding with_asks
   get-with_asks live n d f is =
       ap (λ o. finmap.get (with_asks_in live n d o) n) is ∙ get-insert_same live n (record f { asks = d })
 
-  pub get-with_asks_other : (live : finmap.FinMap nat_cmp (Future D W)) (n : ℕ) (d : D) (q : ℕ) → q ≢ n →
+  pub get-with_asks_other : (live : finmap.FinMap nat_cmp (LiveFuture D W)) (n : ℕ) (d : D) (q : ℕ) → q ≢ n →
       finmap.get (with_asks live n d) q ≡ finmap.get live q
   unfolding with_asks
   get-with_asks_other live n d q ne = each (finmap.get live n)
     where
-      each : (o : Option (Future D W)) → finmap.get (with_asks_in live n d o) q ≡ finmap.get live q
+      each : (o : Option (LiveFuture D W)) → finmap.get (with_asks_in live n d o) q ≡ finmap.get live q
       each None = refl
       each (Some f) = get-insert_other live n (record f { asks = d }) q ne
 
-  pub phase-with_asks : (live : finmap.FinMap nat_cmp (Future D W)) (n : ℕ) (d : D) (q : ℕ) →
+  pub phase-with_asks : (live : finmap.FinMap nat_cmp (LiveFuture D W)) (n : ℕ) (d : D) (q : ℕ) →
       phase_in (finmap.get (with_asks live n d) q) ≡ phase_in (finmap.get live q)
   unfolding with_asks
   phase-with_asks live n d q = each (finmap.get live n) refl
     where
-      each : (o : Option (Future D W)) → finmap.get live n ≡ o →
+      each : (o : Option (LiveFuture D W)) → finmap.get live n ≡ o →
           phase_in (finmap.get (with_asks_in live n d o) q) ≡ phase_in (finmap.get live q)
       each None is = refl
       each (Some f) is = elim (cases_eq q n) [
@@ -44,11 +44,11 @@ module _ {D W : Type 0} where
         | inr ne ↦ ap phase_in (get-insert_other live n (record f { asks = d }) q ne)
       ]
 
-  pub asks-with_asks : (live : finmap.FinMap nat_cmp (Future D W)) (n : ℕ) (d : D) → IsSome (finmap.get live n) →
+  pub asks-with_asks : (live : finmap.FinMap nat_cmp (LiveFuture D W)) (n : ℕ) (d : D) → IsSome (finmap.get live n) →
       asks_in (finmap.get (with_asks live n d) n) ≡ Some d
   asks-with_asks live n d lives = each (finmap.get live n) refl lives
     where
-      each : (o : Option (Future D W)) → finmap.get live n ≡ o → IsSome o →
+      each : (o : Option (LiveFuture D W)) → finmap.get live n ≡ o → IsSome o →
           asks_in (finmap.get (with_asks live n d) n) ≡ Some d
       each None is h = absurd (both_ways false refl h)
       each (Some f) is h = ap asks_in (get-with_asks live n d f is)
@@ -65,7 +65,7 @@ module _ {D W : Type 0} where
     only = λ q. ap allowed (phase-with_asks side.live n d q) ∙ was.only q;
   }
 
-  pub asks-with_asks_other : (live : finmap.FinMap nat_cmp (Future D W)) (n : ℕ) (d : D) (q : ℕ) → q ≢ n →
+  pub asks-with_asks_other : (live : finmap.FinMap nat_cmp (LiveFuture D W)) (n : ℕ) (d : D) (q : ℕ) → q ≢ n →
       asks_in (finmap.get (with_asks live n d) q) ≡ asks_in (finmap.get live q)
   asks-with_asks_other live n d q ne = ap asks_in (get-with_asks_other live n d q ne)
 

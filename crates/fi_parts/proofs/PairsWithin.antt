@@ -6,7 +6,7 @@ use Rattle.std.proofs.lemmas.Bool.{eq-eqb, ne_eqb, cases_eq, both_ways}
 use Rattle.std.specs.Ordering.{nat_cmp}
 use Rattle.std.specs.FinMap as finmap
 use Rattle.fi_parts.specs.declared.phase.Phase.TheVariants.{Registered}
-use Rattle.fi_parts.specs.declared.phase.Future.{Future}
+use Rattle.fi_parts.specs.declared.phase.LiveFuture.{LiveFuture}
 use Rattle.fi_parts.specs.Order.{holds}
 use Rattle.fi_parts.specs.Pairs.{without_pair, waker_of, oldest}
 use Rattle.fi_parts.specs.Waiting.{named, phase_in, pair_of}
@@ -66,7 +66,7 @@ module _ {W : Type 0} where
 
 module _ {D W : Type 0} where
   -- a registered name of a list is named with its waker
-  pub in_named : (names : List ℕ) (live : finmap.FinMap nat_cmp (Future D W)) (q : ℕ) (waker : W) → holds q names ≡ true
+  pub in_named : (names : List ℕ) (live : finmap.FinMap nat_cmp (LiveFuture D W)) (q : ℕ) (waker : W) → holds q names ≡ true
       → phase_in (finmap.get live q) ≡ Some (Registered waker) → IsIn (q, waker) (named live names)
   unfolding named
   in_named [] live q waker at is = absurd (both_ways false refl at)

@@ -9,7 +9,7 @@ use Rattle.std.specs.Cmp.{nat_cmp_total}
 use Rattle.std.specs.FinMap as finmap
 use Rattle.std.specs.FinSet as set
 use Rattle.fi_parts.specs.declared.phase.Phase.{Phase}
-use Rattle.fi_parts.specs.declared.phase.Future.{Future}
+use Rattle.fi_parts.specs.declared.phase.LiveFuture.{LiveFuture}
 use Rattle.fi_parts.specs.HeapModel.{HeapModel, value_under, with_values}
 use Rattle.fi_parts.specs.Waiting.{Waiting, phase_in, asks_in, is_registered, rephased}
 use Rattle.fi_parts.specs.Waiting.{with_phase, insert_fresh, without_future, pair, pair_of}
@@ -19,7 +19,7 @@ use Rattle.fi_parts.proofs.Picked.{contains-insert_same, contains-insert_other, 
 use Rattle.fi_parts.proofs.Picked.{contains-remove_other}
 use Rattle.fi_parts.proofs.Waiting.{get-with_phase, get-with_phase_other}
 use Rattle.fi_parts.proofs.FiniteMaps.{get-insert_same, get-insert_other, get-remove_same, get-remove_other}
-use Rattle.fi_parts.specs.declared.deadlines.Timed.{Timed}
+use Rattle.fi_parts.specs.declared.deadlines.Deadline.{Deadline}
 use Rattle.fi_parts.specs.declared.deadlines.Due.{Due}
 use Rattle.fi_parts.specs.Deadlines.{told_due}
 use Rattle.fi_parts.specs.Seats.{unseated, unseated_all, deadlines_of, due_of, AreSeated}
@@ -33,15 +33,15 @@ name_in None = 0
 name_in (Some due) = due.name
 
 module _ {W : Type 0} where
-  abbrev pub unseated_in : Option (Future Timed W) → Option (Future ℕ W)
+  abbrev pub unseated_in : Option (LiveFuture Deadline W) → Option (LiveFuture ℕ W)
   unseated_in None = None
   unseated_in (Some future) = Some (unseated future)
 
-  pub unseated_in-map : (o : Option (Future Timed W)) → option_map unseated o ≡ unseated_in o
+  pub unseated_in-map : (o : Option (LiveFuture Deadline W)) → option_map unseated o ≡ unseated_in o
   unseated_in-map None = refl
   unseated_in-map (Some future) = refl
 
-  find-unseated : (q : ℕ) (es : List (ℕ × Future Timed W)) → finmap.find nat_cmp q (map (λ e. (e.0, unseated e.1)) es) ≡
+  find-unseated : (q : ℕ) (es : List (ℕ × LiveFuture Deadline W)) → finmap.find nat_cmp q (map (λ e. (e.0, unseated e.1)) es) ≡
       unseated_in (finmap.find nat_cmp q es)
   find-unseated q [] = refl
   find-unseated q (e ∷ es) = step (eq_by_cmp nat_cmp q e.0) (find-unseated q es)
@@ -52,20 +52,20 @@ module _ {W : Type 0} where
       step true rest = refl
       step false rest = rest
 
-  pub get-unseated : (live : finmap.FinMap nat_cmp (Future Timed W)) (q : ℕ) → finmap.get (unseated_all live) q ≡
+  pub get-unseated : (live : finmap.FinMap nat_cmp (LiveFuture Deadline W)) (q : ℕ) → finmap.get (unseated_all live) q ≡
       unseated_in (finmap.get live q)
   unfolding unseated_all
   get-unseated live q = finmap.get-from_entries nat_cmp_total (map (λ e. (e.0, unseated e.1)) (finmap.entries live)) q ∙
       find-unseated q (finmap.entries live) ∙ ap unseated_in (sym (finmap.get-entries live q))
 
-  same_unseated : (live : finmap.FinMap nat_cmp (Future Timed W)) (others : finmap.FinMap nat_cmp (Future ℕ W)) →
+  same_unseated : (live : finmap.FinMap nat_cmp (LiveFuture Deadline W)) (others : finmap.FinMap nat_cmp (LiveFuture ℕ W)) →
       ((q : ℕ) → unseated_in (finmap.get live q) ≡ finmap.get others q) → unseated_all live ≡ others
   same_unseated live others same = finmap.same_map nat_cmp_total finmap.nat_cmp-IsAntisymmetric _ _ (λ q. get-unseated live q ∙ same q)
 
-  pub unseated-empty : unseated_all (finmap.empty {X = Future Timed W} {R = nat_cmp}) ≡ finmap.empty
+  pub unseated-empty : unseated_all (finmap.empty {X = LiveFuture Deadline W} {R = nat_cmp}) ≡ finmap.empty
   unseated-empty = same_unseated _ _ (λ q. ap unseated_in (finmap.get-empty nat_cmp q) ∙ sym (finmap.get-empty nat_cmp q))
 
-  pub unseated-insert : (live : finmap.FinMap nat_cmp (Future Timed W)) (n : ℕ) (f : Future Timed W) →
+  pub unseated-insert : (live : finmap.FinMap nat_cmp (LiveFuture Deadline W)) (n : ℕ) (f : LiveFuture Deadline W) →
       unseated_all (finmap.insert live n f) ≡ finmap.insert (unseated_all live) n (unseated f)
   unseated-insert live n f = same_unseated _ _ (λ q. elim (cases_eq q n) [
     | inl same ↦ rw same (ap unseated_in (get-insert_same live n f) ∙ sym (get-insert_same (unseated_all live) n (unseated f)))
@@ -73,39 +73,41 @@ module _ {W : Type 0} where
         sym (get-insert_other (unseated_all live) n (unseated f) q ne)
   ])
 
-  pub unseated-remove : (live : finmap.FinMap nat_cmp (Future Timed W)) (n : ℕ) → unseated_all (finmap.remove live n) ≡
+  pub unseated-remove : (live : finmap.FinMap nat_cmp (LiveFuture Deadline W)) (n : ℕ) → unseated_all (finmap.remove live n) ≡
       finmap.remove (unseated_all live) n
   unseated-remove live n = same_unseated _ _ (λ q. elim (cases_eq q n) [
     | inl same ↦ rw same (ap unseated_in (get-remove_same live n) ∙ sym (get-remove_same (unseated_all live) n))
     | inr ne ↦ ap unseated_in (get-remove_other live n q ne) ∙ sym (get-unseated live q) ∙ sym (get-remove_other (unseated_all live) n q ne)
   ])
 
-  pub unseated-with_phase : (live : finmap.FinMap nat_cmp (Future Timed W)) (n : ℕ) (phase : Phase W) →
+  pub unseated-with_phase : (live : finmap.FinMap nat_cmp (LiveFuture Deadline W)) (n : ℕ) (phase : Phase W) →
       unseated_all (with_phase live n phase) ≡ with_phase (unseated_all live) n phase
   unfolding with_phase
   unseated-with_phase live n phase = each (finmap.get live n) ∙ sym (ap (rephased (unseated_all live) n phase) (get-unseated live n))
     where
-      each : (o : Option (Future Timed W)) → unseated_all (rephased live n phase o) ≡ rephased (unseated_all live) n phase (unseated_in o)
+      each : (o : Option (LiveFuture Deadline W)) →
+          unseated_all (rephased live n phase o) ≡ rephased (unseated_all live) n phase (unseated_in o)
       each None = refl
       each (Some f) = unseated-insert live n (record f { phase = phase })
 
-  pub phase-unseated : (live : finmap.FinMap nat_cmp (Future Timed W)) (q : ℕ) → phase_in (finmap.get (unseated_all live) q) ≡
+  pub phase-unseated : (live : finmap.FinMap nat_cmp (LiveFuture Deadline W)) (q : ℕ) → phase_in (finmap.get (unseated_all live) q) ≡
       phase_in (finmap.get live q)
   phase-unseated live q = ap phase_in (get-unseated live q) ∙ each (finmap.get live q)
     where
-      each : (o : Option (Future Timed W)) → phase_in (unseated_in o) ≡ phase_in o
+      each : (o : Option (LiveFuture Deadline W)) → phase_in (unseated_in o) ≡ phase_in o
       each None = refl
       each (Some f) = refl
 
-  module _ (live : finmap.FinMap nat_cmp (Future Timed W)) (heap : HeapModel Due) (was : AreSeated live heap) where
+  module _ (live : finmap.FinMap nat_cmp (LiveFuture Deadline W)) (heap : HeapModel Due) (was : AreSeated live heap) where
     -- two names have two seats
-    pub own_seat : (n q : ℕ) (f g : Future Timed W) → finmap.get live n ≡ Some f → finmap.get live q ≡ Some g → g.asks.seat.0 ≡
+    pub own_seat : (n q : ℕ) (f g : LiveFuture Deadline W) → finmap.get live n ≡ Some f → finmap.get live q ≡ Some g → g.asks.seat.0 ≡
         f.asks.seat.0 → q ≡ n
     own_seat n q f g here there same = ap name_in (sym (was.seated q g there) ∙ ap (value_under heap) same ∙ was.seated n f here)
 
-    module _ (n : ℕ) (f : Future Timed W) (here : finmap.get live n ≡ Some f) where
+    module _ (n : ℕ) (f : LiveFuture Deadline W) (here : finmap.get live n ≡ Some f) where
       -- One future stands otherwise, and only its seat may be taken or left.
-      pub seated-by : (new : finmap.FinMap nat_cmp (Future Timed W)) (heap' : HeapModel Due) (g : Future Timed W) → finmap.get new n ≡
+      pub seated-by : (new : finmap.FinMap nat_cmp (LiveFuture Deadline W)) (heap' : HeapModel Due) (g : LiveFuture Deadline W) →
+          finmap.get new n ≡
           Some g → g.asks ≡ f.asks → ((q : ℕ) → q ≢ n → finmap.get new q ≡ finmap.get live q) →
           heap'.live ≡ heap.live → set.contains heap'.members f.asks.seat.0 ≡ is_registered (Some g.phase) →
           ((k : ℕ) → k ≢ f.asks.seat.0 → set.contains heap'.members k ≡ set.contains heap.members k) → AreSeated new heap'
@@ -124,7 +126,7 @@ module _ {W : Type 0} where
                   let e : f ≡ before.0 = one_value f before.0 (sym here ∙ ap (finmap.get live) (sym same) ∙ before.1) in (
                     g,
                     ap (finmap.get new) same ∙ now,
-                    ap (λ (a : Timed). a.seat.0) asks ∙ ap (λ (h : Future Timed W). h.asks.seat.0) e ∙
+                    ap (λ (a : Deadline). a.seat.0) asks ∙ ap (λ (h : LiveFuture Deadline W). h.asks.seat.0) e ∙
                         before.2,
                   )
               | inr ne ↦ (before.0, others due.name ne ∙ before.1, before.2)
@@ -155,7 +157,8 @@ module _ {W : Type 0} where
             ap (λ l. finmap.get l k) (sym values) ∙ is) in (
               before.0,
               get-remove_other live n due.name (λ same. apart (sym before.2 ∙
-                  ap (λ (h : Future Timed W). h.asks.seat.0) (one_value before.0 f (sym before.1 ∙ ap (finmap.get live) same ∙ here)))) ∙
+                  ap (λ (h : LiveFuture Deadline W). h.asks.seat.0) (one_value before.0 f (sym before.1 ∙ ap (finmap.get live) same ∙
+                  here)))) ∙
                   before.1,
               before.2,
             );
@@ -163,14 +166,15 @@ module _ {W : Type 0} where
             ∙ was.taken q h before;
       }
         where
-          left : (q : ℕ) (h : Future Timed W) → finmap.get (finmap.remove live n) q ≡ Some h → q ≢ n
+          left : (q : ℕ) (h : LiveFuture Deadline W) → finmap.get (finmap.remove live n) q ≡ Some h → q ≢ n
           left q h is same = none-some h (sym (get-remove_same live n) ∙ ap (finmap.get (finmap.remove live n)) (sym same) ∙ is)
 
-          still : (q : ℕ) (h : Future Timed W) → finmap.get (finmap.remove live n) q ≡ Some h → finmap.get live q ≡ Some h
+          still : (q : ℕ) (h : LiveFuture Deadline W) → finmap.get (finmap.remove live n) q ≡ Some h → finmap.get live q ≡ Some h
           still q h is = sym (get-remove_other live n q (left q h is)) ∙ is
 
     -- One future is new, with a seat that was not there.
-    pub seated-made : (n : ℕ) (g : Future Timed W) (heap' : HeapModel Due) → finmap.get live n ≡ None → value_under heap g.asks.seat.0 ≡
+    pub seated-made : (n : ℕ) (g : LiveFuture Deadline W) (heap' : HeapModel Due) → finmap.get live n ≡ None →
+        value_under heap g.asks.seat.0 ≡
         None → value_under heap' g.asks.seat.0 ≡ Some (due_of g n) →
         ((k : ℕ) → k ≢ g.asks.seat.0 → value_under heap' k ≡ value_under heap k) → heap'.members ≡ heap.members →
         set.contains heap.members g.asks.seat.0 ≡ is_registered (Some g.phase) → AreSeated (finmap.insert live n g) heap'
@@ -199,36 +203,39 @@ module _ {W : Type 0} where
       ];
     }
       where
-        new_one : (q : ℕ) (h : Future Timed W) → q ≡ n → finmap.get (finmap.insert live n g) q ≡ Some h → h ≡ g
+        new_one : (q : ℕ) (h : LiveFuture Deadline W) → q ≡ n → finmap.get (finmap.insert live n g) q ≡ Some h → h ≡ g
         new_one q h same is = one_value h g (sym is ∙ ap (finmap.get (finmap.insert live n g)) same ∙ get-insert_same live n g)
 
-  asks_here : (live : finmap.FinMap nat_cmp (Future Timed W)) (n : ℕ) (asks : Timed) → asks_in (finmap.get live n) ≡ Some asks →
-      (f : Future Timed W) × (finmap.get live n ≡ Some f) × (f.asks ≡ asks)
+  asks_here : (live : finmap.FinMap nat_cmp (LiveFuture Deadline W)) (n : ℕ) (asks : Deadline) → asks_in (finmap.get live n) ≡ Some asks →
+      (f : LiveFuture Deadline W) × (finmap.get live n ≡ Some f) × (f.asks ≡ asks)
   asks_here live n asks is = each (finmap.get live n) refl is
     where
-      each : (o : Option (Future Timed W)) → finmap.get live n ≡ o → asks_in o ≡ Some asks → (f : Future Timed W) ×
+      each : (o : Option (LiveFuture Deadline W)) → finmap.get live n ≡ o → asks_in o ≡ Some asks → (f : LiveFuture Deadline W) ×
           (finmap.get live n ≡ Some f) × (f.asks ≡ asks)
       each None at e = absurd (none-some asks e)
       each (Some f) at e = (f, at, one_value f.asks asks e)
 
-  pub asks_live : (live : finmap.FinMap nat_cmp (Future Timed W)) (n : ℕ) → IsSome (finmap.get live n) →
+  pub asks_live : (live : finmap.FinMap nat_cmp (LiveFuture Deadline W)) (n : ℕ) → IsSome (finmap.get live n) →
       IsSome (asks_in (finmap.get live n))
   asks_live live n lives = each (finmap.get live n) lives
     where
-      each : (o : Option (Future Timed W)) → IsSome o → IsSome (asks_in o)
+      each : (o : Option (LiveFuture Deadline W)) → IsSome o → IsSome (asks_in o)
       each None h = h
       each (Some f) h = refl
 
-  pub future_here : (live : finmap.FinMap nat_cmp (Future Timed W)) (n : ℕ) → IsSome (finmap.get live n) → (f : Future Timed W) ×
+  pub future_here : (live : finmap.FinMap nat_cmp (LiveFuture Deadline W)) (n : ℕ) → IsSome (finmap.get live n) →
+      (f : LiveFuture Deadline W) ×
       (finmap.get live n ≡ Some f)
   future_here live n lives = each (finmap.get live n) refl lives
     where
-      each : (o : Option (Future Timed W)) → finmap.get live n ≡ o → IsSome o → (f : Future Timed W) × (finmap.get live n ≡ Some f)
+      each : (o : Option (LiveFuture Deadline W)) → finmap.get live n ≡ o → IsSome o → (f : LiveFuture Deadline W) ×
+          (finmap.get live n ≡ Some f)
       each None at e = absurd (both_ways false refl e)
       each (Some f) at e = (f, at)
 
   -- a future stands otherwise, and is registered exactly if it was
-  pub kept-stand : (live : finmap.FinMap nat_cmp (Future Timed W)) (heap : HeapModel Due) (n : ℕ) (phase : Phase W) → AreSeated live heap →
+  pub kept-stand : (live : finmap.FinMap nat_cmp (LiveFuture Deadline W)) (heap : HeapModel Due) (n : ℕ) (phase : Phase W) →
+      AreSeated live heap →
       IsSome (finmap.get live n) → is_registered (Some phase) ≡ is_registered (phase_in (finmap.get live n)) →
       AreSeated (with_phase live n phase) heap
   kept-stand live heap n phase was lives same =
@@ -238,7 +245,8 @@ module _ {W : Type 0} where
       refl (was.taken n f.0 f.1 ∙ sym (same ∙ ap (λ o. is_registered (phase_in o)) f.1)) (λ k ne. refl)
 
   -- a future is registered, and takes its seat
-  pub kept-registered : (live : finmap.FinMap nat_cmp (Future Timed W)) (heap heap' : HeapModel Due) (n : ℕ) (waker : W) (asks : Timed) →
+  pub kept-registered : (live : finmap.FinMap nat_cmp (LiveFuture Deadline W)) (heap heap' : HeapModel Due) (n : ℕ) (waker : W)
+      (asks : Deadline) →
       AreSeated live heap → asks_in (finmap.get live n) ≡ Some asks → heap'.live ≡ heap.live → heap'.members ≡
       set.insert heap.members asks.seat.0 →
       AreSeated (with_phase live n (Registered waker)) heap'
@@ -251,16 +259,17 @@ module _ {W : Type 0} where
       (λ k ne. ap (λ m. set.contains m k) members' ∙ contains-insert_other heap.members f.0.asks.seat.0 k ne)
 
   -- who is not registered has not taken its seat
-  pub seat_free : (live : finmap.FinMap nat_cmp (Future Timed W)) (heap : HeapModel Due) (n : ℕ) (asks : Timed) → AreSeated live heap →
+  pub seat_free : (live : finmap.FinMap nat_cmp (LiveFuture Deadline W)) (heap : HeapModel Due) (n : ℕ) (asks : Deadline) →
+      AreSeated live heap →
       asks_in (finmap.get live n) ≡ Some asks → is_registered (phase_in (finmap.get live n)) ≡ false →
       set.contains heap.members asks.seat.0 ≡ false
   seat_free live heap n asks was is apart =
       let f = asks_here live n asks is in
-      ap (λ (a : Timed). set.contains heap.members a.seat.0) (sym f.2) ∙ was.taken n f.0 f.1 ∙
+      ap (λ (a : Deadline). set.contains heap.members a.seat.0) (sym f.2) ∙ was.taken n f.0 f.1 ∙
       ap (λ o. is_registered (phase_in o)) (sym f.1) ∙ apart
 
-  pub kept-told : (live : finmap.FinMap nat_cmp (Future Timed W)) (heap heap' : HeapModel Due) (n seat : ℕ) (phase : Phase W)
-      (f : Future Timed W) → AreSeated live heap → finmap.get live n ≡ Some f → f.asks.seat.0 ≡ seat → is_registered (Some phase) ≡
+  pub kept-told : (live : finmap.FinMap nat_cmp (LiveFuture Deadline W)) (heap heap' : HeapModel Due) (n seat : ℕ) (phase : Phase W)
+      (f : LiveFuture Deadline W) → AreSeated live heap → finmap.get live n ≡ Some f → f.asks.seat.0 ≡ seat → is_registered (Some phase) ≡
       false →
       heap'.live ≡ heap.live → heap'.members ≡ set.remove heap.members seat → AreSeated (with_phase live n phase) heap'
   kept-told live heap heap' n seat phase f was here same apart values members =
@@ -270,24 +279,25 @@ module _ {W : Type 0} where
       values (ap (λ m. set.contains m f.asks.seat.0) members' ∙ contains-remove_same heap.members f.asks.seat.0 ∙ sym apart)
       (λ k ne. ap (λ m. set.contains m k) members' ∙ contains-remove_other heap.members f.asks.seat.0 k ne)
 
-  pub kept-forgotten : (live : finmap.FinMap nat_cmp (Future Timed W)) (heap heap' : HeapModel Due) (n : ℕ) (asks : Timed) →
+  pub kept-forgotten : (live : finmap.FinMap nat_cmp (LiveFuture Deadline W)) (heap heap' : HeapModel Due) (n : ℕ) (asks : Deadline) →
       AreSeated live heap → asks_in (finmap.get live n) ≡ Some asks → heap'.live ≡ finmap.remove heap.live asks.seat.0 →
       ((k : ℕ) → k ≢ asks.seat.0 → set.contains heap'.members k ≡ set.contains heap.members k) → AreSeated (finmap.remove live n) heap'
   kept-forgotten live heap heap' n asks was is values elsewhere =
       let f = asks_here live n asks is in
       let values' : heap'.live ≡ finmap.remove heap.live f.0.asks.seat.0 = rw f.2 values in
       seated-without live heap was n f.0 f.1 heap' values'
-      (λ k ne. elsewhere k (λ same. ne (same ∙ ap (λ (a : Timed). a.seat.0) (sym f.2))))
+      (λ k ne. elsewhere k (λ same. ne (same ∙ ap (λ (a : Deadline). a.seat.0) (sym f.2))))
 
-  abbrev fresh : ℕ → ℕ → Future Timed W
+  abbrev fresh : ℕ → ℕ → LiveFuture Deadline W
   fresh expiry seat = record { asks = record { expiry = expiry; seat = record { 0 = seat } }; phase = Fresh }
 
-  none_here : (o : Option (Future Timed W)) → phase_in o ≡ None → o ≡ None
+  none_here : (o : Option (LiveFuture Deadline W)) → phase_in o ≡ None → o ≡ None
   none_here None h = refl
   none_here (Some f) h = absurd (none-some f.phase (sym h))
 
   -- a future is made: its seat was claimed, and then got its name
-  pub kept-made : (live : finmap.FinMap nat_cmp (Future Timed W)) (heap mid heap' : HeapModel Due) (n expiry seat : ℕ) (claimed : Due) →
+  pub kept-made : (live : finmap.FinMap nat_cmp (LiveFuture Deadline W)) (heap mid heap' : HeapModel Due) (n expiry seat : ℕ)
+      (claimed : Due) →
       AreSeated live heap → phase_in (finmap.get live n) ≡ None → value_under heap seat ≡ None →
       mid ≡ with_values heap (finmap.insert heap.live seat claimed) → set.contains mid.members seat ≡ false → heap' ≡
       with_values mid (finmap.insert mid.live seat (due_of (fresh expiry seat) n)) →
@@ -303,7 +313,8 @@ module _ {W : Type 0} where
       members (ap (λ (h : HeapModel Due). set.contains h.members seat) (sym is) ∙ apart)
 
   -- a seat that was claimed and ended again
-  pub kept-refused : (live after : finmap.FinMap nat_cmp (Future Timed W)) (heap mid heap' : HeapModel Due) (seat : ℕ) (claimed : Due) →
+  pub kept-refused : (live after : finmap.FinMap nat_cmp (LiveFuture Deadline W)) (heap mid heap' : HeapModel Due) (seat : ℕ)
+      (claimed : Due) →
       AreSeated live heap → after ≡ live → value_under heap seat ≡ None →
       mid ≡ with_values heap (finmap.insert heap.live seat claimed) → heap' ≡ with_values mid (finmap.remove mid.live seat) →
       AreSeated after heap'
@@ -319,15 +330,15 @@ module _ {W : Type 0} where
       rw (same, whole) was
 
   -- what a caller sees after each change
-  module _ (w : Waiting Timed W) (n : ℕ) where
+  module _ (w : Waiting Deadline W) (n : ℕ) where
     pub lives_inside : IsSome (finmap.get (unseated_all w.side.live) n) → IsSome (finmap.get w.side.live n)
     lives_inside lives = each (finmap.get w.side.live n) (sym (ap is_some (get-unseated w.side.live n)) ∙ lives)
       where
-        each : (o : Option (Future Timed W)) → IsSome (unseated_in o) → IsSome o
+        each : (o : Option (LiveFuture Deadline W)) → IsSome (unseated_in o) → IsSome o
         each None h = h
         each (Some f) h = refl
 
-    pub seen-phase : (w' : Waiting Timed W) (phase : Phase W) → w' ≡
+    pub seen-phase : (w' : Waiting Deadline W) (phase : Phase W) → w' ≡
         record w { side = record w.side { live = with_phase w.side.live n phase } } →
         deadlines_of w' ≡ record (deadlines_of w) {
           side = record (deadlines_of w).side {
@@ -341,7 +352,7 @@ module _ {W : Type 0} where
           w.out;
     })
 
-    pub seen-told : (w' : Waiting Timed W) → w' ≡ record {
+    pub seen-told : (w' : Waiting Deadline W) → w' ≡ record {
       side = record w.side { live = with_phase w.side.live n Told };
       out =
           w.out ++ pair w.side n;
@@ -352,7 +363,7 @@ module _ {W : Type 0} where
           w.out ++ pair_of n (sym (phase-unseated w.side.live n) i);
     })
 
-    pub seen-made : (w' : Waiting Timed W) (asks : Timed) → w' ≡ record w { side = insert_fresh w.side n asks } → deadlines_of w' ≡
+    pub seen-made : (w' : Waiting Deadline W) (asks : Deadline) → w' ≡ record w { side = insert_fresh w.side n asks } → deadlines_of w' ≡
         record (deadlines_of w) { side = insert_fresh (deadlines_of w).side n asks.expiry }
     seen-made w' asks is = rw is (λ i. record {
       side =
@@ -360,7 +371,7 @@ module _ {W : Type 0} where
       out = w.out;
     })
 
-    pub seen-forgotten : (w' : Waiting Timed W) → w' ≡ record { side = without_future w.side n; out = without_pair n w.out } →
+    pub seen-forgotten : (w' : Waiting Deadline W) → w' ≡ record { side = without_future w.side n; out = without_pair n w.out } →
         deadlines_of w' ≡ record { side = without_future (deadlines_of w).side n; out = without_pair n w.out }
     seen-forgotten w' is = rw is (λ i. record {
       side = record { live = unseated-remove w.side.live n i; queue = [] };

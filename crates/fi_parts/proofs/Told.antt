@@ -9,7 +9,7 @@ use Rattle.std.specs.Cmp.{nat_cmp_total}
 use Rattle.std.specs.FinMap as map
 use Rattle.fi_parts.specs.declared.phase.Phase.{Phase}
 use Rattle.fi_parts.specs.declared.phase.Phase.TheVariants.{Fresh, Registered, Told, Complete, Ended}
-use Rattle.fi_parts.specs.declared.phase.Future.{Future}
+use Rattle.fi_parts.specs.declared.phase.LiveFuture.{LiveFuture}
 use Rattle.fi_parts.specs.Order.{holds, Apart, without}
 use Rattle.fi_parts.specs.Pairs.{has}
 use Rattle.fi_parts.specs.Waiting.{Waiters, Waiting, IsLive, phase_in, phase_of, is_registered, is_queued, with_phase}
@@ -21,7 +21,7 @@ use Rattle.fi_parts.specs.PlaceRules.{IsPlaceRule, queued_rule}
 use Rattle.fi_parts.proofs.Waiting.{no_pair, phase-with_phases}
 
 module _ {D W : Type 0} where
-  named-push : (live : map.FinMap nat_cmp (Future D W)) (names : List ℕ) (n : ℕ) →
+  named-push : (live : map.FinMap nat_cmp (LiveFuture D W)) (names : List ℕ) (n : ℕ) →
       named live (names ++ n ∷ []) ≡ named live names ++ pair_of n (phase_in (map.get live n))
   unfolding named
   named-push live [] n = append-nil _
@@ -29,14 +29,14 @@ module _ {D W : Type 0} where
       ap (λ ps. pair_of x (phase_in (map.get live x)) ++ ps) (named-push live xs n)
       ∙ sym (append_assoc (pair_of x (phase_in (map.get live x))) (named live xs) _)
 
-  with_phases-push : (live : map.FinMap nat_cmp (Future D W)) (names : List ℕ) (n : ℕ) (phase : Phase W) →
+  with_phases-push : (live : map.FinMap nat_cmp (LiveFuture D W)) (names : List ℕ) (n : ℕ) (phase : Phase W) →
       with_phases live (names ++ n ∷ []) phase ≡ with_phase (with_phases live names phase) n phase
   unfolding with_phases
   with_phases-push live [] n phase = refl
   with_phases-push live (x ∷ xs) n phase = with_phases-push (with_phase live x phase) xs n phase
 
   -- nothing changes where it has this phase already
-  pub with_phase-same : (live : map.FinMap nat_cmp (Future D W)) (n : ℕ) (phase : Phase W) →
+  pub with_phase-same : (live : map.FinMap nat_cmp (LiveFuture D W)) (n : ℕ) (phase : Phase W) →
       phase_in (map.get live n) ≡ Some phase → with_phase live n phase ≡ live
   unfolding with_phase
   with_phase-same live n phase is = each (map.get live n) refl is
@@ -44,7 +44,7 @@ module _ {D W : Type 0} where
       some : (a b : Phase W) → ◌≡◌ {A = Option (Phase W)} (Some a) (Some b) → b ≡ a
       some a b e = cc
 
-      each : (o : Option (Future D W)) → map.get live n ≡ o → phase_in o ≡ Some phase → rephased live n phase o ≡ live
+      each : (o : Option (LiveFuture D W)) → map.get live n ≡ o → phase_in o ≡ Some phase → rephased live n phase o ≡ live
       each None here stood = refl
       each (Some f) here stood = map.same_map nat_cmp_total map.nat_cmp-IsAntisymmetric _ _ (λ q. elim (cases_eq q n) [
         | inl same ↦ rw same
@@ -107,7 +107,7 @@ module _ {D W : Type 0} where
   pub live_if_waits : (side : Waiters D W) (name : ℕ) → is_queued true (phase_of side name) ≡ true → IsLive side name
   live_if_waits side name waits = each (map.get side.live name) waits
     where
-      each : (o : Option (Future D W)) → is_queued true (phase_in o) ≡ true → IsSome o
+      each : (o : Option (LiveFuture D W)) → is_queued true (phase_in o) ≡ true → IsSome o
       each None r = r
       each (Some f) r = refl
 

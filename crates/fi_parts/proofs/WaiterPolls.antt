@@ -4,7 +4,7 @@ use Rattle.std.proofs.lemmas.Bool.{false≢true}
 use Rattle.std.specs.Option.{IsSome}
 use Rattle.std.specs.FinMap as map
 use Rattle.futures.specs.declared.task.Poll.TheVariants.{Pending}
-use Rattle.fi_parts.specs.declared.phase.Future.{Future}
+use Rattle.fi_parts.specs.declared.phase.LiveFuture.{LiveFuture}
 use Rattle.fi_parts.specs.declared.phase.Phase.{Phase}
 use Rattle.fi_parts.specs.declared.phase.Phase.TheVariants.{Fresh, Registered, Told, Complete, Ended}
 use Rattle.fi_parts.specs.declared.phase.PollStep.TheVariants.{Stays, Joins}
@@ -45,7 +45,7 @@ module _ {D W : Type 0} where
       IsSome (map.get (with_phase side.live name phase) name)
   rephased_lives side name phase lives = each (map.get side.live name) refl lives
     where
-      each : (o : Option (Future D W)) → map.get side.live name ≡ o → IsSome o →
+      each : (o : Option (LiveFuture D W)) → map.get side.live name ≡ o → IsSome o →
           IsSome (map.get (with_phase side.live name phase) name)
       each None is lives = absurd (false≢true lives)
       each (Some f) is lives = rw (get-with_phase side.live name phase f is) refl

@@ -9,7 +9,7 @@ use Rattle.std.specs.Ordering.{nat_cmp}
 use Rattle.std.specs.FinMap as map
 use Rattle.fi_parts.specs.declared.phase.Phase.{Phase}
 use Rattle.fi_parts.specs.declared.phase.Phase.TheVariants.{Fresh, Registered, Told, Complete, Ended}
-use Rattle.fi_parts.specs.declared.phase.Future.{Future}
+use Rattle.fi_parts.specs.declared.phase.LiveFuture.{LiveFuture}
 use Rattle.fi_parts.specs.declared.phase.Notice.{Notice}
 use Rattle.fi_parts.specs.declared.phase.Notice.TheVariants.{Tell, Renew}
 use Rattle.fi_parts.specs.Noticed.{phase_after}
@@ -27,7 +27,7 @@ use Rattle.fi_parts.proofs.Pairs.{has-without, PairsApart-without, PairsApart-pu
 use Rattle.fi_parts.proofs.Slots.{eqb_same}
 
 abbrev Map : Type 0 → Type 0 → Type 0
-Map D W = map.FinMap nat_cmp (Future D W)
+Map D W = map.FinMap nat_cmp (LiveFuture D W)
 
 module _ {W : Type 0} where
   registered_is : (p : Option (Phase W)) → is_registered p ≡ true → (waker : W) × (p ≡ Some (Registered waker))
@@ -53,32 +53,32 @@ notices W Tell = refl
 notices W Renew = refl
 
 module _ {D W : Type 0} where
-  pub get-with_phase : (live : map.FinMap nat_cmp (Future D W)) (name : ℕ) (phase : Phase W) (f : Future D W) →
+  pub get-with_phase : (live : map.FinMap nat_cmp (LiveFuture D W)) (name : ℕ) (phase : Phase W) (f : LiveFuture D W) →
       map.get live name ≡ Some f → map.get (with_phase live name phase) name ≡ Some (record f { phase = phase })
   unfolding with_phase
   get-with_phase live name phase f is =
       ap (λ o. map.get (rephased live name phase o) name) is ∙ get-insert_same live name (record f { phase = phase })
 
-  pub get-with_phase_other : (live : map.FinMap nat_cmp (Future D W)) (name : ℕ) (phase : Phase W) (q : ℕ) → q ≢ name →
+  pub get-with_phase_other : (live : map.FinMap nat_cmp (LiveFuture D W)) (name : ℕ) (phase : Phase W) (q : ℕ) → q ≢ name →
       map.get (with_phase live name phase) q ≡ map.get live q
   unfolding with_phase
   get-with_phase_other live name phase q ne = each (map.get live name)
     where
-      each : (o : Option (Future D W)) → map.get (rephased live name phase o) q ≡ map.get live q
+      each : (o : Option (LiveFuture D W)) → map.get (rephased live name phase o) q ≡ map.get live q
       each None = refl
       each (Some f) = get-insert_other live name (record f { phase = phase }) q ne
 
   -- how a live name stands after a change
-  pub phase-with_phase : (live : map.FinMap nat_cmp (Future D W)) (name : ℕ) (phase : Phase W) →
+  pub phase-with_phase : (live : map.FinMap nat_cmp (LiveFuture D W)) (name : ℕ) (phase : Phase W) →
       IsSome (map.get live name) → phase_in (map.get (with_phase live name phase) name) ≡ Some phase
   phase-with_phase live name phase lives = each (map.get live name) refl
     where
-      each : (o : Option (Future D W)) → map.get live name ≡ o →
+      each : (o : Option (LiveFuture D W)) → map.get live name ≡ o →
           phase_in (map.get (with_phase live name phase) name) ≡ Some phase
       each None is = absurd (both_ways _ (ap is_some is) lives)
       each (Some f) is = ap phase_in (get-with_phase live name phase f is)
 
-  pub phase-with_phase_other : (live : map.FinMap nat_cmp (Future D W)) (name : ℕ) (phase : Phase W) (q : ℕ) →
+  pub phase-with_phase_other : (live : map.FinMap nat_cmp (LiveFuture D W)) (name : ℕ) (phase : Phase W) (q : ℕ) →
       q ≢ name → phase_in (map.get (with_phase live name phase) q) ≡ phase_in (map.get live q)
   phase-with_phase_other live name phase q ne = ap phase_in (get-with_phase_other live name phase q ne)
 
@@ -86,7 +86,7 @@ module _ {D W : Type 0} where
   pub live_if_registered : (side : Waiters D W) (name : ℕ) → is_registered (phase_of side name) ≡ true → IsLive side name
   live_if_registered side name is = each (map.get side.live name) is
     where
-      each : (o : Option (Future D W)) → is_registered (phase_in o) ≡ true → IsSome o
+      each : (o : Option (LiveFuture D W)) → is_registered (phase_in o) ≡ true → IsSome o
       each None r = r
       each (Some f) r = refl
 
@@ -101,7 +101,7 @@ module _ {D W : Type 0} (place : Option (Phase W) → Bool) (rule : IsPlaceRule 
   pub live_if_placed : (side : Waiters D W) (name : ℕ) → place (phase_of side name) ≡ true → IsLive side name
   live_if_placed side name is = each (map.get side.live name) is
     where
-      each : (o : Option (Future D W)) → place (phase_in o) ≡ true → IsSome o
+      each : (o : Option (LiveFuture D W)) → place (phase_in o) ≡ true → IsSome o
       each None r = absurd (both_ways _ rule.none r)
       each (Some f) r = refl
 
@@ -140,7 +140,7 @@ module _ {D W : Type 0} (place : Option (Phase W) → Bool) (rule : IsPlaceRule 
   pub ordered-made : (side : Waiters D W) (out : List (ℕ × W)) (name : ℕ) (asks : D) → IsOrderedBy place side out →
       phase_of side name ≡ None → IsOrderedBy place (insert_fresh side name asks) out
   ordered-made side out name asks was free =
-      let f : Future D W = record { asks = asks; phase = Fresh } in
+      let f : LiveFuture D W = record { asks = asks; phase = Fresh } in
       let now : phase_of (insert_fresh side name asks) name ≡ Some Fresh = ap phase_in (get-insert_same side.live name f) in
       ordered_by side (insert_fresh side name asks) out out name was
       (λ q ne. ap phase_in (get-insert_other side.live name f q ne)) (λ q ne. refl) (λ q ne at. at)
@@ -276,7 +276,7 @@ module _ {D W : Type 0} where
       (no_pair is_registered registered_rule side out name was registered_now))
 
   -- the pairs of other names are the same
-  pub named-other : (live : map.FinMap nat_cmp (Future D W)) (n : ℕ) (phase : Phase W) (names : List ℕ) →
+  pub named-other : (live : map.FinMap nat_cmp (LiveFuture D W)) (n : ℕ) (phase : Phase W) (names : List ℕ) →
       holds n names ≡ false → named (with_phase live n phase) names ≡ named live names
   unfolding named
   named-other live n phase [] off = refl
@@ -319,7 +319,7 @@ module _ {D W : Type 0} where
   pub lives_as : (side : Waiters D W) (name : ℕ) (phase : Phase W) → phase_of side name ≡ Some phase → IsLive side name
   lives_as side name phase is = each (map.get side.live name) is
     where
-      each : (o : Option (Future D W)) → phase_in o ≡ Some phase → IsSome o
+      each : (o : Option (LiveFuture D W)) → phase_in o ≡ Some phase → IsSome o
       each None e = cc
       each (Some f) e = refl
 
@@ -398,7 +398,7 @@ module _ {D W : Type 0} where
   }
 
   -- the others of the queue are not this one, and those named stand so
-  pub phase-with_phases : (phase : Phase W) (names : List ℕ) (live : map.FinMap nat_cmp (Future D W)) (q : ℕ) →
+  pub phase-with_phases : (phase : Phase W) (names : List ℕ) (live : map.FinMap nat_cmp (LiveFuture D W)) (q : ℕ) →
       holds q names ≡ false → phase_in (map.get (with_phases live names phase) q) ≡ phase_in (map.get live q)
   unfolding with_phases
   phase-with_phases phase [] live q off = refl
@@ -407,7 +407,7 @@ module _ {D W : Type 0} where
       phase-with_phases phase names (with_phase live n phase) q parts.1
       ∙ phase-with_phase_other live n phase q (λ e. both_ways _ parts.0 (eq-eqb q n e))
 
-  pub phase-held : (phase : Phase W) (names : List ℕ) (live : map.FinMap nat_cmp (Future D W)) (q : ℕ) →
+  pub phase-held : (phase : Phase W) (names : List ℕ) (live : map.FinMap nat_cmp (LiveFuture D W)) (q : ℕ) →
       ((n : ℕ) → holds n names ≡ true → IsSome (map.get live n)) → Apart names → holds q names ≡ true →
       phase_in (map.get (with_phases live names phase) q) ≡ Some phase
   unfolding with_phases
@@ -422,7 +422,7 @@ module _ {D W : Type 0} where
             (elim (or_cases (eqb q n) (holds q names) at) [ inl e ↦ absurd (ne (eqb-true q n e)) | inr r ↦ r ])
       ]
     where
-      lives_still : (l : map.FinMap nat_cmp (Future D W)) (n m : ℕ) → IsSome (map.get l m) →
+      lives_still : (l : map.FinMap nat_cmp (LiveFuture D W)) (n m : ℕ) → IsSome (map.get l m) →
           IsSome (map.get (with_phase l n phase) m)
       lives_still l n m h = elim (cases_eq m n) [
         | inl same ↦ rw same
@@ -444,12 +444,12 @@ module _ {D W : Type 0} where
   ]
 
   -- what a name asks for stays the same, whatever its phase is
-  pub asks-with_phase : (live : map.FinMap nat_cmp (Future D W)) (name : ℕ) (phase : Phase W) (q : ℕ) →
+  pub asks-with_phase : (live : map.FinMap nat_cmp (LiveFuture D W)) (name : ℕ) (phase : Phase W) (q : ℕ) →
       asks_in (map.get (with_phase live name phase) q) ≡ asks_in (map.get live q)
   unfolding with_phase
   asks-with_phase live name phase q = each (map.get live name) refl
     where
-      each : (o : Option (Future D W)) → map.get live name ≡ o →
+      each : (o : Option (LiveFuture D W)) → map.get live name ≡ o →
           asks_in (map.get (rephased live name phase o) q) ≡ asks_in (map.get live q)
       each None is = refl
       each (Some f) is = elim (cases_eq q name) [
@@ -457,7 +457,7 @@ module _ {D W : Type 0} where
         | inr ne ↦ ap asks_in (get-insert_other live name (record f { phase = phase }) q ne)
       ]
 
-  pub asks-with_phases : (phase : Phase W) (names : List ℕ) (live : map.FinMap nat_cmp (Future D W)) (q : ℕ) →
+  pub asks-with_phases : (phase : Phase W) (names : List ℕ) (live : map.FinMap nat_cmp (LiveFuture D W)) (q : ℕ) →
       asks_in (map.get (with_phases live names phase) q) ≡ asks_in (map.get live q)
   unfolding with_phases
   asks-with_phases phase [] live q = refl

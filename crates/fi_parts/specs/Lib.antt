@@ -26,9 +26,10 @@ pub mod NamedPairs
 pub mod OutboxList
 pub mod Waiting
 pub mod Places
+pub mod Stages
 pub mod Noticed
 pub mod Codes
-pub mod LineModel
+pub mod WaitQueueModel
 pub mod Tied
 pub mod Oldest
 pub mod Buffer
@@ -49,5 +50,5 @@ pub mod Deadlines
 pub mod Seats
 pub mod Polled
 pub mod WaiterPolls
-pub mod LinePolls
+pub mod WaitQueuePolls
 pub mod Stays

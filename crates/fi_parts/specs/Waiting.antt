@@ -7,11 +7,11 @@ use Rattle.fi_parts.specs.Order.{without}
 use Rattle.fi_parts.specs.Pairs.{has, waker_of, PairsApart}
 use Rattle.fi_parts.specs.declared.phase.Phase.{Phase}
 use Rattle.fi_parts.specs.declared.phase.Phase.TheVariants.{Fresh, Registered, Told, Ended}
-use Rattle.fi_parts.specs.declared.phase.Future.{Future}
+use Rattle.fi_parts.specs.declared.phase.LiveFuture.{LiveFuture}
 
 -- The live futures of one store by name, and the queue: the names of those with a place in it, oldest first.
 pub record Waiters (D W : Type 0) : Type 0 where
-  pub live : map.FinMap nat_cmp (Future D W)
+  pub live : map.FinMap nat_cmp (LiveFuture D W)
   pub queue : List ℕ
 
 -- Futures, and the names to be woken with their wakers, oldest first.
@@ -54,7 +54,7 @@ module _ {W : Type 0} where
   may_be_named (Some phase) = true
 
 module _ {D W : Type 0} where
-  abbrev pub phase_in : Option (Future D W) → Option (Phase W)
+  abbrev pub phase_in : Option (LiveFuture D W) → Option (Phase W)
   phase_in None = None
   phase_in (Some future) = Some future.phase
 
@@ -62,7 +62,7 @@ module _ {D W : Type 0} where
   abbrev pub phase_of : Waiters D W → ℕ → Option (Phase W)
   phase_of side name = phase_in (map.get side.live name)
 
-  abbrev pub asks_in : Option (Future D W) → Option D
+  abbrev pub asks_in : Option (LiveFuture D W) → Option D
   asks_in None = None
   asks_in (Some future) = Some future.asks
 
@@ -73,22 +73,22 @@ module _ {D W : Type 0} where
   abbrev pub IsLive : Waiters D W → ℕ → Type 0
   IsLive side name = IsSome (map.get side.live name)
 
-  abbrev pub rephased : map.FinMap nat_cmp (Future D W) → ℕ → Phase W → Option (Future D W) →
-      map.FinMap nat_cmp (Future D W)
+  abbrev pub rephased : map.FinMap nat_cmp (LiveFuture D W) → ℕ → Phase W → Option (LiveFuture D W) →
+      map.FinMap nat_cmp (LiveFuture D W)
   rephased live name phase None = live
   rephased live name phase (Some future) = map.insert live name (record future { phase = phase })
 
   -- the live futures, this one with that phase
-  unfoldable pub with_phase : map.FinMap nat_cmp (Future D W) → ℕ → Phase W → map.FinMap nat_cmp (Future D W)
+  unfoldable pub with_phase : map.FinMap nat_cmp (LiveFuture D W) → ℕ → Phase W → map.FinMap nat_cmp (LiveFuture D W)
   with_phase live name phase = rephased live name phase (map.get live name)
 
-  abbrev pub with_asks_in : map.FinMap nat_cmp (Future D W) → ℕ → D → Option (Future D W) →
-      map.FinMap nat_cmp (Future D W)
+  abbrev pub with_asks_in : map.FinMap nat_cmp (LiveFuture D W) → ℕ → D → Option (LiveFuture D W) →
+      map.FinMap nat_cmp (LiveFuture D W)
   with_asks_in live name asks None = live
   with_asks_in live name asks (Some future) = map.insert live name (record future { asks = asks })
 
   -- the live futures, this one asking for that
-  unfoldable pub with_asks : map.FinMap nat_cmp (Future D W) → ℕ → D → map.FinMap nat_cmp (Future D W)
+  unfoldable pub with_asks : map.FinMap nat_cmp (LiveFuture D W) → ℕ → D → map.FinMap nat_cmp (LiveFuture D W)
   with_asks live name asks = with_asks_in live name asks (map.get live name)
 
   -- this one asks for that
@@ -126,7 +126,7 @@ module _ {D W : Type 0} where
   noticed phase side name others = record { live = with_phase side.live name phase; queue = others }
 
   -- the live futures, each of these with that phase
-  unfoldable pub with_phases : map.FinMap nat_cmp (Future D W) → List ℕ → Phase W → map.FinMap nat_cmp (Future D W)
+  unfoldable pub with_phases : map.FinMap nat_cmp (LiveFuture D W) → List ℕ → Phase W → map.FinMap nat_cmp (LiveFuture D W)
   with_phases live [] phase = live
   with_phases live (name ∷ names) phase = with_phases (with_phase live name phase) names phase
 
@@ -139,7 +139,7 @@ module _ {D W : Type 0} where
   pair side name = pair_of name (phase_of side name)
 
   -- the pairs of these names, in order
-  unfoldable pub named : map.FinMap nat_cmp (Future D W) → List ℕ → List (ℕ × W)
+  unfoldable pub named : map.FinMap nat_cmp (LiveFuture D W) → List ℕ → List (ℕ × W)
   named live [] = []
   named live (name ∷ names) = pair_of name (phase_in (map.get live name)) ++ named live names
 

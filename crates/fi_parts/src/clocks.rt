@@ -6,7 +6,7 @@ ghost use Rattle.fi_parts.specs.Clocks.{whole_millis_in};
 use std::sync::Arc;
 use std::sync::atomic::{AtomicU64, Ordering};
 use std::time::{Duration, Instant};
-use std::{io, time};
+use std::{fmt, io, time};
 
 /// A source of the time for a timer.
 ///
@@ -57,6 +57,14 @@ pub struct MockClock {
     now: AtomicU64,
 }
 
+impl fmt::Debug for MockClock {
+    fn fmt<F: fmt::Write>(&self, f: &mut fmt::Formatter<F>) -> fmt::Result {
+        f.debug_struct("MockClock")
+            .field("now", &self.now())
+            .finish()
+    }
+}
+
 impl MockClock {
     /// A clock at 0 milliseconds.
     pub fn new() -> Self {
@@ -102,6 +110,12 @@ impl Clock for Arc<MockClock> {
 pub struct StdClock<H> {
     rt: H,
     start: Instant,
+}
+
+impl<H> fmt::Debug for StdClock<H> {
+    fn fmt<F: fmt::Write>(&self, f: &mut fmt::Formatter<F>) -> fmt::Result {
+        f.debug_struct("StdClock").finish()
+    }
 }
 
 impl<H: time::Clock + Drop> StdClock<H> {

@@ -10,19 +10,21 @@ ghost use Rattle.fi_parts.specs.Pairs.{waker_of, without_pair, oldest};
 ghost use Rattle.fi_parts.specs.Waiting.{phase_of, is_registered, waker_in, with_phase, no_futures};
 ghost use Rattle.fi_parts.specs.Waiting.{insert_fresh, stays, without_future, displaced, IsLive};
 ghost use Rattle.fi_parts.specs.Deadlines.{told_due, IsLeastDue, NoneDue, TellsExpired, NoneHasPair, IsNextExpiry, is_fresh};
+ghost use Rattle.fi_parts.specs.Stages.{stage_of};
 ghost use Rattle.fi_parts.specs.Seats.{unseated, deadlines_of, AreSeated, IsFirst};
 
 use crate::errors::Slot;
 use crate::heap::PairingHeap;
 use crate::memory::Refused;
-use crate::phase::{Future, Phase};
+use crate::phase::{LiveFuture, Phase, Stage};
 use crate::waits::Waits;
 use std::alloc::Global;
+use std::fmt;
 use std::marker::Model;
 
 /// What a future of a timer asks for: its expiry, and its seat in the heap, which was claimed when it was made.
 #[derive(Clone, Copy, Drop)]
-pub struct Timed {
+pub struct Deadline {
     pub expiry: u64,
     pub seat: Slot,
 }
@@ -40,8 +42,14 @@ pub struct Due {
 /// future's node in the heap without a search.
 #[derive(Drop)]
 pub struct Deadlines<W> {
-    waits: Waits<Timed, W>,
+    waits: Waits<Deadline, W>,
     heap: PairingHeap<Due>,
+}
+
+impl<W> fmt::Debug for Deadlines<W> {
+    fn fmt<F: fmt::Write>(&self, f: &mut fmt::Formatter<F>) -> fmt::Result {
+        f.debug_struct("Deadlines").finish()
+    }
 }
 
 impl<W> Model for Deadlines<W> {
@@ -94,7 +102,11 @@ fn first(heap: &PairingHeap<Due>) -> Option<(Slot, Due)>
 }
 
 // Tells the future with the least expiry, if that has come. False if no future was due.
-fn tell_first<W: Drop>(waits: &mut Waits<Timed, W>, heap: &mut PairingHeap<Due>, now: u64) -> bool
+fn tell_first<W: Drop>(
+    waits: &mut Waits<Deadline, W>,
+    heap: &mut PairingHeap<Due>,
+    now: u64,
+) -> bool
     requires seated { AreSeated waits.old.side.live heap.old }
     requires no_pair { NoneHasPair (deadlines_of waits.old) }
     ensures seated { AreSeated waits.new.side.live heap.new }
@@ -128,7 +140,7 @@ impl<W: Drop> Deadlines<W> {
     }
 
     /// A future, with its seat: it asks for its expiry, and has this phase. None where none lives under this name.
-    pub fn future(&self, slot: Slot) -> Option<&Future<Timed, W>>
+    pub fn future(&self, slot: Slot) -> Option<&LiveFuture<Deadline, W>>
         ensures { option_map unseated (option_copied result) ≡ map.get self.now.side.live slot.0 }
     {
         self.waits.future(slot)
@@ -139,6 +151,16 @@ impl<W: Drop> Deadlines<W> {
         ensures { option_copied result ≡ phase_of self.now.side slot.0 }
     {
         self.waits.phase(slot)
+    }
+
+    /// How far a name is; None where no future lives under it.
+    pub fn stage(&self, slot: Slot) -> Option<Stage>
+        ensures { result ≡ option_map stage_of (phase_of self.now.side slot.0) }
+    {
+        match self.phase(slot) {
+            Some(phase) => Some(phase.stage()),
+            None => None,
+        }
     }
 
     /// Returns `true` if a live future has this name and is fresh.
@@ -161,7 +183,7 @@ impl<W: Drop> Deadlines<W> {
             Ok(seat) => seat,
             Err(failed) => return Err(failed.into_parts().1),
         };
-        match self.waits.insert(Timed { expiry, seat }) {
+        match self.waits.insert(Deadline { expiry, seat }) {
             Ok(slot) => {
                 let name = slot.0;
                 name_seat(&mut self.heap, seat, Due { expiry, name });

@@ -9,6 +9,7 @@ ghost use Rattle.fi_parts.specs.HeapModel.{HeapModel, value_under, IsLiveIn, wit
 use crate::errors::{NoRoom, Slot};
 use crate::heap_nodes::HeapNodes;
 use std::alloc::Global;
+use std::fmt;
 use std::marker::Model;
 
 /// A priority queue of slots, the least value first.
@@ -38,6 +39,12 @@ use std::marker::Model;
 #[derive(Drop)]
 pub struct PairingHeap<T: Ord> {
     nodes: HeapNodes<T>,
+}
+
+impl<T: Ord> fmt::Debug for PairingHeap<T> {
+    fn fmt<F: fmt::Write>(&self, f: &mut fmt::Formatter<F>) -> fmt::Result {
+        f.debug_struct("PairingHeap").finish()
+    }
 }
 
 impl<T: Ord> Model for PairingHeap<T> {

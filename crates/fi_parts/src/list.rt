@@ -13,6 +13,7 @@ use crate::blocks::Blocks;
 use crate::drain::{Drain, ReverseDrain};
 use crate::errors::{NoRoom, Slot};
 use std::alloc::Global;
+use std::fmt;
 use std::marker::Model;
 
 /// A doubly linked list with its own store of blocks, named by slots.
@@ -35,6 +36,12 @@ use std::marker::Model;
 #[derive(Drop)]
 pub struct LinkedList<T> {
     blocks: Blocks<T>,
+}
+
+impl<T> fmt::Debug for LinkedList<T> {
+    fn fmt<F: fmt::Write>(&self, f: &mut fmt::Formatter<F>) -> fmt::Result {
+        f.debug_struct("LinkedList").finish()
+    }
 }
 
 impl<T> Model for LinkedList<T> {

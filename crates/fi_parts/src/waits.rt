@@ -1,29 +1,40 @@
 //! Futures that wait in a queue, and the wakers that are named to be woken.
 ghost use Rattle.std.specs.Prelude.{◌≡◌, ℕ, ◌++◌, ◌∷◌, List, [], Some, None, true, false, Option};
 ghost use Rattle.std.specs.Prelude.{IfOk, OnErr, IfErr, IfSome, IfNone, OnSome, MatchOption, is_some, length, drop, option_copied};
+ghost use Rattle.std.specs.Prelude.{OnOk};
+ghost use Rattle.std.specs.Option.{option_map};
 ghost use Rattle.std.specs.FinMap as map;
 ghost use Rattle.fi_parts.specs.Order.{holds, without};
 ghost use Rattle.fi_parts.specs.Pairs.{has, waker_of, without_pair, oldest};
 ghost use Rattle.fi_parts.specs.Noticed.{phase_after};
 ghost use Rattle.fi_parts.specs.Polled.{unused_after, can_be_polled};
+ghost use Rattle.fi_parts.specs.Stages.{stage_of, AppendsQueue};
 ghost use Rattle.fi_parts.specs.WaiterPolls.{PollsWaiter};
 ghost use Rattle.fi_parts.specs.Waiting.{with_phase, exchange, phase_of, IsLive, IsOrdered, IsOrderedBy, is_queued};
 ghost use Rattle.fi_parts.specs.Waiting.{told_one, is_registered, no_futures, insert_fresh, registered, without_future};
 ghost use Rattle.fi_parts.specs.Waiting.{pair, asks_of, waker_in, notify_all, displaced};
 
 use crate::errors::{NoRoom, Slot};
-use crate::line::{Line, last_waker, release, waker_from};
+use crate::memory::Refused;
 use crate::outbox::Outbox;
-use crate::phase::{Future, Leftover, Notice, Phase, PollStep};
+use crate::phase::{Leftover, LiveFuture, Notice, Phase, PollStep, Stage};
+use crate::wait_queue::{WaitQueue, last_waker, release, waker_from};
 use futures::task::Poll;
 use std::alloc::Global;
+use std::fmt;
 use std::marker::Model;
 
 /// Futures by slot, the queue of those with a place in it, and the wakers to be woken.
 #[derive(Drop)]
 pub struct Waits<D, W> {
-    line: Line<D, W>,
+    wait_queue: WaitQueue<D, W>,
     outbox: Outbox<(usize, W)>,
+}
+
+impl<D, W> fmt::Debug for Waits<D, W> {
+    fn fmt<F: fmt::Write>(&self, f: &mut fmt::Formatter<F>) -> fmt::Result {
+        f.debug_struct("Waits").finish()
+    }
 }
 
 impl<D, W> Model for Waits<D, W> {
@@ -35,9 +46,9 @@ impl<D, W> Model for Waits<D, W> {
 
     ghost coded = { waiting_code D.code W.code };
 
-    ghost view = { λ s. waiting_of s.line s.outbox };
+    ghost view = { λ s. waiting_of s.wait_queue s.outbox };
 
-    ghost invariant = { λ s. AreTied s.line s.outbox };
+    ghost invariant = { λ s. AreTied s.wait_queue s.outbox };
 }
 
 impl<D: Drop, W: Drop> Waits<D, W> {
@@ -46,30 +57,37 @@ impl<D: Drop, W: Drop> Waits<D, W> {
         ensures { result ≡ record { side = no_futures; out = [] } }
     {
         Waits {
-            line: Line::new(alloc),
+            wait_queue: WaitQueue::new(alloc),
             outbox: Outbox::new(alloc),
         }
     }
 
     /// A future: what it asks for, and its phase; None where none lives under this name.
-    pub fn future(&self, slot: Slot) -> Option<&Future<D, W>>
+    pub fn future(&self, slot: Slot) -> Option<&LiveFuture<D, W>>
         ensures { option_copied result ≡ map.get self.now.side.live slot.0 }
     {
-        self.line.future(slot)
+        self.wait_queue.future(slot)
     }
 
     /// The phase of a future; None where none lives under this name.
     pub fn phase(&self, slot: Slot) -> Option<&Phase<W>>
         ensures { option_copied result ≡ phase_of self.now.side slot.0 }
     {
-        self.line.phase(slot)
+        self.wait_queue.phase(slot)
+    }
+
+    /// How far a future is; None where none lives under this name.
+    pub fn stage(&self, slot: Slot) -> Option<Stage>
+        ensures { result ≡ option_map stage_of (phase_of self.now.side slot.0) }
+    {
+        self.wait_queue.stage(slot)
     }
 
     /// What a name asks for; None where no future lives under it.
     pub fn asks(&self, slot: Slot) -> Option<&D>
         ensures { option_copied result ≡ asks_of self.now.side slot.0 }
     {
-        self.line.asks(slot)
+        self.wait_queue.asks(slot)
     }
 
     /// Makes a fresh future under a name that was not live.
@@ -82,7 +100,7 @@ impl<D: Drop, W: Drop> Waits<D, W> {
         ensures refused { OnErr result (self.new ≡ self.old) }
         ensures handed_back { IfErr result (λ failed. failed.0 ≡ asks) }
     {
-        let back = match self.line.insert(&mut self.outbox, asks) {
+        let back = match self.wait_queue.insert(&mut self.outbox, asks) {
             Ok(slot) => return Ok(slot),
             Err(back) => back,
         };
@@ -100,7 +118,7 @@ impl<D: Drop, W: Drop> Waits<D, W> {
         if self.outbox.len() == 0 {
             return None;
         }
-        let ticket = self.line.ticket(slot);
+        let ticket = self.wait_queue.ticket(slot);
         waker_from(self.outbox.take_out(ticket))
     }
 
@@ -125,7 +143,7 @@ impl<D: Drop, W: Drop> Waits<D, W> {
         ensures refused { OnErr result ((can_be_polled (phase_of self.old.side slot.0) ≡ false) × (self.new ≡ self.old)) }
         ensures handed_back { IfErr result (λ back. back ≡ waker) }
     {
-        match self.line.poll(slot, waker, ends) {
+        match self.wait_queue.poll(slot, waker, ends) {
             Ok(PollStep::Stays(before)) => Ok((Poll::Pending, Leftover::of(Some(before), None))),
             Ok(PollStep::Joins) => Ok((Poll::Pending, Leftover::of(self.take_out(slot), None))),
             Ok(PollStep::Ends(waker)) => Ok((
@@ -143,7 +161,7 @@ impl<D: Drop, W: Drop> Waits<D, W> {
         requires apart { holds slot.0 self.old.side.queue ≡ false }
         ensures { self.new ≡ record self.old { side = registered self.old.side slot.0 waker } }
     {
-        self.line.register(slot, waker);
+        self.wait_queue.register(slot, waker);
     }
 
     /// Sets the phase of a live future; its place in the queue stays. Gives the waker that it was registered with.
@@ -153,7 +171,7 @@ impl<D: Drop, W: Drop> Waits<D, W> {
         ensures waker { MatchOption (phase_of self.old.side slot.0) ⊥ (λ before. result ≡ waker_in before) }
         ensures rest { self.new ≡ record self.old { side = record self.old.side { live = with_phase self.old.side.live slot.0 phase } } }
     {
-        self.line.set_phase(slot, phase)
+        self.wait_queue.set_phase(slot, phase)
     }
 
     /// Sets what a live future asks for, and returns what it asked for.
@@ -162,7 +180,7 @@ impl<D: Drop, W: Drop> Waits<D, W> {
         ensures asked { asks_of self.old.side slot.0 ≡ Some result }
         ensures rest { self.new ≡ record self.old { side = exchange self.old.side slot.0 asks } }
     {
-        self.line.exchange(slot, asks)
+        self.wait_queue.exchange(slot, asks)
     }
 
     /// Takes a future out of the store, the queue and the outbox, and gives back what it asked for and the waker that it had.
@@ -177,20 +195,20 @@ impl<D: Drop, W: Drop> Waits<D, W> {
         ensures absent { IfNone result ((phase_of self.old.side slot.0 ≡ None) × (self.new ≡ self.old)) }
     {
         let (future, named) = self.remove_future(slot)?;
-        let Future { asks, phase } = future;
+        let LiveFuture { asks, phase } = future;
         Some((asks, last_waker(phase, named)))
     }
 
     /// Takes a future out of everything as `remove` does, and gives it back as it was, with the waker of its pair.
     #[inline(always)]
-    pub fn remove_future(&mut self, slot: Slot) -> Option<(Future<D, W>, Option<W>)>
+    pub fn remove_future(&mut self, slot: Slot) -> Option<(LiveFuture<D, W>, Option<W>)>
         ensures future { IfSome result (λ left. map.get self.old.side.live slot.0 ≡ Some left.0) }
         ensures waker { IfSome result (λ left. left.1 ≡ waker_of slot.0 self.old.out) }
         ensures removed { OnSome result
             (self.new ≡ record { side = without_future self.old.side slot.0; out = without_pair slot.0 self.old.out }) }
         ensures absent { IfNone result ((phase_of self.old.side slot.0 ≡ None) × (self.new ≡ self.old)) }
     {
-        let entry = match self.line.remove(slot) {
+        let entry = match self.wait_queue.remove(slot) {
             Some(entry) => entry,
             None => return None,
         };
@@ -204,7 +222,7 @@ impl<D: Drop, W: Drop> Waits<D, W> {
             (λ slot. (others : List ℕ) × (self.old.side.queue ≡ slot.0 ∷ others) ×
             (self.new ≡ record self.old { side = record self.old.side { queue = others } })) }
     {
-        let slot = self.line.leave_oldest()?;
+        let slot = self.wait_queue.leave_oldest()?;
         Some(slot)
     }
 
@@ -212,7 +230,7 @@ impl<D: Drop, W: Drop> Waits<D, W> {
     pub fn oldest(&self) -> Option<Slot>
         ensures { MatchOption result (self.now.side.queue ≡ []) (λ slot. (others : List ℕ) × (self.now.side.queue ≡ slot.0 ∷ others)) }
     {
-        self.line.oldest()
+        self.wait_queue.oldest()
     }
 
     /// The next younger future of the queue; None for the youngest.
@@ -222,7 +240,15 @@ impl<D: Drop, W: Drop> Waits<D, W> {
             MatchOption result (rest ≡ []) (λ next. (others : List ℕ) × (rest ≡ next.0 ∷ others)) }
         ensures same { self.new ≡ self.old }
     {
-        self.line.younger(slot)
+        self.wait_queue.younger(slot)
+    }
+
+    /// Appends the slots of the queue, the oldest first. Where there was no memory for all, a beginning was appended.
+    pub fn queue(&mut self, slots: &mut Vec<Slot>) -> Result<(), Refused>
+        ensures same { self.new ≡ self.old }
+        ensures appended { OnOk result (AppendsQueue self.old.side.queue slots.old.items slots.new.items) }
+    {
+        self.wait_queue.queue(slots)
     }
 
     /// Takes a future out of the queue, wherever its place is; it stays live. Does nothing if it isn't queued.
@@ -230,7 +256,7 @@ impl<D: Drop, W: Drop> Waits<D, W> {
     pub fn leave(&mut self, slot: Slot)
         ensures { self.new ≡ record self.old { side = record self.old.side { queue = without slot.0 self.old.side.queue } } }
     {
-        self.line.leave(slot);
+        self.wait_queue.leave(slot);
     }
 
     /// Gives a live future this phase, and names its waker if it was registered. Its place in the queue stays.
@@ -243,7 +269,7 @@ impl<D: Drop, W: Drop> Waits<D, W> {
           out = self.old.out ++ pair self.old.side slot.0;
         } }
     {
-        let (ticket, waker) = self.line.notice(slot, phase);
+        let (ticket, waker) = self.wait_queue.notice(slot, phase);
         if let Some(waker) = waker {
             self.outbox.name(ticket, (slot.0, waker));
         }

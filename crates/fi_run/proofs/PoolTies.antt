@@ -8,7 +8,7 @@ use Rattle.fi_channels.specs.ChannelWords.{Buffered, ChannelMachine, tells_oldes
 use Rattle.fi_channels.specs.TwoSidedEffects.{TakesTwoSided}
 use Rattle.fi_channels.specs.TwoSidesModel.{TwoSidesModel}
 use Rattle.fi_locks.specs.Semaphore.{Permits, SemaphoreMachine, GivesBack, TriesAcquire}
-use Rattle.fi_run.specs.declared.pool_state.Fields.{Fields}
+use Rattle.fi_run.specs.declared.pool_state.PoolFields.{PoolFields}
 use Rattle.fi_run.specs.Pool.{is_drained, SetsIf}
 use Rattle.fi_run.specs.PoolFields.{machine_of, AreTied, IsPool}
 use Rattle.fi_run.specs.PoolLaws.{open_is_not_drained, running_is_not_drained, waiting_is_not_drained, set_by}
@@ -16,11 +16,11 @@ use Rattle.fi_run.proofs.PoolIdle.{tells_nobody, took, shut, gave_back, acquired
 
 module _ {W : Type 0} where
   -- the channel was left as it was
-  pub same_jobs : (old : Fields W) (jobs : ChannelMachine ℕ W) → jobs ≡ old.jobs → IsPool old → IsPool (record old { jobs = jobs })
+  pub same_jobs : (old : PoolFields W) (jobs : ChannelMachine ℕ W) → jobs ≡ old.jobs → IsPool old → IsPool (record old { jobs = jobs })
   same_jobs old jobs same was = subst (λ (j : ChannelMachine ℕ W). IsPool (record old { jobs = j })) (sym same) was
 
   -- a job was accepted
-  pub accepts : (old : Fields W) (jobs : ChannelMachine ℕ W) (job : ℕ) → IsPool old → TriesSend old.jobs job (Ok tt) jobs →
+  pub accepts : (old : PoolFields W) (jobs : ChannelMachine ℕ W) (job : ℕ) → IsPool old → TriesSend old.jobs job (Ok tt) jobs →
       IsPool (record old { jobs = jobs; waiting = old.waiting + 1 })
   accepts old jobs job was did =
       let now : jobs.own ≡ did.2 = did.4.0 in
@@ -42,7 +42,7 @@ module _ {W : Type 0} where
       }
 
   -- a job was started
-  pub starts : (old : Fields W) (jobs : ChannelMachine ℕ W) (job : ℕ) (granting : Bool) (permits : SemaphoreMachine W) → IsPool old →
+  pub starts : (old : PoolFields W) (jobs : ChannelMachine ℕ W) (job : ℕ) (granting : Bool) (permits : SemaphoreMachine W) → IsPool old →
       1 ≤ old.permits.own.free → TriesReceive old.jobs (Ok job) jobs → TriesAcquire old.permits 1 granting permits →
       IsPool (record old { jobs = jobs; permits = permits; waiting = old.waiting - 1 })
   starts old jobs job granting permits was some did got =
@@ -66,7 +66,7 @@ module _ {W : Type 0} where
       }
 
   -- a permit was given back
-  pub returns : (old : Fields W) (permits : SemaphoreMachine W) → AreTied old → GivesBack old.permits 1 permits →
+  pub returns : (old : PoolFields W) (permits : SemaphoreMachine W) → AreTied old → GivesBack old.permits 1 permits →
       AreTied (record old { permits = permits })
   returns old permits was did =
       let back = gave_back old.permits permits was.no_acquires was.unfair did in
@@ -80,7 +80,7 @@ module _ {W : Type 0} where
       }
 
   -- the channel was closed
-  pub closes : (old : Fields W) (jobs : ChannelMachine ℕ W) → AreTied old → Closes old.jobs NewlyClosed jobs →
+  pub closes : (old : PoolFields W) (jobs : ChannelMachine ℕ W) → AreTied old → Closes old.jobs NewlyClosed jobs →
       AreTied (record old { jobs = jobs; is_open = false })
   closes old jobs was did =
       let now = shut old.jobs jobs was.no_sends did in
@@ -94,11 +94,11 @@ module _ {W : Type 0} where
       }
 
   -- the event was set if the pool is drained now
-  pub settles : (old new : Fields W) → AreTied old → old.drained.own ≡ false →
+  pub settles : (old new : PoolFields W) → AreTied old → old.drained.own ≡ false →
       SetsIf (is_drained (machine_of old)) old.drained new.drained → new ≡ record old { drained = new.drained } → IsPool new
   settles old new was reset did rest =
       let flag = set_by (is_drained (machine_of old)) old.drained new.drained reset did in
-      let after : Fields W = record old { drained = new.drained } in
+      let after : PoolFields W = record old { drained = new.drained } in
       let is : IsPool after = record {
         tied = record {
           no_sends = was.no_sends;
@@ -110,4 +110,4 @@ module _ {W : Type 0} where
         };
         set = flag;
       } in
-      subst (λ (fields : Fields W). IsPool fields) (sym rest) is
+      subst (λ (fields : PoolFields W). IsPool fields) (sym rest) is

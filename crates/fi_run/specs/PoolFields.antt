@@ -2,12 +2,12 @@
 use Rattle.std.specs.Prelude.{◌≡◌, ◌+◌, false, length}
 use Rattle.fi_parts.specs.Effects.{nobody}
 use Rattle.fi_channels.specs.TwoSidesModel.{no_waiters}
-use Rattle.fi_run.specs.declared.pool_state.Fields.{Fields}
+use Rattle.fi_run.specs.declared.pool_state.PoolFields.{PoolFields}
 use Rattle.fi_run.specs.Pool.{PoolMachine, is_drained}
 
 module _ {W : Type 0} where
   -- The jobs are the channel's. As many may run as there are permits, free and held, and as many run as are held.
-  abbrev pub machine_of : Fields W → PoolMachine W
+  abbrev pub machine_of : PoolFields W → PoolMachine W
   machine_of fields = record {
     jobs = fields.jobs.own;
     limit = fields.permits.own.free + fields.permits.own.held;
@@ -16,7 +16,7 @@ module _ {W : Type 0} where
   }
 
   -- Nobody waits at the channel or at the semaphore, which is unfair; what is kept beside them is what they have.
-  pub record AreTied (fields : Fields W) : Type 0 where
+  pub record AreTied (fields : PoolFields W) : Type 0 where
     pub no_sends : fields.jobs.waiting ≡ no_waiters
     pub no_acquires : fields.permits.waiting ≡ nobody
     pub unfair : fields.permits.own.is_fair ≡ false
@@ -25,6 +25,6 @@ module _ {W : Type 0} where
     pub capacity : fields.capacity ≡ fields.jobs.own.buffer.capacity
 
   -- They are tied, and the event is set exactly if the pool is drained.
-  pub record IsPool (fields : Fields W) : Type 0 where
+  pub record IsPool (fields : PoolFields W) : Type 0 where
     pub tied : AreTied fields
     pub set : fields.drained.own ≡ is_drained (machine_of fields)

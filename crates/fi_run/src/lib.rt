@@ -7,6 +7,8 @@
 //! - `Journal` keeps the history of one primitive, as `Entry`s, and gives a `Receipt` for each call. `Desk` shares a journal among
 //!   callers, each of whom has a `Seat`; `Settled` is a history that has exactly the receipts of all seats.
 //! - `Settled::write_script` writes a history as a script of the program `schedule`; `ScriptLines` are the lines of each primitive.
+//! - `Settled::write_table` writes it as a table of who waits after each call; `ScriptFutures` tells the futures apart. A `Table` is made
+//!   row by row, also from a script.
 #![tactic(auto)]
 
 mod answer;
@@ -23,6 +25,7 @@ mod runs;
 mod script;
 mod semaphore;
 mod state;
+mod table;
 mod timer;
 
 pub use answer::Answer;
@@ -36,7 +39,8 @@ pub use oneshot::{OneshotCall, every_run_of_a_oneshot, every_run_of_a_oneshot_br
 pub use pool::{PoolCall, every_run_of_a_pool};
 pub use pool_state::PoolState;
 pub use runs::{Primitive, every_run, run};
-pub use script::{ScriptError, ScriptLines};
+pub use script::{ScriptError, ScriptFutures, ScriptLines};
 pub use semaphore::{SemaphoreCall, every_run_of_a_semaphore};
 pub use state::{StateCall, every_run_of_a_state_broadcast};
+pub use table::{Lane, Table, TableRow};
 pub use timer::{TimerCall, every_run_of_a_timer};

@@ -1,5 +1,8 @@
 //! A worker pool.
-ghost use Rattle.std.specs.Prelude.{◌≡◌, IfOk, IfErr, length};
+ghost use Rattle.std.specs.Prelude.{◌≡◌, IfOk, IfErr, OnOk, length};
+ghost use Rattle.std.specs.Option.{option_map};
+ghost use Rattle.fi_parts.specs.Machine.{phase_at};
+ghost use Rattle.fi_parts.specs.Stages.{stage_of, AppendsQueue};
 ghost use Rattle.fi_run.specs.Pool.{IsSound, OwesNoWake, Opens, Step, SetsIf, is_drained};
 ghost use Rattle.fi_run.specs.PoolFields.{machine_of, AreTied, IsPool};
 ghost use Rattle.fi_run.specs.declared.pool.PoolCall.TheVariants as calls;
@@ -8,25 +11,10 @@ use crate::answer::Answer;
 use fi_channels::{ChannelState, EventState, TryReceiveError, TrySendError};
 use fi_locks::SemaphoreState;
 use fi_parts::buffer::GrowingHeapBuf;
-use fi_parts::{CloseStatus, Fault, Slot};
+use fi_parts::{CloseStatus, Fault, Refused, Slot, Stage};
 use futures::task::Poll;
 use std::alloc::Global;
 use std::marker::Model;
-
-/// The states that a pool stands on. Between two calls on them the pool's law may be broken.
-#[derive(Drop)]
-struct Fields<W> {
-    // The jobs that wait.
-    jobs: ChannelState<u64, GrowingHeapBuf<u64>, W>,
-    // An unfair semaphore, of which a permit is held for each job that runs.
-    permits: SemaphoreState<W>,
-    // Set once the pool is shut down and no job waits or runs.
-    drained: EventState<W>,
-    // Whether `jobs` is open, how many wait in it, and how many may, kept beside it.
-    is_open: bool,
-    waiting: usize,
-    capacity: usize,
-}
 
 /// A worker pool: jobs are handed in, wait in their order, and are started; at most `limit` run at once, and at most `capacity` wait.
 ///
@@ -49,7 +37,7 @@ struct Fields<W> {
 /// ```
 #[derive(Drop)]
 pub struct PoolState<W> {
-    fields: Fields<W>,
+    fields: PoolFields<W>,
 }
 
 impl<W> Model for PoolState<W> {
@@ -72,7 +60,7 @@ impl<W: Drop> PoolState<W> {
         ensures opened { IfOk result (λ made. Opens (limit, capacity) made) }
         ensures fault { IfErr result (λ fault. fault ≡ Fault.NoMemory) }
     {
-        let fields = Fields::new(alloc, limit, capacity)?;
+        let fields = PoolFields::new(alloc, limit, capacity)?;
         Ok(PoolState { fields })
     }
 
@@ -145,6 +133,21 @@ impl<W: Drop> PoolState<W> {
         self.fields.next_wake()
     }
 
+    /// How far the wait under this slot is; None if none lives there.
+    pub fn stage(&self, slot: Slot) -> Option<Stage>
+        ensures { result ≡ option_map stage_of (phase_at self.now.drained slot.0) }
+    {
+        self.fields.drained.stage(slot)
+    }
+
+    /// Appends the slots of the queue of waits, the oldest first. Where there was no memory for all, a beginning was appended.
+    pub fn queue(&mut self, slots: &mut Vec<Slot>) -> Result<(), Refused>
+        ensures same { self.new ≡ self.old }
+        ensures appended { OnOk result (AppendsQueue self.old.drained.waiting.side.queue slots.old.items slots.new.items) }
+    {
+        self.fields.drained.queue(slots)
+    }
+
     /// How many wakers are named to be woken. Its clauses also say what holds of every pool: it is sound and owes no wake.
     pub fn wake_count(&self) -> usize
         ensures count { result ≡ length self.now.drained.waiting.out }
@@ -155,7 +158,22 @@ impl<W: Drop> PoolState<W> {
     }
 }
 
-impl<W: Drop> Fields<W> {
+/// The states that a pool stands on. Between two calls on them the pool's law may be broken.
+#[derive(Drop)]
+struct PoolFields<W> {
+    // The jobs that wait.
+    jobs: ChannelState<u64, GrowingHeapBuf<u64>, W>,
+    // An unfair semaphore, of which a permit is held for each job that runs.
+    permits: SemaphoreState<W>,
+    // Set once the pool is shut down and no job waits or runs.
+    drained: EventState<W>,
+    // Whether `jobs` is open, how many wait in it, and how many may, kept beside it.
+    is_open: bool,
+    waiting: usize,
+    capacity: usize,
+}
+
+impl<W: Drop> PoolFields<W> {
     fn new(alloc: Global, limit: usize, capacity: usize) -> Result<Self, Fault>
         ensures opened { IfOk result (λ made. Opens (limit, capacity) (machine_of made)) }
         ensures is_pool { IfOk result (λ made. IsPool made) }
@@ -164,7 +182,7 @@ impl<W: Drop> Fields<W> {
         let jobs = ChannelState::with_capacity(alloc, capacity)?;
         // What holds of every channel holds of this one.
         let _ = jobs.wake_count();
-        Ok(Fields {
+        Ok(PoolFields {
             jobs,
             permits: SemaphoreState::new(alloc, false, limit),
             drained: EventState::new(alloc, false),

@@ -5,7 +5,7 @@ ghost use Rattle.fi_run.specs.Script.{LeavesWakers, TakesAllWakers, asks_for_wak
 use crate::answer::Answer;
 use crate::journal::{Entry, Settled};
 use crate::runs::Primitive;
-use fi_parts::Fault;
+use fi_parts::{Fault, Refused, Slot, Stage};
 use std::alloc::AllocError;
 use std::error::Error;
 use std::fmt;
@@ -81,6 +81,17 @@ impl From<AllocError> for ScriptError {
     }
 }
 
+impl From<Refused> for ScriptError {
+    ghost use Rattle.std.specs.Prelude.{◌≡◌};
+    ghost use Rattle.fi_run.specs.declared.script.ScriptError.TheVariants.{NoMemory};
+
+    ghost from_gives = { λ _ error. error ≡ NoMemory };
+
+    fn from(_refused: Refused) -> ScriptError {
+        ScriptError::NoMemory
+    }
+}
+
 /// A primitive whose calls have lines in scripts: docs/SCRIPTS.md.
 ///
 /// A future's label is a letter and its slot.
@@ -111,6 +122,45 @@ pub trait ScriptLines: Primitive<Answer = Answer<u64, u64>, Waker = u64> {
         call: &Self::Call,
         answer: &Answer<u64, u64>,
     ) -> Result<(), AllocError>;
+}
+
+/// A primitive whose futures can be told apart by their labels: which future a call is about, how far it is, and who waits.
+///
+/// The letter of a label says what a future is; only a channel's futures have more than one.
+///
+/// # Examples
+///
+/// ```
+/// use futures_intrusive::Stage;
+/// use futures_intrusive::run::{Answer, EventCall, Primitive, ScriptFutures};
+/// use futures_intrusive::sync::EventState;
+///
+/// let mut event: EventState<u64> = EventState::open(rt.alloc(), false)?;
+/// let Answer::Made(wait) = event.apply(EventCall::Wait) else {
+///     return Err("no memory".into());
+/// };
+/// // ..
+/// let future = EventState::<u64>::future_of(&EventCall::Cancel(wait), &Answer::Done);
+/// assert!(rt; future == Some(('w', wait)) && event.stage_of('w', wait) == Some(Stage::Fresh));
+/// ```
+pub trait ScriptFutures: ScriptLines {
+    /// The letters of its futures.
+    const LETTERS: &'static str;
+
+    /// The letter and the slot of the future that a call made, polled or cancelled, if it is about one.
+    fn future_of(call: &Self::Call, answer: &Answer<u64, u64>) -> Option<(char, Slot)>;
+
+    /// How far a future is; None if none lives under this label.
+    fn stage_of(&self, letter: char, slot: Slot) -> Option<Stage>;
+
+    /// Appends the slots of those with this letter that stand in a queue, the oldest first. Where there was no memory for all, a
+    /// beginning was appended.
+    fn queue_of(&mut self, letter: char, slots: &mut Vec<Slot>) -> Result<(), Refused>;
+
+    /// The futures of a primitive without a queue wait in the order of these numbers.
+    fn rank_of(&self, _letter: char, _slot: Slot) -> u64 {
+        0
+    }
 }
 
 impl<P: ScriptLines> Settled<P> {
@@ -178,7 +228,7 @@ fn check_wakers<C>(history: &[Entry<C, Answer<u64, u64>>]) -> Result<(), ScriptE
 }
 
 /// Whether an entry of this answer changed nothing and has no line: a future that could not be made, or isn't there to be called.
-fn is_left_out(answer: &Answer<u64, u64>) -> bool
+pub(crate) fn is_left_out(answer: &Answer<u64, u64>) -> bool
     ensures { result ≡ is_left_out answer.now }
 {
     matches!(

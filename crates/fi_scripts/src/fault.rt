@@ -51,7 +51,7 @@ impl ScriptFault {
 }
 
 /// The status that a program ends with.
-fn status(fault: &ScriptFault) -> u8
+pub fn status(fault: &ScriptFault) -> u8
     ensures { result ≡ status_of fault.now }
 {
     match fault {

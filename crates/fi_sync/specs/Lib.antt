@@ -1,3 +1,4 @@
+pub mod AutoReset
 pub mod Wakes
 pub mod Waiting
 pub mod Sends

@@ -19,6 +19,7 @@ use fi_channels::{ChannelState, TryReceiveError, TrySendError};
 use fi_parts::buffer::{ArrayBuf, RingBuf};
 use fi_parts::{CloseStatus, Fault, NoRoom};
 use std::alloc::Global;
+use std::fmt;
 use std::marker::Model;
 use std::sync::Wait;
 
@@ -41,6 +42,12 @@ use std::sync::Wait;
 #[derive(Drop)]
 pub struct GenericChannel<T: Drop, B: RingBuf<Item = T>, R> {
     monitor: Monitor<ChannelState<T, B, PollWaker>, R>,
+}
+
+impl<T: Drop, B: RingBuf<Item = T>, R> fmt::Debug for GenericChannel<T, B, R> {
+    fn fmt<F: fmt::Write>(&self, f: &mut fmt::Formatter<F>) -> fmt::Result {
+        f.debug_struct("Channel").finish()
+    }
 }
 
 /// A channel over an array of `N` values. Keeps `Channel` of futures-intrusive's `channel`.

@@ -19,6 +19,7 @@ use fi_parts::buffer::RingBuf;
 use fi_parts::{Fault, Leftover, Slot};
 use futures::task::{Context, Poll};
 use futures::{Future, Stream};
+use std::fmt;
 use std::marker::Model;
 use std::sync::Wait;
 
@@ -29,6 +30,12 @@ use std::sync::Wait;
 #[derive(Drop)]
 pub struct ChannelStream<'a, T: Drop, B: RingBuf<Item = T>, R: Wait> {
     future: SlotFuture<&'a Monitor<ChannelState<T, B, PollWaker>, R>, ChannelStreaming>,
+}
+
+impl<T: Drop, B: RingBuf<Item = T>, R: Wait> fmt::Debug for ChannelStream<'_, T, B, R> {
+    fn fmt<F: fmt::Write>(&self, f: &mut fmt::Formatter<F>) -> fmt::Result {
+        f.debug_struct("ChannelStream").finish()
+    }
 }
 
 impl<'a, T: Drop, B: RingBuf<Item = T>, R: Wait> Model for ChannelStream<'a, T, B, R> {

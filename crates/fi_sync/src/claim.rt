@@ -3,6 +3,7 @@ ghost use Rattle.std.specs.Prelude.{◌≡◌, ℕ, Some, None};
 ghost use Rattle.fi_sync.specs.Waiting.{name_after};
 
 use fi_parts::Slot;
+use std::fmt;
 use std::marker::{Model, PhantomData};
 
 /// A state whose futures of the kind `K` can be cancelled by slot.
@@ -23,6 +24,12 @@ pub trait Cancel<K> {
 pub struct Claim<K> {
     slot: Slot,
     kind: PhantomData<K>,
+}
+
+impl<K> fmt::Debug for Claim<K> {
+    fn fmt<F: fmt::Write>(&self, f: &mut fmt::Formatter<F>) -> fmt::Result {
+        f.debug_struct("Claim").finish()
+    }
 }
 
 impl<K> Model for Claim<K> {

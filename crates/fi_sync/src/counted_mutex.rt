@@ -12,6 +12,7 @@ use fi_locks::{Grant, MutexLock, MutexState, Tally};
 use fi_parts::{Fault, Slot};
 use futures::task::Poll;
 use std::alloc::Global;
+use std::fmt;
 use std::marker::Model;
 use std::sync::ledger::{Blank, Ledger};
 
@@ -20,6 +21,12 @@ use std::sync::ledger::{Blank, Ledger};
 pub struct CountedMutex<T, L: Ledger> {
     state: MutexState<T, PollWaker>,
     tally: Tally<L>,
+}
+
+impl<T, L: Ledger> fmt::Debug for CountedMutex<T, L> {
+    fn fmt<F: fmt::Write>(&self, f: &mut fmt::Formatter<F>) -> fmt::Result {
+        f.debug_struct("CountedMutex").finish()
+    }
 }
 
 impl<T, L: Ledger> Model for CountedMutex<T, L> {
@@ -46,6 +53,12 @@ impl<T, L: Ledger> Model for CountedMutex<T, L> {
 pub struct Locked<T, L: Ledger> {
     pub(crate) value: T,
     pub(crate) hold: Grant<L>,
+}
+
+impl<T, L: Ledger> fmt::Debug for Locked<T, L> {
+    fn fmt<F: fmt::Write>(&self, f: &mut fmt::Formatter<F>) -> fmt::Result {
+        f.debug_struct("Locked").finish()
+    }
 }
 
 impl<T, L: Ledger> Model for Locked<T, L> {

@@ -12,6 +12,7 @@ use fi_locks::{Grant, SemaphoreAcquire, SemaphoreState, Tally};
 use fi_parts::{Fault, Slot};
 use futures::task::Poll;
 use std::alloc::Global;
+use std::fmt;
 use std::marker::Model;
 use std::sync::ledger::{Blank, Ledger};
 
@@ -20,6 +21,12 @@ use std::sync::ledger::{Blank, Ledger};
 pub struct CountedSemaphore<L: Ledger> {
     state: SemaphoreState<PollWaker>,
     tally: Tally<L>,
+}
+
+impl<L: Ledger> fmt::Debug for CountedSemaphore<L> {
+    fn fmt<F: fmt::Write>(&self, f: &mut fmt::Formatter<F>) -> fmt::Result {
+        f.debug_struct("CountedSemaphore").finish()
+    }
 }
 
 impl<L: Ledger> Model for CountedSemaphore<L> {

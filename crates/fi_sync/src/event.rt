@@ -15,6 +15,7 @@ use fi_channels::EventState;
 use fi_parts::Fault;
 use fi_parts::memory::share;
 use std::alloc::Global;
+use std::fmt;
 use std::marker::Model;
 use std::sync::{Arc, Wait};
 
@@ -37,6 +38,12 @@ use std::sync::{Arc, Wait};
 #[derive(Drop)]
 pub struct ManualResetEvent<R> {
     pub(crate) monitor: Monitor<EventState<PollWaker>, R>,
+}
+
+impl<R> fmt::Debug for ManualResetEvent<R> {
+    fn fmt<F: fmt::Write>(&self, f: &mut fmt::Formatter<F>) -> fmt::Result {
+        f.debug_struct("ManualResetEvent").finish()
+    }
 }
 
 impl<R> Model for ManualResetEvent<R> {

@@ -1,6 +1,6 @@
 //! The primitives that threads share: each state stands behind a lock, and its futures implement the kit's `Future`.
 //!
-//! - `ManualResetEvent`, `Mutex`, `Semaphore`, `SharedSemaphore`, `TimerService`, and the channels: `Channel`, `UnbufferedChannel`,
+//! - `ManualResetEvent`, `AutoResetEvent`, `Mutex`, `Semaphore`, `SharedSemaphore`, `TimerService`, and the channels: `Channel`, `UnbufferedChannel`,
 //!   `OneshotChannel`, `OneshotBroadcastChannel`, `StateBroadcastChannel`. `futures_intrusive` has them under the crate's paths.
 //! - A future is dropped where it is not wanted any more: it leaves its primitive, and passes on a notice that it has not used.
 //! - `wait_for` blocks the calling thread until a future is ready; `Blocking` is what it needs of the runtime.
@@ -10,13 +10,13 @@
 //! "Keeps `X`" says which item of futures-intrusive an item stands for.
 #![tactic(auto)]
 
+mod auto_reset_event;
 mod blocking;
 mod channel;
 mod channel_stream;
 mod claim;
 mod counted_mutex;
 mod counted_semaphore;
-mod debug;
 mod event;
 mod event_future;
 mod monitor;
@@ -34,6 +34,9 @@ mod timed;
 mod timer;
 mod wakes;
 
+pub use auto_reset_event::{
+    AutoResetEvent, AutoResetWait, OwnedWaitForAutoResetEventFuture, WaitForAutoResetEventFuture,
+};
 pub use blocking::{Blocking, wait_for};
 pub use channel::{Channel, GenericChannel, UnbufferedChannel};
 pub use channel_stream::ChannelStream;
@@ -61,6 +64,6 @@ pub use shared_semaphore::{
 };
 pub use slot_future::{PollOutput, PollSlot, SlotFuture, SlotPolled};
 pub use state_broadcast::{StateBroadcastChannel, StateReceiveFuture};
-pub use timed::{Timed, TimerWait};
+pub use timed::{Timed, TimedWait};
 pub use timer::{OwnedTimerFuture, TimerFuture, TimerService};
 pub use wakes::{Guarded, HasOutbox, Owed, PollWaker};

@@ -14,6 +14,7 @@ use crate::wakes::{Guarded, HasOutbox};
 use fi_parts::{Refused, Slot};
 use futures::task::{Context, Source, Waker};
 use std::alloc::Global;
+use std::fmt;
 use std::marker::Model;
 use std::sync::{Arc, Wait};
 
@@ -23,6 +24,12 @@ pub struct Monitor<S, R> {
     rt: R,
     source: Source,
     state: Guarded<S>,
+}
+
+impl<S, R> fmt::Debug for Monitor<S, R> {
+    fn fmt<F: fmt::Write>(&self, f: &mut fmt::Formatter<F>) -> fmt::Result {
+        f.debug_struct("Monitor").finish()
+    }
 }
 
 impl<S, R> Model for Monitor<S, R> {

@@ -23,6 +23,7 @@ use fi_parts::memory::share;
 use futures::Future;
 use futures::task::{Context, Poll};
 use std::alloc::Global;
+use std::fmt;
 use std::marker::Model;
 use std::ops::{Deref, DerefMut};
 use std::sync::ledger::{Blank, Ledger};
@@ -66,6 +67,14 @@ use std::sync::{Arc, Wait};
 #[derive(Drop)]
 pub struct Mutex<T, R, L: Ledger> {
     monitor: Monitor<CountedMutex<T, L>, R>,
+}
+
+impl<T: Drop, R: Wait, L: Ledger> fmt::Debug for Mutex<T, R, L> {
+    fn fmt<F: fmt::Write>(&self, f: &mut fmt::Formatter<F>) -> fmt::Result {
+        f.debug_struct("Mutex")
+            .field("is_locked", &self.is_locked())
+            .finish()
+    }
 }
 
 impl<T, R, L: Ledger> Model for Mutex<T, R, L> {
@@ -183,6 +192,13 @@ pub struct MutexGuardOf<M: HasMonitor<State = CountedMutex<T, L>>, T: Drop, L: L
     hold: Grant<L>,
 }
 
+impl<M: HasMonitor<State = CountedMutex<T, L>>, T: Drop, L: Ledger> fmt::Debug
+    for MutexGuardOf<M, T, L> {
+    fn fmt<F: fmt::Write>(&self, f: &mut fmt::Formatter<F>) -> fmt::Result {
+        f.debug_struct("GenericMutexGuard").finish()
+    }
+}
+
 /// The guard of a mutex, to which it refers. Keeps `GenericMutexGuard` of futures-intrusive's `sync`.
 pub type MutexGuard<'a, T, R, L> = MutexGuardOf<&'a Monitor<CountedMutex<T, L>, R>, T, L>;
 
@@ -278,6 +294,13 @@ pub struct MutexLockFutureOf<M: HasMonitor<State = CountedMutex<T, L>>, T: Drop,
     future: SlotFuture<M, MutexLock>,
     // The guard's way to the mutex, which is made with the future: so a grant is never refused for want of memory.
     guard_monitor: Option<M>,
+}
+
+impl<M: HasMonitor<State = CountedMutex<T, L>>, T: Drop, L: Ledger> fmt::Debug
+    for MutexLockFutureOf<M, T, L> {
+    fn fmt<F: fmt::Write>(&self, f: &mut fmt::Formatter<F>) -> fmt::Result {
+        f.debug_struct("GenericMutexLockFuture").finish()
+    }
 }
 
 /// Locks a mutex, to which it refers. Keeps `GenericMutexLockFuture` of futures-intrusive's `sync`.

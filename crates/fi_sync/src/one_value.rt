@@ -14,6 +14,7 @@ use crate::wakes::{HasOutbox, PollWaker};
 use fi_channels::{ClonesValue, GivesValue, OneValueState, TakesValue};
 use fi_parts::{ChannelSendError, CloseStatus, Fault};
 use std::alloc::Global;
+use std::fmt;
 use std::marker::Model;
 use std::sync::Wait;
 
@@ -43,6 +44,12 @@ pub struct OneValueChannel<T: Drop, G: GivesValue<T>, R> {
 /// ```
 pub type OneshotChannel<T, R> = OneValueChannel<T, TakesValue, R>;
 
+impl<T: Drop, R> fmt::Debug for OneshotChannel<T, R> {
+    fn fmt<F: fmt::Write>(&self, f: &mut fmt::Formatter<F>) -> fmt::Result {
+        f.debug_struct("GenericOneshotChannel").finish()
+    }
+}
+
 /// A channel that takes one value, and gives a clone of it to every receive. Keeps `OneshotBroadcastChannel` of
 /// futures-intrusive's `channel`. The clone is made under the lock.
 ///
@@ -57,6 +64,12 @@ pub type OneshotChannel<T, R> = OneValueChannel<T, TakesValue, R>;
 /// assert!(rt; news.receive_blocking() == Ok(Some(5)));
 /// ```
 pub type OneshotBroadcastChannel<T, R> = OneValueChannel<T, ClonesValue, R>;
+
+impl<T: Clone + Drop, R> fmt::Debug for OneshotBroadcastChannel<T, R> {
+    fn fmt<F: fmt::Write>(&self, f: &mut fmt::Formatter<F>) -> fmt::Result {
+        f.debug_struct("GenericOneshotBroadcastChannel").finish()
+    }
+}
 
 impl<T: Drop, G: GivesValue<T>, R> Model for OneValueChannel<T, G, R> {
     ghost use Rattle.std.specs.Prelude.{ℕ};

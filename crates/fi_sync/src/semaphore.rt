@@ -14,6 +14,7 @@ use crate::semaphore_future::SemaphoreAcquireFutureOf;
 use crate::semaphore_releaser::SemaphoreReleaserOf;
 use fi_parts::Fault;
 use std::alloc::Global;
+use std::fmt;
 use std::marker::Model;
 use std::sync::Wait;
 use std::sync::ledger::{Blank, Ledger};
@@ -56,6 +57,14 @@ pub struct Semaphore<R, L: Ledger> {
     monitor: Monitor<CountedSemaphore<L>, R>,
 }
 
+impl<R: Wait, L: Ledger> fmt::Debug for Semaphore<R, L> {
+    fn fmt<F: fmt::Write>(&self, f: &mut fmt::Formatter<F>) -> fmt::Result {
+        f.debug_struct("Semaphore")
+            .field("permits", &self.permits())
+            .finish()
+    }
+}
+
 impl<R, L: Ledger> Model for Semaphore<R, L> {
     ghost use Rattle.std.specs.Prelude.{ℕ};
 
@@ -80,11 +89,23 @@ impl<R, L: Ledger> Semaphore<R, L> {
 /// Permits of a semaphore that are held; it refers to the semaphore. Keeps `GenericSemaphoreReleaser` of futures-intrusive's `sync`.
 pub type SemaphoreReleaser<'a, R, L> = SemaphoreReleaserOf<&'a Monitor<CountedSemaphore<L>, R>, L>;
 
+impl<R: Wait, L: Ledger> fmt::Debug for SemaphoreReleaser<'_, R, L> {
+    fn fmt<F: fmt::Write>(&self, f: &mut fmt::Formatter<F>) -> fmt::Result {
+        f.debug_struct("GenericSemaphoreReleaser").finish()
+    }
+}
+
 /// Acquires permits of a semaphore, which it refers to. Keeps `GenericSemaphoreAcquireFuture` of futures-intrusive's `sync`.
 pub type SemaphoreAcquireFuture<'a, R, L> = SemaphoreAcquireFutureOf<
     &'a Monitor<CountedSemaphore<L>, R>,
     L,
 >;
+
+impl<R: Wait, L: Ledger> fmt::Debug for SemaphoreAcquireFuture<'_, R, L> {
+    fn fmt<F: fmt::Write>(&self, f: &mut fmt::Formatter<F>) -> fmt::Result {
+        f.debug_struct("GenericSemaphoreAcquireFuture").finish()
+    }
+}
 
 impl<R: Wait, L: Ledger> Semaphore<R, L> {
     /// A future that acquires this many permits. Refused only with `NoMemory`; then nothing has changed. Keeps

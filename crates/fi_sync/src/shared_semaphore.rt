@@ -16,6 +16,7 @@ use crate::semaphore_releaser::SemaphoreReleaserOf;
 use fi_parts::memory::{share, shared};
 use fi_parts::{Fault, Refused};
 use std::alloc::Global;
+use std::fmt;
 use std::marker::Model;
 use std::sync::ledger::{Blank, Ledger};
 use std::sync::{Arc, Wait};
@@ -56,6 +57,14 @@ pub struct SharedSemaphore<R: Wait + Drop, L: Ledger> {
     monitor: Arc<Monitor<CountedSemaphore<L>, R>, Global>,
 }
 
+impl<R: Wait + Drop, L: Ledger> fmt::Debug for SharedSemaphore<R, L> {
+    fn fmt<F: fmt::Write>(&self, f: &mut fmt::Formatter<F>) -> fmt::Result {
+        f.debug_struct("Semaphore")
+            .field("permits", &self.permits())
+            .finish()
+    }
+}
+
 impl<R: Wait + Drop, L: Ledger> Model for SharedSemaphore<R, L> {
     ghost use Rattle.std.specs.Prelude.{ℕ};
 
@@ -70,11 +79,24 @@ pub type SharedSemaphoreReleaser<R, L> = SemaphoreReleaserOf<
     L,
 >;
 
+impl<R: Wait + Drop, L: Ledger> fmt::Debug for SharedSemaphoreReleaser<R, L> {
+    fn fmt<F: fmt::Write>(&self, f: &mut fmt::Formatter<F>) -> fmt::Result {
+        f.debug_struct("GenericSharedSemaphoreReleaser").finish()
+    }
+}
+
 /// Acquires permits of a shared semaphore. Keeps `GenericSharedSemaphoreAcquireFuture`.
 pub type SharedSemaphoreAcquireFuture<R, L> = SemaphoreAcquireFutureOf<
     Arc<Monitor<CountedSemaphore<L>, R>, Global>,
     L,
 >;
+
+impl<R: Wait + Drop, L: Ledger> fmt::Debug for SharedSemaphoreAcquireFuture<R, L> {
+    fn fmt<F: fmt::Write>(&self, f: &mut fmt::Formatter<F>) -> fmt::Result {
+        f.debug_struct("GenericSharedSemaphoreAcquireFuture")
+            .finish()
+    }
+}
 
 impl<R: Wait + Drop, L: Ledger> SharedSemaphore<R, L> {
     /// A semaphore with this many free permits, fair or unfair. Refused with `NoMemory` where there is none for what its owners

@@ -14,9 +14,10 @@ ghost use Rattle.fi_sync.specs.Waiting.{ends, polled, IsAnswer, IsGiven, IsLeftB
 use crate::claim::{Cancel, Claim};
 use crate::monitor::HasMonitor;
 use crate::wakes::PollWaker;
-use fi_parts::{Fault, Leftover, Refused, Slot};
+use fi_parts::{Fault, FutureKind, Leftover, Refused, Slot};
 use futures::Future;
 use futures::task::{Context, Poll, Waker};
+use std::fmt;
 use std::marker::Model;
 
 /// The output of a ready poll. It ends its future or doesn't: a refusal and an item of a stream don't.
@@ -135,6 +136,15 @@ where
     // Another one, used once there is no spare. A ready poll can leave two: where an unfair lock is granted to a future that is
     // registered, or where a notified future's waker was not taken out yet.
     second: Option<Waker>,
+}
+
+impl<M: HasMonitor, K: FutureKind> fmt::Debug for SlotFuture<M, K>
+where
+    M::State: PollSlot<K>,
+{
+    fn fmt<F: fmt::Write>(&self, f: &mut fmt::Formatter<F>) -> fmt::Result {
+        f.debug_struct(K::name()).finish()
+    }
 }
 
 impl<M: HasMonitor, K> Model for SlotFuture<M, K>

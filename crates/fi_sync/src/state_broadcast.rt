@@ -14,6 +14,7 @@ use crate::wakes::{HasOutbox, PollWaker};
 use fi_channels::StateBroadcastState;
 use fi_parts::{ChannelSendError, CloseStatus, Fault, StateId};
 use std::alloc::Global;
+use std::fmt;
 use std::marker::Model;
 use std::sync::Wait;
 
@@ -36,6 +37,12 @@ use std::sync::Wait;
 #[derive(Drop)]
 pub struct StateBroadcastChannel<T: Clone, R> {
     monitor: Monitor<StateBroadcastState<T, PollWaker>, R>,
+}
+
+impl<T: Clone, R> fmt::Debug for StateBroadcastChannel<T, R> {
+    fn fmt<F: fmt::Write>(&self, f: &mut fmt::Formatter<F>) -> fmt::Result {
+        f.debug_struct("GenericStateBroadcastChannel").finish()
+    }
 }
 
 /// Receives the newest state with its number, once that is greater than the one seen; None once the channel is closed and has no

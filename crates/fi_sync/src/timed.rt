@@ -14,9 +14,10 @@ use crate::slot_future::{PollSlot, SlotPolled, no_slot};
 use crate::wakes::{HasOutbox, PollWaker};
 use fi_locks::TimerState;
 use fi_parts::memory::{share, shared};
-use fi_parts::{Clock, Fault, Refused, Slot};
+use fi_parts::{Clock, Fault, FutureKind, Refused, Slot};
 use futures::task::Poll;
 use std::alloc::Global;
+use std::fmt;
 use std::marker::Model;
 use std::sync::{Arc, Wait};
 use std::thread::Parker;
@@ -29,6 +30,12 @@ pub struct Timed<C> {
     timer: TimerState<PollWaker>,
     clock: C,
     runner: Option<Runner>,
+}
+
+impl<C> fmt::Debug for Timed<C> {
+    fn fmt<F: fmt::Write>(&self, f: &mut fmt::Formatter<F>) -> fmt::Result {
+        f.debug_struct("Timed").finish()
+    }
 }
 
 /// How many milliseconds the thread that runs a timer may sleep: until its next check. Only a check makes one, and only a sleep takes it,
@@ -85,7 +92,13 @@ struct Runner {
 }
 
 /// The kind of a timer's futures.
-pub struct TimerWait;
+pub struct TimedWait;
+
+impl FutureKind for TimedWait {
+    fn name() -> &'static str {
+        "TimerFuture"
+    }
+}
 
 impl<C: Clock> Timed<C> {
     /// A timer by this clock, that nobody waits for. It takes no memory yet.
@@ -193,7 +206,7 @@ impl<C: Clock> Timed<C> {
     }
 }
 
-impl<C: Clock> PollSlot<TimerWait> for Timed<C> {
+impl<C: Clock> PollSlot<TimedWait> for Timed<C> {
     type Output = Result<(), Fault>;
 
     // At some moment. A poll that the timer makes is never refused.
@@ -222,7 +235,7 @@ impl<C: Clock> PollSlot<TimerWait> for Timed<C> {
     }
 }
 
-impl<C: Clock> Cancel<TimerWait> for Timed<C> {
+impl<C: Clock> Cancel<TimedWait> for Timed<C> {
     type Left = Option<PollWaker>;
 
     ghost cancels = { λ old name left new. (new ≡ record old { timer = new.timer })

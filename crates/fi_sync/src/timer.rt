@@ -8,7 +8,7 @@ use crate::blocking::{Blocking, wait_for};
 use crate::event::ManualResetEvent;
 use crate::monitor::{HasMonitor, Monitor};
 use crate::slot_future::SlotFuture;
-use crate::timed::{Sleeper, Timed, TimerWait};
+use crate::timed::{Sleeper, Timed, TimedWait};
 use fi_parts::memory::{share, start_thread};
 use fi_parts::{Clock, Fault, Refused};
 use futures::Future;
@@ -17,9 +17,9 @@ use std::alloc::Global;
 use std::marker::Model;
 use std::sync::atomic::{AtomicBool, Ordering};
 use std::sync::{Arc, Wait};
-use std::thread;
 use std::thread::Threads;
 use std::time::Duration;
+use std::{fmt, thread};
 
 /// How long `TimerService::run` sleeps at most before it looks at its event again, in milliseconds.
 const LONGEST_SLEEP: u64 = 10;
@@ -53,14 +53,20 @@ pub struct TimerService<C, R> {
     monitor: Monitor<Timed<C>, R>,
 }
 
+impl<C, R> fmt::Debug for TimerService<C, R> {
+    fn fmt<F: fmt::Write>(&self, f: &mut fmt::Formatter<F>) -> fmt::Result {
+        f.debug_struct("TimerService").finish()
+    }
+}
+
 /// Waits for a moment of a timer's clock. Its drop unregisters it, and tells nobody.
 ///
 /// Its output is Ok at its first poll if the clock has reached the moment, else once a check has told it, and refused as every
 /// `SlotFuture`'s. Keeps `TimerFuture` of futures-intrusive's `timer`.
-pub type TimerFuture<'a, C, R> = SlotFuture<&'a Monitor<Timed<C>, R>, TimerWait>;
+pub type TimerFuture<'a, C, R> = SlotFuture<&'a Monitor<Timed<C>, R>, TimedWait>;
 
 /// A `TimerFuture` that owns a share of its timer in place of a reference to it.
-pub type OwnedTimerFuture<C, R> = SlotFuture<Arc<TimerService<C, R>, Global>, TimerWait>;
+pub type OwnedTimerFuture<C, R> = SlotFuture<Arc<TimerService<C, R>, Global>, TimedWait>;
 
 impl<C, R> Model for TimerService<C, R> {
     ghost use Rattle.std.specs.Prelude.{ℕ};

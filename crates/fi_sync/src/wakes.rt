@@ -16,6 +16,7 @@ use fi_parts::memory::waker_for;
 use fi_parts::{Refused, Slot};
 use futures::task::{Context, Poll, Source, Waker};
 pub use owed::Owed;
+use std::fmt;
 use std::marker::Model;
 use std::sync::{Mutex, Wait};
 
@@ -48,6 +49,12 @@ pub trait HasOutbox {
 #[derive(Drop)]
 pub struct Guarded<S> {
     state: Mutex<S>,
+}
+
+impl<S> fmt::Debug for Guarded<S> {
+    fn fmt<F: fmt::Write>(&self, f: &mut fmt::Formatter<F>) -> fmt::Result {
+        f.debug_struct("Guarded").finish()
+    }
 }
 
 impl<S> Guarded<S> {

@@ -4,3 +4,4 @@ pub mod KindLaws
 pub mod SharedStreams
 pub mod Blanks
 pub mod Readers
+pub mod StateStreams

@@ -9,10 +9,21 @@ ghost use Rattle.futures_intrusive.specs.Ends.{OnState};
 use crate::counted_ends::{
     ClosesByEnds, CountedEnds, ManyReceivers, ManySenders, ReceivesClosed, SendsClosed,
 };
+use crate::ends::EndNames;
 use fi_channels::{ChannelReceiveAccess, ChannelState, TryReceiveError, TrySendError};
 use fi_parts::buffer::RingBuf;
 use fi_parts::{CloseStatus, Fault, NoRoom, Slot};
 use fi_sync::{Cancel, ChannelStreaming, PollSlot, PollWaker, SlotPolled};
+
+impl<T: Drop, B: RingBuf<Item = T>> EndNames for ChannelState<T, B, PollWaker> {
+    fn sender() -> &'static str {
+        "Sender"
+    }
+
+    fn receiver() -> &'static str {
+        "Receiver"
+    }
+}
 
 impl<T: Drop, B: RingBuf<Item = T>> ClosesByEnds for ChannelState<T, B, PollWaker> {
     ghost use Rattle.fi_channels.specs.Channel.{Closes};

@@ -10,6 +10,7 @@ ghost use Rattle.futures_intrusive.specs.Ends.{AddsSender, AddsReceiver, DropsSe
 use fi_channels::{ChannelReceiveAccess, ChannelSendAccess, EndCount, Received, Sent};
 use fi_parts::{Fault, Slot};
 use fi_sync::{HasOutbox, PollWaker};
+use std::fmt;
 use std::marker::Model;
 
 /// A channel that closes when its last sender or its last receiver is dropped.
@@ -85,6 +86,12 @@ pub struct CountedEnds<S: ClosesByEnds> {
     pub(crate) state: S,
     senders: EndCount,
     receivers: EndCount,
+}
+
+impl<S: ClosesByEnds> fmt::Debug for CountedEnds<S> {
+    fn fmt<F: fmt::Write>(&self, f: &mut fmt::Formatter<F>) -> fmt::Result {
+        f.debug_struct("CountedEnds").finish()
+    }
 }
 
 impl<S: ClosesByEnds> Model for CountedEnds<S> {

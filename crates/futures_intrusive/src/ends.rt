@@ -1,8 +1,9 @@
 //! The ends of a channel: what its senders and its receivers have in common.
-ghost use Rattle.std.specs.Prelude.{◌≡◌, ◌⊎◌, ℕ, Ok, Err, OnOk, OnErr, IfOk, IfErr, Option, Result};
+ghost use Rattle.std.specs.Prelude.{◌≡◌, ◌⊎◌, ℕ, Some, Ok, Err, OnOk, OnErr, IfOk, IfErr, Option, Result};
 ghost use Rattle.std.specs.Arc.{arc_value};
 ghost use Rattle.std.specs.Borrow.{MutBor};
 ghost use Rattle.fi_parts.specs.declared.errors.Fault.{Fault};
+ghost use Rattle.fi_parts.specs.declared.errors.Slot.{Slot};
 ghost use Rattle.fi_sync.specs.Waiting.{IsNew};
 ghost use Rattle.futures_intrusive.specs.Ends.{Counted, KeepsEnds, AddsSender, AddsReceiver, LeavesSender, DropsReceiver};
 
@@ -11,6 +12,7 @@ use fi_parts::memory::{share, shared};
 use fi_parts::{Fault, Refused, Slot};
 use fi_sync::{HasOutbox, Monitor, PollSlot, SlotFuture};
 use std::alloc::Global;
+use std::fmt;
 use std::marker::{Model, PhantomData};
 use std::sync::{Arc, Wait};
 
@@ -25,6 +27,15 @@ pub struct Senders;
 
 /// The receiving side of a channel.
 pub struct Receivers;
+
+/// A kind of channel, by the names that `Debug` shows of its ends.
+pub trait EndNames {
+    /// The name of a sending end.
+    fn sender() -> &'static str;
+
+    /// The name of a receiving end.
+    fn receiver() -> &'static str;
+}
 
 /// One side of a channel, whose ends are counted.
 pub trait Side<S: ClosesByEnds> {
@@ -117,6 +128,18 @@ impl<K> Membership<K> {
 pub struct End<S: ClosesByEnds + Drop, R: Wait + Drop, K: Side<S>> {
     channel: SharedChannel<S, R>,
     membership: Membership<K>,
+}
+
+impl<S: ClosesByEnds + EndNames + Drop, R: Wait + Drop> fmt::Debug for End<S, R, Senders> {
+    fn fmt<F: fmt::Write>(&self, f: &mut fmt::Formatter<F>) -> fmt::Result {
+        f.debug_struct(S::sender()).finish()
+    }
+}
+
+impl<S: ClosesByEnds + EndNames + Drop, R: Wait + Drop> fmt::Debug for End<S, R, Receivers> {
+    fn fmt<F: fmt::Write>(&self, f: &mut fmt::Formatter<F>) -> fmt::Result {
+        f.debug_struct(S::receiver()).finish()
+    }
 }
 
 impl<S: ClosesByEnds + Drop, R: Wait + Drop, K: Side<S>> Model for End<S, R, K> {
@@ -244,6 +267,8 @@ where
     C: FnOnce(&mut S, I) -> Result<Slot, E>,
     requires { C.IsAlwaysCallable call }
     ensures made { IfOk result (λ future. IsNew (arc_value shared) future) }
+    ensures claimed { IfOk result (λ future. (shown : MutBor S) × (left : MutBor S) × (slot : Slot) × (future.name ≡ Some slot.0)
+        × C.post call shown input (Ok slot) left) }
     ensures refused { IfErr result (λ error. (shown : MutBor S) × (left : MutBor S) × C.post call shown input (Err error) left) }
 {
     let claim = shared.claim(input, call)?;

@@ -18,7 +18,6 @@ pub mod channel;
 mod channel_ends;
 mod counted_channel;
 mod counted_ends;
-mod debug;
 mod ends;
 pub mod heap;
 pub mod list;
@@ -28,7 +27,8 @@ pub mod run;
 mod shared_stream;
 mod state_ends;
 mod state_reader;
+mod state_stream;
 pub mod sync;
 pub mod timer;
 
-pub use fi_parts::{Fault, Leftover, NoRoom, Refused, Slot, memory};
+pub use fi_parts::{Fault, Leftover, NoRoom, Refused, Slot, Stage, memory};

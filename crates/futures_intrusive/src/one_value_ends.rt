@@ -9,7 +9,7 @@ ghost use Rattle.futures_intrusive.specs.Ends.{OnState};
 
 use crate::channel_ends::ChannelReceiveFuture;
 use crate::counted_ends::{ClosesByEnds, CountedEnds, ManyReceivers, ReceivesClosed};
-use crate::ends::{End, Receivers, Senders, future_of, two_ends};
+use crate::ends::{End, EndNames, Receivers, Senders, future_of, two_ends};
 use fi_channels::{ClonesValue, GivesValue, OneValueState, TakesValue};
 use fi_parts::{ChannelSendError, Fault, Slot};
 use fi_sync::{Blocking, PollWaker, wait_for};
@@ -151,6 +151,26 @@ impl<T: Drop, G: GivesValue<T>, R: Wait + Drop> OneValueReceiver<T, G, R> {
         }
         let receive = self.receive()?;
         wait_for(self.channel().runtime(), receive)?
+    }
+}
+
+impl<T: Drop> EndNames for OneValueState<T, PollWaker, TakesValue> {
+    fn sender() -> &'static str {
+        "OneshotSender"
+    }
+
+    fn receiver() -> &'static str {
+        "OneshotReceiver"
+    }
+}
+
+impl<T: Clone + Drop> EndNames for OneValueState<T, PollWaker, ClonesValue> {
+    fn sender() -> &'static str {
+        "OneshotBroadcastSender"
+    }
+
+    fn receiver() -> &'static str {
+        "OneshotBroadcastReceiver"
     }
 }
 

@@ -16,6 +16,7 @@ use fi_parts::{CloseStatus, Fault, NoRoom, Refused, Slot};
 use fi_sync::ChannelStreaming;
 use futures::task::{Context, Poll};
 use futures::{Future, Stream};
+use std::fmt;
 use std::marker::Model;
 use std::sync::Wait;
 
@@ -29,6 +30,12 @@ pub struct SharedStream<T: Drop, B: RingBuf<Item = T>, R: Wait + Drop> {
     // In this order they are dropped: a receive that was told of a value passes that on while the receiver is still counted.
     future: SharedFutureOf<SharedChannelState<T, B>, R, ChannelStreaming>,
     receiver: GenericReceiver<T, B, R>,
+}
+
+impl<T: Drop, B: RingBuf<Item = T>, R: Wait + Drop> fmt::Debug for SharedStream<T, B, R> {
+    fn fmt<F: fmt::Write>(&self, f: &mut fmt::Formatter<F>) -> fmt::Result {
+        f.debug_struct("SharedStream").finish()
+    }
 }
 
 impl<T: Drop, B: RingBuf<Item = T>, R: Wait + Drop> Model for SharedStream<T, B, R> {

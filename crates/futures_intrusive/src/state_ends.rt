@@ -7,13 +7,15 @@ ghost use Rattle.fi_sync.specs.Received.{PollsState};
 ghost use Rattle.fi_sync.specs.Waiting.{InSomeHold, IsNew, WaitedFor};
 ghost use Rattle.futures_intrusive.specs.Ends.{OnState};
 ghost use Rattle.futures_intrusive.specs.Readers.{Lends};
+ghost use Rattle.futures_intrusive.specs.StateStreams.{AnswersAtOnce, AsksNewer};
 
 use crate::channel_ends::ChannelReceiveFuture;
 use crate::counted_ends::{ClosesByEnds, CountedEnds, ManyReceivers, ManySenders, ReceivesClosed};
-use crate::ends::{End, Receivers, Senders, future_of, two_ends};
+use crate::ends::{End, EndNames, Receivers, Senders, future_of, two_ends};
 use fi_channels::StateBroadcastState;
 use fi_parts::{ChannelSendError, Fault, Slot, StateId};
 use fi_sync::{Blocking, PollWaker, wait_for};
+use futures::task::Poll;
 use std::alloc::Global;
 use std::sync::Wait;
 
@@ -81,13 +83,15 @@ impl<T: Clone + Drop, R: Wait + Drop> StateReceiver<T, R> {
     /// `StateReceiver::receive`.
     pub fn receive(&self, seen: StateId) -> Result<StateReceiveFuture<T, R>, Fault>
         ensures made { IfOk result (λ future. IsNew self.now future) }
+        ensures asks { IfOk result (AsksNewer T seen) }
         ensures fault { IfErr result (λ fault. fault ≡ Fault.NoMemory) }
     {
         let shared = self.share()?;
         let claim = |ends: &mut CountedEnds<
             StateBroadcastState<T, PollWaker>,
         >, seen: StateId| -> Result<Slot, Fault>
-            ensures { IfErr result (λ fault. fault ≡ Fault.NoMemory) }
+            ensures made { IfOk result (λ slot. InSomeHold {S = StateMachine T (Option Waker)} (λ old new. Makes old seen slot.0 new)) }
+            ensures fault { IfErr result (λ fault. fault ≡ Fault.NoMemory) }
         { ends.claim_receive(seen) };
         future_of(shared, seen, claim)
     }
@@ -117,6 +121,16 @@ impl<T: Clone + Drop, R: Wait + Drop> StateReceiver<T, R> {
     {
         self.channel()
             .call(seen, |ends, seen| ends.try_receive(seen))
+    }
+}
+
+impl<T: Clone + Drop> EndNames for StateBroadcastState<T, PollWaker> {
+    fn sender() -> &'static str {
+        "StateSender"
+    }
+
+    fn receiver() -> &'static str {
+        "StateReceiver"
     }
 }
 
@@ -181,6 +195,19 @@ impl<T: Clone + Drop> CountedEnds<StateBroadcastState<T, PollWaker>> {
         ensures fault { IfErr result (λ fault. fault ≡ Fault.NoMemory) }
     {
         self.state.try_receive(seen)
+    }
+
+    /// What a receive of a state newer than `seen` is answered at once: a clone of the newest with its number, or None where the
+    /// channel is closed. Pending where it would have to wait. Refused with `NoMemory` if the clone could not be allocated.
+    pub fn receive_at_once(&self, seen: StateId) -> Poll<Result<Option<(StateId, T)>, Fault>>
+        ensures { AnswersAtOnce T.is_clone T.is_infallible self.now.state seen result }
+    {
+        match self.try_receive(seen) {
+            Ok(Some(state)) => Poll::Ready(Ok(Some(state))),
+            Ok(None) if self.state.is_closed() => Poll::Ready(Ok(None)),
+            Ok(None) => Poll::Pending,
+            Err(fault) => Poll::Ready(Err(fault)),
+        }
     }
 
     /// Lends the newest state to a call, and gives its number and what the call answers; None before the first send.

@@ -6,18 +6,20 @@ ghost use Rattle.fi_channels.specs.StateBroadcast.{StateMachine, TriesReceive, M
 ghost use Rattle.fi_sync.specs.Received.{PollsState};
 ghost use Rattle.fi_sync.specs.Waiting.{WaitedFor};
 ghost use Rattle.futures_intrusive.specs.Readers.{IsRead, Reads, Lends};
+ghost use Rattle.futures_intrusive.specs.StateStreams.{AnswersAtOnce};
 
 use crate::counted_ends::CountedEnds;
 use crate::state_ends::StateReceiver;
 use fi_channels::StateBroadcastState;
 use fi_parts::{Fault, StateId};
 use fi_sync::{Blocking, PollWaker};
+use futures::task::Poll;
 use std::marker::Model;
 use std::sync::Wait;
 
 /// Reads each newest state of a channel once: a receiver, and the number of the newest state that it has read.
 ///
-/// It owns its receiver and drops it. The Rust crate has none: there a user keeps the `StateId`.
+/// It owns its receiver and drops it. A task takes its `into_stream`. The Rust crate has none: there a user keeps the `StateId`.
 ///
 /// # Examples
 ///
@@ -131,6 +133,26 @@ impl<T: Clone + Drop, R: Wait + Drop> StateReader<T, R> {
         self.read(looked)
     }
 
+    // What a receive of a newer state is answered at once: one, or None where the channel is closed. It is pending where it would have
+    // to wait.
+    pub(crate) fn receive_at_once(&self) -> Poll<Result<Option<(StateId, T)>, Fault>>
+        ensures { (held : StateMachine T (Option Waker)) × AnswersAtOnce T.is_clone T.is_infallible held self.now.seen result }
+    {
+        let call = |ends: &mut CountedEnds<
+            StateBroadcastState<T, PollWaker>,
+        >, seen: StateId| -> Poll<Result<Option<(StateId, T)>, Fault>>
+            ensures { (held : StateMachine T (Option Waker)) × AnswersAtOnce T.is_clone T.is_infallible held seen result }
+        { ends.receive_at_once(seen) };
+        self.receiver.channel().call(self.seen, call)
+    }
+
+    // Remembers that the state of this number was read.
+    pub(crate) fn remember(&mut self, id: StateId)
+        ensures { self.new ≡ record self.old { seen = id } }
+    {
+        self.seen = id;
+    }
+
     // Remembers the number of this state, if there is one, and gives what comes with it.
     fn read<A>(&mut self, state: Option<(StateId, A)>) -> Option<A>
         ensures { IsRead self.old state result self.new }
@@ -138,7 +160,7 @@ impl<T: Clone + Drop, R: Wait + Drop> StateReader<T, R> {
         let Some((id, value)) = state else {
             return None;
         };
-        self.seen = id;
+        self.remember(id);
         Some(value)
     }
 }

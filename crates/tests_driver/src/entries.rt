@@ -13,13 +13,13 @@ use tests_rows::call_of;
 
 /// A call, its answer, and the wakers of those whom it wakes, in their order. A drop has no answer, whatever stands here.
 #[derive(Drop)]
-pub struct Entry<C> {
+pub struct AnsweredCall<C> {
     pub call: C,
     pub answer: Answer<u64, u64>,
     pub woken: Vec<u64>,
 }
 
-impl<C: Copy> Entry<C> {
+impl<C: Copy> AnsweredCall<C> {
     /// The line that says the same.
     pub fn line(&self) -> Line<'_, C> {
         Line {
@@ -76,7 +76,11 @@ impl<P: Scripted> Reader<P> {
     }
 
     // Makes the call of a line on the state. Some(None) where the line has none that a type that threads share can make.
-    fn entry<R: AllocGlobal>(&mut self, rt: &R, line: &str) -> Option<Option<Entry<P::Call>>> {
+    fn entry<R: AllocGlobal>(
+        &mut self,
+        rt: &R,
+        line: &str,
+    ) -> Option<Option<AnsweredCall<P::Call>>> {
         let line = call_of(line).as_bytes();
         let (_, request) = self.labels.read::<P>(line)?;
         let Some(request) = request else {
@@ -93,7 +97,7 @@ impl<P: Scripted> Reader<P> {
             return Some(None);
         }
         let woken = take_wakers(rt, &mut self.state).ok()?;
-        Some(Some(Entry {
+        Some(Some(AnsweredCall {
             call,
             answer,
             woken,
@@ -115,7 +119,7 @@ pub fn entries_of<R: AllocGlobal, P: Scripted>(
     rt: &R,
     opening: P::Opening,
     row: &str,
-) -> Option<Vec<Entry<P::Call>>> {
+) -> Option<Vec<AnsweredCall<P::Call>>> {
     let mut reader = Reader::<P>::open(rt.alloc(), opening)?;
     let mut entries = Vec::new(rt.alloc());
     let (_, lines) = row.split_once('\n')?;

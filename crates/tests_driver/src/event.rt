@@ -2,7 +2,6 @@
 
 use crate::owned::Futures;
 use crate::tasks::Tasks;
-use crate::worked::OfOpening;
 use crate::{Flavour, Opened, Play, Played, Seen};
 use fi_parts::Slot;
 use fi_run::{Answer, EventCall};
@@ -52,8 +51,8 @@ pub struct Event {
     pub is_set: bool,
 }
 
-impl OfOpening<bool> for Event {
-    fn of_opening(is_set: bool) -> Self {
+impl From<bool> for Event {
+    fn from(is_set: bool) -> Self {
         Event { is_set }
     }
 }

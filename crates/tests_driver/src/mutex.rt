@@ -3,7 +3,6 @@ ghost use Rattle.std.specs.Prelude.{◌≡◌};
 
 use crate::owned::Futures;
 use crate::tasks::Tasks;
-use crate::worked::OfOpening;
 use crate::{Flavour, Opened, Play, Played, Seen};
 use fi_parts::{Fault, Slot};
 use fi_run::{Answer, MutexCall};
@@ -120,8 +119,8 @@ pub struct MutexOf {
     pub is_fair: bool,
 }
 
-impl OfOpening<(u64, bool)> for MutexOf {
-    fn of_opening((value, is_fair): (u64, bool)) -> Self {
+impl From<(u64, bool)> for MutexOf {
+    fn from((value, is_fair): (u64, bool)) -> Self {
         MutexOf { value, is_fair }
     }
 }

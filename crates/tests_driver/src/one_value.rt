@@ -2,7 +2,6 @@
 
 use crate::owned::Futures;
 use crate::tasks::Tasks;
-use crate::worked::OfOpening;
 use crate::{Flavour, Opened, Play, Played, Seen};
 use fi_channels::{ClonesValue, GivesValue, OneValueState, TakesValue};
 use fi_parts::Slot;
@@ -64,8 +63,8 @@ pub const BROADCAST: OneValue<ClonesValue> = OneValue {
     giving: PhantomData,
 };
 
-impl<G> OfOpening<()> for OneValue<G> {
-    fn of_opening(_opening: ()) -> Self {
+impl<G> From<()> for OneValue<G> {
+    fn from(_opening: ()) -> Self {
         OneValue {
             giving: PhantomData,
         }

@@ -4,7 +4,6 @@ ghost use Rattle.std.specs.Prelude.{◌≡◌};
 use crate::owned::{Futures, ROOM};
 use crate::pollable::Pollable;
 use crate::tasks::Tasks;
-use crate::worked::OfOpening;
 use crate::{Flavour, Opened, Play, Played, Seen};
 use fi_parts::{Fault, Slot};
 use fi_run::{Answer, SemaphoreCall};
@@ -351,8 +350,8 @@ pub struct Opening {
 #[derive(Drop)]
 pub struct ByReference(pub Opening);
 
-impl OfOpening<(usize, bool)> for ByReference {
-    fn of_opening((permits, is_fair): (usize, bool)) -> Self {
+impl From<(usize, bool)> for ByReference {
+    fn from((permits, is_fair): (usize, bool)) -> Self {
         ByReference(Opening { is_fair, permits })
     }
 }
@@ -374,8 +373,8 @@ impl<R: Wait + Copy + AllocGlobal> Flavour<R> for ByReference {
 #[derive(Drop)]
 pub struct ByOwners(pub Opening);
 
-impl OfOpening<(usize, bool)> for ByOwners {
-    fn of_opening((permits, is_fair): (usize, bool)) -> Self {
+impl From<(usize, bool)> for ByOwners {
+    fn from((permits, is_fair): (usize, bool)) -> Self {
         ByOwners(Opening { is_fair, permits })
     }
 }

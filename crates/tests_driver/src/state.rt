@@ -2,7 +2,6 @@
 
 use crate::owned::Futures;
 use crate::tasks::Tasks;
-use crate::worked::OfOpening;
 use crate::{Flavour, Opened, Play, Played, Seen};
 use fi_parts::{Slot, StateId};
 use fi_run::{Answer, StateCall};
@@ -58,8 +57,8 @@ impl<'a, R: Wait> Opened<R, StateCall<u64, u64>>
 #[derive(Drop)]
 pub struct StateBroadcast;
 
-impl OfOpening<()> for StateBroadcast {
-    fn of_opening(_opening: ()) -> Self {
+impl From<()> for StateBroadcast {
+    fn from(_opening: ()) -> Self {
         StateBroadcast
     }
 }

@@ -2,7 +2,6 @@
 
 use crate::owned::Futures;
 use crate::tasks::Tasks;
-use crate::worked::OfOpening;
 use crate::{Flavour, Opened, Play, Played, Seen};
 use fi_parts::{MockClock, Slot};
 use fi_run::{Answer, TimerCall};
@@ -73,8 +72,8 @@ impl<R: Wait + Copy + AllocGlobal> SharedTimer<R> {
 #[derive(Drop)]
 pub struct Timer;
 
-impl OfOpening<()> for Timer {
-    fn of_opening(_opening: ()) -> Self {
+impl From<()> for Timer {
+    fn from(_opening: ()) -> Self {
         Timer
     }
 }

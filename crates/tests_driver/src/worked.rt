@@ -1,6 +1,6 @@
 //! Worked rows, played on types that threads share.
 
-use crate::entries::{Entry, entries_of};
+use crate::entries::{AnsweredCall, entries_of};
 use crate::tasks::Tasks;
 use crate::{Flavour, Opened, Play, Played, agrees};
 use fi_scripts::Scripted;
@@ -9,15 +9,10 @@ use std::random::RandomSource;
 use std::sync::Wait;
 use tests_rows::{Row, opening_of};
 
-/// A type that is opened as scripts open its plain state.
-pub trait OfOpening<O> {
-    fn of_opening(opening: O) -> Self;
-}
-
 /// Plays the calls of a row.
 #[derive(Drop)]
 struct Worked<'a, C> {
-    entries: &'a [Entry<C>],
+    entries: &'a [AnsweredCall<C>],
 }
 
 impl<R: Wait, C: Copy> Play<R, C> for Worked<'_, C> {
@@ -89,12 +84,12 @@ where
     P: Scripted,
     P::Opening: Copy,
     P::Call: Copy,
-    F: Flavour<R, Call = P::Call> + OfOpening<P::Opening> + Drop,
+    F: Flavour<R, Call = P::Call> + From<P::Opening> + Drop,
 {
     let mut went = Rows::Played(0);
     for row in rows {
         if let Some(opening) = opening_of::<P>(row.text) {
-            let flavour = F::of_opening(opening);
+            let flavour = F::from(opening);
             went = went.and(
                 row.name,
                 play_row::<R, P, F>(rt, &flavour, opening, row.text),

@@ -1,14 +1,11 @@
 //! Ends that are owned and counted: the last of a side closes the channel, and wakes those who wait.
 
-mod blocking;
 mod counts;
 mod debug;
-mod drops;
 mod iterates;
 mod many;
 mod reads;
 mod says;
-mod threads;
 
 use fi_channels::{SendFault, TryReceiveError, TrySendError};
 use fi_parts::{ChannelSendError, Fault, StateId};

@@ -7,5 +7,3 @@ mod ends;
 mod pages;
 #[cfg(test)]
 mod paths;
-#[cfg(test)]
-mod threads;

@@ -105,3 +105,13 @@ pub trait ReadsStates<T>: Drop {
 
     fn next_blocking(&mut self) -> Result<Option<T>, Fault>;
 }
+
+/// A stream of states, which may be polled at any time.
+pub trait StreamsStates<T>: Stream<Item = Result<T, Fault>> {
+    fn is_terminated(&self) -> bool;
+
+    /// The number of the state that was given last.
+    fn seen(&self) -> u64;
+
+    ghost is_pollable: { (any : Self) → Self.can_poll any };
+}

@@ -1,13 +1,16 @@
 //! The ends of the state broadcast.
 ghost use Rattle.std.specs.Prelude.{◌≡◌};
 
-use crate::{ClonedEnd, CountsEnds, Made, ReadsStates, ReceivesStates, SaysClosed, SendsAtOnce};
+use crate::{
+    ClonedEnd, CountsEnds, Made, ReadsStates, ReceivesStates, SaysClosed, SendsAtOnce,
+    StreamsStates,
+};
 use fi_parts::{ChannelSendError, Fault, StateId};
 use fi_sync::Blocking;
-use futures::Future;
 use futures::task::{Context, Poll};
+use futures::{Future, Stream};
 use futures_intrusive::channel::shared::{
-    self, StateReader, StateReceiveFuture, StateReceiver, StateSender,
+    self, StateReader, StateReceiveFuture, StateReceiver, StateSender, StateStream,
 };
 use std::alloc::Global;
 use std::sync::Wait;
@@ -37,6 +40,12 @@ pub struct Receiving<T: Clone + Drop, R: Wait + Drop> {
     future: StateReceiveFuture<T, R>,
 }
 
+/// A stream.
+#[derive(Drop)]
+pub struct States<T: Clone + Drop, R: Wait + Drop> {
+    stream: StateStream<T, R>,
+}
+
 /// As `shared::state_broadcast_channel`.
 pub fn state_broadcast_channel<T: Clone + Drop, R: Wait + Drop>(
     alloc: Global,
@@ -50,6 +59,14 @@ impl<T: Clone + Drop, R: Wait + Drop> Receiver<T, R> {
     pub fn into_reader(self) -> Reader<T, R> {
         Reader {
             reader: self.end.into_reader(),
+        }
+    }
+}
+
+impl<T: Clone + Drop, R: Wait + Drop> Reader<T, R> {
+    pub fn into_stream(self) -> States<T, R> {
+        States {
+            stream: self.reader.into_stream(),
         }
     }
 }
@@ -139,5 +156,27 @@ impl<T: Clone + Drop, R: Wait + Drop> Future for Receiving<T, R> {
 }
 
 impl<T: Clone + Drop, R: Wait + Drop> Pollable for Receiving<T, R> {
+    ghost is_pollable = { λ _. tt };
+}
+
+impl<T: Clone + Drop, R: Wait + Drop> Stream for States<T, R> {
+    type Item = Result<T, Fault>;
+
+    ghost needs = { λ states source. source ≡ states.stream.reader.source };
+
+    fn poll_next(&mut self, cx: &mut Context<'_>) -> Poll<Option<Result<T, Fault>>> {
+        self.stream.poll_next(cx)
+    }
+}
+
+impl<T: Clone + Drop, R: Wait + Drop> StreamsStates<T> for States<T, R> {
+    fn is_terminated(&self) -> bool {
+        self.stream.is_terminated()
+    }
+
+    fn seen(&self) -> u64 {
+        self.stream.reader().seen().value()
+    }
+
     ghost is_pollable = { λ _. tt };
 }

@@ -9,7 +9,6 @@ use tests_driver::owned::Futures;
 use tests_driver::pollable::Pollable;
 use tests_driver::state::asked;
 use tests_driver::tasks::Tasks;
-use tests_driver::worked::OfOpening;
 use tests_driver::{Flavour, Opened, Play, Played, Seen};
 use tests_ends_calls::one_value::{oneshot_broadcast_channel, oneshot_channel};
 use tests_ends_calls::states::state_broadcast_channel;
@@ -131,8 +130,8 @@ where
 #[derive(Drop)]
 pub struct OneshotEnds;
 
-impl OfOpening<()> for OneshotEnds {
-    fn of_opening(_opening: ()) -> Self {
+impl From<()> for OneshotEnds {
+    fn from(_opening: ()) -> Self {
         OneshotEnds
     }
 }
@@ -156,8 +155,8 @@ impl<R: Wait + Copy + Drop + AllocGlobal> Flavour<R> for OneshotEnds {
 #[derive(Drop)]
 pub struct BroadcastEnds;
 
-impl OfOpening<()> for BroadcastEnds {
-    fn of_opening(_opening: ()) -> Self {
+impl From<()> for BroadcastEnds {
+    fn from(_opening: ()) -> Self {
         BroadcastEnds
     }
 }
@@ -181,8 +180,8 @@ impl<R: Wait + Copy + Drop + AllocGlobal> Flavour<R> for BroadcastEnds {
 #[derive(Drop)]
 pub struct StateEnds;
 
-impl OfOpening<()> for StateEnds {
-    fn of_opening(_opening: ()) -> Self {
+impl From<()> for StateEnds {
+    fn from(_opening: ()) -> Self {
         StateEnds
     }
 }

@@ -1,7 +1,7 @@
 //! The texts of `Debug` and `Display`.
 use fi_parts::{
-    ChannelSendError, Deadlines, Entry, Fault, Future, Leftover, Line, LinkedList, MockClock,
-    Outbox, PairingHeap, Phase, StdClock, Ticket, Waits,
+    ChannelSendError, Deadlines, Entry, Fault, Future, Leftover, LinkedList, MockClock, Outbox,
+    PairingHeap, Phase, StdClock, Ticket, WaitQueue, Waits,
 };
 use std::alloc::Global;
 use std::io::{self, ErrorKind};
@@ -40,8 +40,8 @@ fn an_outbox_shows_its_name(rt: HostRuntime) {
 
 #[test]
 fn a_line_shows_its_name(rt: HostRuntime) {
-    let line = Line::<u32, u64>::new(rt.alloc());
-    assert!(rt; shows(rt.alloc(), &line, "Line"));
+    let line = WaitQueue::<u32, u64>::new(rt.alloc());
+    assert!(rt; shows(rt.alloc(), &line, "WaitQueue"));
 }
 
 #[test]

@@ -13,3 +13,5 @@ mod pools;
 mod runs;
 #[cfg(test)]
 mod scripts;
+#[cfg(test)]
+mod tables;

@@ -7,8 +7,8 @@ use fi_channels::{ClonesValue, GivesValue, TakesValue, TrySendError};
 use fi_parts::Fault;
 use fi_parts::buffer::{ArrayBuf, FixedHeapBuf, GrowingHeapBuf, RingBuf};
 use fi_sync::{
-    Blocking, Channel, GenericChannel, ManualResetEvent, Mutex, OneValueChannel, Semaphore,
-    SharedSemaphore, StateBroadcastChannel, TimerService, UnbufferedChannel,
+    AutoResetEvent, Blocking, Channel, GenericChannel, ManualResetEvent, Mutex, OneValueChannel,
+    Semaphore, SharedSemaphore, StateBroadcastChannel, TimerService, UnbufferedChannel,
 };
 use std::alloc::{Alloc, AllocGlobal};
 use std::marker::Brand;
@@ -143,6 +143,21 @@ fn a_wait_blocks_until_the_event_is_set(rt: HostRuntime) {
     let executors = &AtomicU64::new(0);
     let event = ManualResetEvent::new(rt.alloc(), Counting::new(&rt, executors), false);
     assert!(rt; has_blocked(&rt, &event) && is_one(executors));
+}
+
+#[test]
+fn a_wait_blocks_until_it_passes(rt: HostRuntime) {
+    let executors = &AtomicU64::new(0);
+    let event = AutoResetEvent::new(rt.alloc(), Counting::new(&rt, executors), false, true);
+    assert!(rt; has_blocked(&rt, &event) && is_one(executors) && !event.is_set());
+}
+
+#[test]
+fn a_wait_for_a_set_event_passes_at_once(rt: HostRuntime) {
+    let executors = &AtomicU64::new(0);
+    let event = AutoResetEvent::new(rt.alloc(), Counting::new(&rt, executors), true, true);
+    let passes = event.wait_blocking() == Ok(()) && !event.is_set();
+    assert!(rt; passes && executors.load(Ordering::SeqCst) == 0);
 }
 
 // Whether a wait for an event, with a limit that is far off, blocks.

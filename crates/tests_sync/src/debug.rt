@@ -1,11 +1,11 @@
-//! The texts of `Debug`: those of the Rust crate.
+//! The texts of `Debug`: those of the Rust crate, where it has the type.
 ghost use Rattle.fi_sync.specs.Blanks.{IsLockBlank, IsPermitBlank};
 
 use fi_locks::LocalMutex;
 use fi_parts::{MockClock, StateId};
 use fi_sync::{
-    Channel, ManualResetEvent, Mutex, OneshotBroadcastChannel, OneshotChannel, Semaphore,
-    SharedSemaphore, StateBroadcastChannel, TimerService,
+    AutoResetEvent, Channel, ManualResetEvent, Mutex, OneshotBroadcastChannel, OneshotChannel,
+    Semaphore, SharedSemaphore, StateBroadcastChannel, TimerService,
 };
 use std::alloc::AllocGlobal;
 use std::marker::Brand;
@@ -20,6 +20,13 @@ fn an_event_shows<R: Wait + AllocGlobal + Copy>(rt: R) -> Option<bool> {
     Some(is_event && shows(rt.alloc(), &wait, "GenericWaitForEventFuture"))
 }
 
+fn an_auto_reset_event_shows<R: Wait + AllocGlobal + Copy>(rt: R) -> Option<bool> {
+    let event = AutoResetEvent::new(rt.alloc(), rt, false, true);
+    let wait = event.wait().ok()?;
+    let is_event = shows(rt.alloc(), &event, "AutoResetEvent");
+    Some(is_event && shows(rt.alloc(), &wait, "WaitForAutoResetEventFuture"))
+}
+
 fn a_timer_shows<R: Wait + AllocGlobal + Copy>(rt: R) -> Option<bool> {
     let timer = TimerService::new(rt.alloc(), rt, MockClock::new());
     let deadline = timer.deadline(5).ok()?;
@@ -30,6 +37,7 @@ fn a_timer_shows<R: Wait + AllocGlobal + Copy>(rt: R) -> Option<bool> {
 #[test]
 fn an_event_and_a_timer_show_their_names(rt: HostRuntime) {
     assert!(rt; an_event_shows(rt) == Some(true) && a_timer_shows(rt) == Some(true));
+    assert!(rt; an_auto_reset_event_shows(rt) == Some(true));
 }
 
 fn states_show<R: Wait + AllocGlobal + Copy>(rt: R) -> Option<bool> {

@@ -2,6 +2,8 @@
 #![tactic(auto)]
 
 #[cfg(test)]
+mod auto_reset_event;
+#[cfg(test)]
 mod blocking;
 #[cfg(test)]
 mod channel;

@@ -9,11 +9,11 @@ use std::marker::Model;
 
 /// A ring of items, or nothing yet: a ring can be made only where there is memory.
 #[derive(Drop)]
-pub(crate) struct Block<T> {
+pub(crate) struct BufferBlock<T> {
     ring: Option<HeapCircularBuffer<T>>,
 }
 
-impl<T> Model for Block<T> {
+impl<T> Model for BufferBlock<T> {
     ghost use Rattle.std.specs.Prelude.{◌≤◌, length};
     ghost use Rattle.circular_buffer.specs.Buffer.{Buffer, buffer_code};
 
@@ -28,20 +28,20 @@ impl<T> Model for Block<T> {
     ghost invariant = { λ b. length (block_of b.ring).items ≤ (block_of b.ring).capacity };
 }
 
-impl<T: Drop> Block<T> {
+impl<T: Drop> BufferBlock<T> {
     /// Returns a block that holds nothing, and has no memory.
-    pub(crate) fn new() -> Block<T>
+    pub(crate) fn new() -> BufferBlock<T>
         ensures { result ≡ buffer [] 0 }
     {
-        Block { ring: None }
+        BufferBlock { ring: None }
     }
 
     /// Returns an empty block for `capacity` items.
-    pub(crate) fn with_capacity(alloc: Global, capacity: usize) -> Result<Block<T>, Refused>
+    pub(crate) fn with_capacity(alloc: Global, capacity: usize) -> Result<BufferBlock<T>, Refused>
         ensures { IfOk result (λ block. block ≡ buffer [] capacity) }
     {
         let ring = ring_for(alloc, capacity)?;
-        Ok(Block { ring: Some(ring) })
+        Ok(BufferBlock { ring: Some(ring) })
     }
 
     pub(crate) fn len(&self) -> usize

@@ -3,7 +3,7 @@ ghost use Rattle.std.specs.Prelude.{◌≡◌, ◌<◌, ◌≤◌, ◌==◌, len
 ghost use Rattle.fi_parts.specs.Buffer.{Fits, empty, pushed, reserved_after};
 
 use super::RingBuf;
-use super::block::Block;
+use super::block::BufferBlock;
 use crate::errors::NoRoom;
 use crate::memory::Refused;
 use std::alloc::Global;
@@ -26,7 +26,7 @@ use std::{fmt, mem};
 /// ```
 #[derive(Drop)]
 pub struct FixedHeapBuf<T> {
-    block: Block<T>,
+    block: BufferBlock<T>,
     capacity: usize,
     alloc: Global,
 }
@@ -71,7 +71,7 @@ impl<T: Drop> RingBuf for FixedHeapBuf<T> {
 
     fn new(alloc: Global) -> FixedHeapBuf<T> {
         FixedHeapBuf {
-            block: Block::new(),
+            block: BufferBlock::new(),
             capacity: 0,
             alloc,
         }
@@ -80,7 +80,7 @@ impl<T: Drop> RingBuf for FixedHeapBuf<T> {
     fn with_capacity(alloc: Global, capacity: usize) -> Result<FixedHeapBuf<T>, Refused>
         ensures ok { IfOk result (λ made. made ≡ empty capacity capacity) }
     {
-        let block = Block::with_capacity(alloc, capacity)?;
+        let block = BufferBlock::with_capacity(alloc, capacity)?;
         Ok(FixedHeapBuf {
             block,
             capacity,
@@ -128,7 +128,7 @@ impl<T: Drop> RingBuf for FixedHeapBuf<T> {
 
     fn take(&mut self) -> FixedHeapBuf<T> {
         let empty = FixedHeapBuf {
-            block: Block::new(),
+            block: BufferBlock::new(),
             capacity: self.capacity,
             alloc: self.alloc,
         };

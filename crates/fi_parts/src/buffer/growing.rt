@@ -3,7 +3,7 @@ ghost use Rattle.std.specs.Prelude.{◌≡◌, ◌<◌, ◌≤◌, ◌==◌, len
 ghost use Rattle.fi_parts.specs.Buffer.{Fits, empty, pushed, doubled, reserved_after};
 
 use super::RingBuf;
-use super::block::Block;
+use super::block::BufferBlock;
 use crate::errors::NoRoom;
 use crate::memory::Refused;
 use std::alloc::Global;
@@ -29,7 +29,7 @@ const LEAST: usize = 4;
 /// ```
 #[derive(Drop)]
 pub struct GrowingHeapBuf<T> {
-    block: Block<T>,
+    block: BufferBlock<T>,
     limit: usize,
     alloc: Global,
 }
@@ -76,7 +76,7 @@ impl<T: Drop> RingBuf for GrowingHeapBuf<T> {
 
     fn new(alloc: Global) -> GrowingHeapBuf<T> {
         GrowingHeapBuf {
-            block: Block::new(),
+            block: BufferBlock::new(),
             limit: 0,
             alloc,
         }
@@ -87,7 +87,7 @@ impl<T: Drop> RingBuf for GrowingHeapBuf<T> {
         ensures made { IfOk result (λ made. made ≡ empty capacity 0) }
     {
         Ok(GrowingHeapBuf {
-            block: Block::new(),
+            block: BufferBlock::new(),
             limit: capacity,
             alloc,
         })
@@ -133,7 +133,7 @@ impl<T: Drop> RingBuf for GrowingHeapBuf<T> {
 
     fn take(&mut self) -> GrowingHeapBuf<T> {
         let empty = GrowingHeapBuf {
-            block: Block::new(),
+            block: BufferBlock::new(),
             limit: self.limit,
             alloc: self.alloc,
         };

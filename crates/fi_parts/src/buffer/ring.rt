@@ -7,26 +7,6 @@ use crate::memory::{Refused, items_for};
 use std::alloc::Global;
 use std::marker::Model;
 
-/// Returns the slot that lies `offset` behind `start`, round the end of `slots` slots.
-fn slot_behind(start: usize, offset: usize, slots: usize) -> usize
-    requires { (start < slots) × (offset ≤ slots) × (slots < 2 ^ 63) }
-    ensures { Wraps start offset slots result }
-{
-    let slot = start + offset;
-    if slot < slots { slot } else { slot - slots }
-}
-
-/// Returns `count` empty slots.
-fn empty_slots<T: Drop>(alloc: Global, count: usize) -> Result<Vec<Option<T>>, Refused>
-    ensures { IfOk result (λ slots. slots.items ≡ replicate count None) }
-{
-    let mut slots = items_for(alloc, count)?;
-    for made in 0..count {
-        slots.push_reserved(None);
-    }
-    Ok(slots)
-}
-
 /// The items lie in the slots from `start` on, and go on at slot 0 when they reach the end.
 #[derive(Drop)]
 pub(crate) struct Ring<T> {
@@ -115,4 +95,24 @@ impl<T: Drop> Ring<T> {
             None => unreachable!(),
         }
     }
+}
+
+/// Returns the slot that lies `offset` behind `start`, round the end of `slots` slots.
+fn slot_behind(start: usize, offset: usize, slots: usize) -> usize
+    requires { (start < slots) × (offset ≤ slots) × (slots < 2 ^ 63) }
+    ensures { Wraps start offset slots result }
+{
+    let slot = start + offset;
+    if slot < slots { slot } else { slot - slots }
+}
+
+/// Returns `count` empty slots.
+fn empty_slots<T: Drop>(alloc: Global, count: usize) -> Result<Vec<Option<T>>, Refused>
+    ensures { IfOk result (λ slots. slots.items ≡ replicate count None) }
+{
+    let mut slots = items_for(alloc, count)?;
+    for made in 0..count {
+        slots.push_reserved(None);
+    }
+    Ok(slots)
 }

@@ -1,12 +1,12 @@
 //! Script lines of the channel of many values. A send's letter is `s`, that of a receive or a stream `r`.
 ghost use Rattle.std.specs.Prelude.{◌≡◌, ◌≢◌, ◌⊎◌, IfErr};
 
-use super::{MOST_PLACES, ScriptError, ScriptLines};
+use super::{MOST_PLACES, ScriptError, ScriptFutures, ScriptLines};
 use crate::answer::Answer;
 use crate::channel::ChannelCall;
 use fi_channels::ChannelState;
-use fi_parts::Slot;
 use fi_parts::buffer::{ArrayBuf, FixedHeapBuf, GrowingHeapBuf, RingBuf};
+use fi_parts::{Refused, Slot, Stage};
 use std::alloc::AllocError;
 
 /// A buffer over which a first line opens a channel.
@@ -77,6 +77,41 @@ impl<B: RingBuf<Item = u64> + ScriptBuffer> ScriptLines for ChannelState<u64, B,
                 | ChannelCall::NextWake,
                 _,
             ) => Ok(()),
+        }
+    }
+}
+
+impl<B: RingBuf<Item = u64> + ScriptBuffer> ScriptFutures for ChannelState<u64, B, u64> {
+    const LETTERS: &'static str = "sr";
+
+    fn future_of(call: &ChannelCall<u64, u64>, answer: &Answer<u64, u64>) -> Option<(char, Slot)> {
+        match (*call, *answer) {
+            (ChannelCall::Send(_), Answer::Made(slot))
+            | (ChannelCall::PollSend(slot, _) | ChannelCall::CancelSend(slot), _) => Some((
+                's', slot,
+            )),
+            (ChannelCall::Receive | ChannelCall::Stream, Answer::Made(slot))
+            | (
+                ChannelCall::PollReceive(slot, _)
+                | ChannelCall::PollNext(slot, _)
+                | ChannelCall::CancelReceive(slot),
+                _,
+            ) => Some(('r', slot)),
+            _ => None,
+        }
+    }
+
+    fn stage_of(&self, letter: char, slot: Slot) -> Option<Stage> {
+        match letter {
+            's' => self.send_stage(slot),
+            _ => self.receive_stage(slot),
+        }
+    }
+
+    fn queue_of(&mut self, letter: char, slots: &mut Vec<Slot>) -> Result<(), Refused> {
+        match letter {
+            's' => self.send_queue(slots),
+            _ => self.receive_queue(slots),
         }
     }
 }

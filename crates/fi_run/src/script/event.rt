@@ -1,9 +1,9 @@
 //! Script lines of the event. A wait's letter is `w`.
-use super::{ScriptError, ScriptLines};
+use super::{ScriptError, ScriptFutures, ScriptLines};
 use crate::answer::Answer;
 use crate::event::EventCall;
 use fi_channels::EventState;
-use fi_parts::Slot;
+use fi_parts::{Refused, Slot, Stage};
 use std::alloc::AllocError;
 
 impl ScriptLines for EventState<u64> {
@@ -26,5 +26,25 @@ impl ScriptLines for EventState<u64> {
             (EventCall::IsSet, _) => script.push_str("is-set"),
             (EventCall::Wait | EventCall::NextWake, _) => Ok(()),
         }
+    }
+}
+
+impl ScriptFutures for EventState<u64> {
+    const LETTERS: &'static str = "w";
+
+    fn future_of(call: &EventCall<u64>, answer: &Answer<u64, u64>) -> Option<(char, Slot)> {
+        match (*call, *answer) {
+            (EventCall::Wait, Answer::Made(slot))
+            | (EventCall::Poll(slot, _) | EventCall::Cancel(slot), _) => Some(('w', slot)),
+            _ => None,
+        }
+    }
+
+    fn stage_of(&self, _letter: char, slot: Slot) -> Option<Stage> {
+        self.stage(slot)
+    }
+
+    fn queue_of(&mut self, _letter: char, slots: &mut Vec<Slot>) -> Result<(), Refused> {
+        self.queue(slots)
     }
 }

@@ -1,9 +1,9 @@
 //! Script lines of the mutex. A future's letter is `l`.
-use super::{ScriptError, ScriptLines};
+use super::{ScriptError, ScriptFutures, ScriptLines};
 use crate::answer::Answer;
 use crate::mutex::MutexCall;
 use fi_locks::MutexState;
-use fi_parts::Slot;
+use fi_parts::{Refused, Slot, Stage};
 use std::alloc::AllocError;
 
 impl ScriptLines for MutexState<u64, u64> {
@@ -28,5 +28,25 @@ impl ScriptLines for MutexState<u64, u64> {
             (MutexCall::IsLocked, _) => script.push_str("is-locked"),
             (MutexCall::Lock | MutexCall::NextWake, _) => Ok(()),
         }
+    }
+}
+
+impl ScriptFutures for MutexState<u64, u64> {
+    const LETTERS: &'static str = "l";
+
+    fn future_of(call: &MutexCall<u64, u64>, answer: &Answer<u64, u64>) -> Option<(char, Slot)> {
+        match (*call, *answer) {
+            (MutexCall::Lock, Answer::Made(slot))
+            | (MutexCall::Poll(slot, _) | MutexCall::Cancel(slot), _) => Some(('l', slot)),
+            _ => None,
+        }
+    }
+
+    fn stage_of(&self, _letter: char, slot: Slot) -> Option<Stage> {
+        self.stage(slot)
+    }
+
+    fn queue_of(&mut self, _letter: char, slots: &mut Vec<Slot>) -> Result<(), Refused> {
+        self.queue(slots)
     }
 }

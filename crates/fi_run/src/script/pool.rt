@@ -1,9 +1,9 @@
 //! Script lines of the worker pool. A wait's letter is `w`.
-use super::{MOST_PLACES, ScriptError, ScriptLines};
+use super::{MOST_PLACES, ScriptError, ScriptFutures, ScriptLines};
 use crate::answer::Answer;
 use crate::pool::PoolCall;
 use crate::pool_state::PoolState;
-use fi_parts::Slot;
+use fi_parts::{Refused, Slot, Stage};
 use std::alloc::AllocError;
 
 impl ScriptLines for PoolState<u64> {
@@ -31,5 +31,25 @@ impl ScriptLines for PoolState<u64> {
             (PoolCall::Cancel(Slot(wait)), _) => write!(script, "cancel w{wait}"),
             (PoolCall::Wait | PoolCall::NextWake, _) => Ok(()),
         }
+    }
+}
+
+impl ScriptFutures for PoolState<u64> {
+    const LETTERS: &'static str = "w";
+
+    fn future_of(call: &PoolCall<u64>, answer: &Answer<u64, u64>) -> Option<(char, Slot)> {
+        match (*call, *answer) {
+            (PoolCall::Wait, Answer::Made(slot))
+            | (PoolCall::Poll(slot, _) | PoolCall::Cancel(slot), _) => Some(('w', slot)),
+            _ => None,
+        }
+    }
+
+    fn stage_of(&self, _letter: char, slot: Slot) -> Option<Stage> {
+        self.stage(slot)
+    }
+
+    fn queue_of(&mut self, _letter: char, slots: &mut Vec<Slot>) -> Result<(), Refused> {
+        self.queue(slots)
     }
 }

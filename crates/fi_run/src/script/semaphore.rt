@@ -1,9 +1,9 @@
 //! Script lines of the semaphore. A future's letter is `a`.
-use super::{ScriptError, ScriptLines};
+use super::{ScriptError, ScriptFutures, ScriptLines};
 use crate::answer::Answer;
 use crate::semaphore::SemaphoreCall;
 use fi_locks::SemaphoreState;
-use fi_parts::Slot;
+use fi_parts::{Refused, Slot, Stage};
 use std::alloc::AllocError;
 
 impl ScriptLines for SemaphoreState<u64> {
@@ -35,5 +35,25 @@ impl ScriptLines for SemaphoreState<u64> {
             (SemaphoreCall::Held, _) => script.push_str("held"),
             (SemaphoreCall::Acquire(_) | SemaphoreCall::NextWake, _) => Ok(()),
         }
+    }
+}
+
+impl ScriptFutures for SemaphoreState<u64> {
+    const LETTERS: &'static str = "a";
+
+    fn future_of(call: &SemaphoreCall<u64>, answer: &Answer<u64, u64>) -> Option<(char, Slot)> {
+        match (*call, *answer) {
+            (SemaphoreCall::Acquire(_), Answer::Made(slot))
+            | (SemaphoreCall::Poll(slot, _) | SemaphoreCall::Cancel(slot), _) => Some(('a', slot)),
+            _ => None,
+        }
+    }
+
+    fn stage_of(&self, _letter: char, slot: Slot) -> Option<Stage> {
+        self.stage(slot)
+    }
+
+    fn queue_of(&mut self, _letter: char, slots: &mut Vec<Slot>) -> Result<(), Refused> {
+        self.queue(slots)
     }
 }

@@ -1,9 +1,9 @@
 //! Script lines of the state broadcast. A receive's letter is `r`.
-use super::{ScriptError, ScriptLines};
+use super::{ScriptError, ScriptFutures, ScriptLines};
 use crate::answer::Answer;
 use crate::state::StateCall;
 use fi_channels::StateBroadcastState;
-use fi_parts::Slot;
+use fi_parts::{Refused, Slot, Stage};
 use std::alloc::AllocError;
 
 impl ScriptLines for StateBroadcastState<u64, u64> {
@@ -29,6 +29,26 @@ impl ScriptLines for StateBroadcastState<u64, u64> {
             StateCall::Close => script.push_str("close"),
             StateCall::NextWake => Ok(()),
         }
+    }
+}
+
+impl ScriptFutures for StateBroadcastState<u64, u64> {
+    const LETTERS: &'static str = "r";
+
+    fn future_of(call: &StateCall<u64, u64>, answer: &Answer<u64, u64>) -> Option<(char, Slot)> {
+        match (*call, *answer) {
+            (StateCall::Receive(_), Answer::Made(slot))
+            | (StateCall::Poll(slot, _) | StateCall::Cancel(slot), _) => Some(('r', slot)),
+            _ => None,
+        }
+    }
+
+    fn stage_of(&self, _letter: char, slot: Slot) -> Option<Stage> {
+        self.stage(slot)
+    }
+
+    fn queue_of(&mut self, _letter: char, slots: &mut Vec<Slot>) -> Result<(), Refused> {
+        self.queue(slots)
     }
 }
 

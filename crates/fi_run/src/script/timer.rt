@@ -1,9 +1,9 @@
 //! Script lines of the timer. A future's letter is `t`.
-use super::{ScriptError, ScriptLines};
+use super::{ScriptError, ScriptFutures, ScriptLines};
 use crate::answer::Answer;
 use crate::timer::TimerCall;
 use fi_locks::TimerState;
-use fi_parts::{Slot, whole_millis};
+use fi_parts::{Refused, Slot, Stage, whole_millis};
 use std::alloc::AllocError;
 
 impl ScriptLines for TimerState<u64> {
@@ -33,5 +33,31 @@ impl ScriptLines for TimerState<u64> {
             (TimerCall::Next, _) => script.push_str("next"),
             (TimerCall::Deadline(_) | TimerCall::Delay(..) | TimerCall::NextWake, _) => Ok(()),
         }
+    }
+}
+
+impl ScriptFutures for TimerState<u64> {
+    const LETTERS: &'static str = "t";
+
+    fn future_of(call: &TimerCall<u64>, answer: &Answer<u64, u64>) -> Option<(char, Slot)> {
+        match (*call, *answer) {
+            (TimerCall::Deadline(_) | TimerCall::Delay(..), Answer::Made(slot))
+            | (TimerCall::Poll(slot, ..) | TimerCall::Cancel(slot), _) => Some(('t', slot)),
+            _ => None,
+        }
+    }
+
+    fn stage_of(&self, _letter: char, slot: Slot) -> Option<Stage> {
+        self.stage(slot)
+    }
+
+    /// A timer has no queue.
+    fn queue_of(&mut self, _letter: char, _slots: &mut Vec<Slot>) -> Result<(), Refused> {
+        Ok(())
+    }
+
+    /// Its expiry.
+    fn rank_of(&self, _letter: char, slot: Slot) -> u64 {
+        self.expiry(slot).unwrap_or(0)
     }
 }

@@ -26,8 +26,9 @@ pub use crate::channel_ends::{
 pub use crate::counted_ends::{
     ClosesByEnds, CountedEnds, ManyReceivers, ManySenders, ReceivesClosed, SendsClosed,
 };
-pub use crate::debug::EndNames;
-pub use crate::ends::{CloneSide, End, Receivers, Senders, SharedChannel, SharedFutureOf, Side};
+pub use crate::ends::{
+    CloneSide, End, EndNames, Receivers, Senders, SharedChannel, SharedFutureOf, Side,
+};
 pub use crate::one_value_ends::{
     OneValueReceiver, OneValueSender, OneshotBroadcastReceiver, OneshotBroadcastSender,
     OneshotReceiver, OneshotSender, oneshot_broadcast_channel, oneshot_channel,
@@ -37,3 +38,4 @@ pub use crate::state_ends::{
     StateReceiveFuture, StateReceiver, StateSender, state_broadcast_channel,
 };
 pub use crate::state_reader::StateReader;
+pub use crate::state_stream::StateStream;

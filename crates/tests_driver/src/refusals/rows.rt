@@ -1,5 +1,5 @@
 //! Worked rows played on what threads share with no memory left, but for the makings: all other calls are answered, and wake, as ever.
-use crate::entries::{Entry, entries_of};
+use crate::entries::{AnsweredCall, entries_of};
 use crate::tasks::Tasks;
 use crate::{Flavour, Opened, Play, Played, agrees};
 use fi_run::Answer;
@@ -12,7 +12,7 @@ use tests_help::hoard::Hoard;
 /// Plays a row, each call but a making with no memory left.
 #[derive(Drop)]
 struct Starved<'a, C> {
-    entries: &'a [Entry<C>],
+    entries: &'a [AnsweredCall<C>],
     hoard: Hoard,
 }
 

@@ -40,6 +40,16 @@ fn a_shared_stream_shows_its_name(rt: HostRuntime) {
     assert!(rt; stream_shows(rt.alloc(), rt, "SharedStream") == Some(true));
 }
 
+fn stream_of_states_shows<R: Wait + Drop>(alloc: Global, rt: R, wanted: &str) -> Option<bool> {
+    let (_sender, receiver) = state_broadcast_channel::<u64, R>(alloc, rt).ok()?;
+    Some(shows(alloc, &receiver.into_reader().into_stream(), wanted))
+}
+
+#[test]
+fn a_stream_of_states_shows_its_name(rt: HostRuntime) {
+    assert!(rt; stream_of_states_shows(rt.alloc(), rt, "StateStream") == Some(true));
+}
+
 #[test]
 fn ends_of_one_value_show_their_names(rt: HostRuntime) {
     let ends = oneshot_channel::<u64, HostRuntime>(rt.alloc(), rt);

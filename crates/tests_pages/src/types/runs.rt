@@ -5,12 +5,12 @@ ghost use Rattle.std.specs.Prelude.{◌≡◌};
 use futures_intrusive::channel::{LocalChannel, OneshotState, StateBroadcastState, StateId};
 use futures_intrusive::run::{
     Answer, ChannelCall, Desk, Entry, EventCall, ExactEq, Journal, Mismatch, MutexCall,
-    OneshotCall, PoolCall, PoolState, Primitive, Receipt, ScriptError, SemaphoreCall, StateCall,
-    TimerCall,
+    OneshotCall, PoolCall, PoolState, Primitive, Receipt, ScriptError, ScriptFutures,
+    SemaphoreCall, StateCall, TimerCall,
 };
 use futures_intrusive::sync::{EventState, MutexState, SemaphoreState};
 use futures_intrusive::timer::TimerState;
-use futures_intrusive::{Fault, Slot};
+use futures_intrusive::{Fault, Slot, Stage};
 use std::alloc::AllocGlobal;
 use std::marker::Brand;
 use std::sync::Wait;
@@ -162,6 +162,18 @@ fn script_lines(rt: HostRuntime) -> Result<(), Fail> {
     let mut script = String::new(rt.alloc());
     journal.settle().write_script(&mut script)?;
     assert!(rt; script.as_str() == "event reset\nhold set\n");
+    Ok(())
+}
+
+#[test]
+fn script_futures(rt: HostRuntime) -> Result<(), Fail> {
+    let mut event: EventState<u64> = EventState::open(rt.alloc(), false)?;
+    let Answer::Made(wait) = event.apply(EventCall::Wait) else {
+        return Err("no memory".into());
+    };
+    assert!(rt; event.stage(wait) == Some(Stage::Fresh));
+    let future = EventState::<u64>::future_of(&EventCall::Cancel(wait), &Answer::Done);
+    assert!(rt; future == Some(('w', wait)) && event.stage_of('w', wait) == Some(Stage::Fresh));
     Ok(())
 }
 

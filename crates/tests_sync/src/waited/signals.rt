@@ -3,7 +3,8 @@
 use super::{Blocks, Crosses, Waited, given};
 use crate::timer::Shown;
 use fi_sync::{
-    Blocking, ManualResetEvent, TimerFuture, TimerService, WaitForEventFuture, wait_for,
+    AutoResetEvent, Blocking, ManualResetEvent, TimerFuture, TimerService, WaitForEventFuture,
+    wait_for,
 };
 use std::sync::atomic::{AtomicU64, Ordering};
 use std::time::Duration;
@@ -36,6 +37,24 @@ impl<'a, R: Blocking> Crosses for &'a ManualResetEvent<R> {
 
     fn is_given<Q: Blocking>(&self, rt: &Q, future: WaitForEventFuture<'a, R>) -> bool {
         matches!(given(rt, future), Some(Ok(())))
+    }
+}
+
+impl<R: Blocking> Waited for &AutoResetEvent<R> {
+    type Means = ();
+
+    fn hold(&self) -> Option<()> {
+        Some(())
+    }
+
+    fn bring(&self, _means: ()) {
+        self.set();
+    }
+}
+
+impl<R: Blocking> Blocks for &AutoResetEvent<R> {
+    fn blocks(&self) -> bool {
+        self.wait_blocking() == Ok(())
     }
 }
 

@@ -4,5 +4,5 @@ use Rattle.fi_channels.proofs.two_sides.TwoSides.next_wake.Goals as goal
 
 pub invariant_of-self : goal.invariant_of-self
 invariant_of-self g c =
-    tied_after_pop (ticket_in c.self.inside.lines) c.self.inside.outbox c.self.invariant c.pop.new.self
+    tied_after_pop (ticket_in c.self.inside.wait_queues) c.self.inside.outbox c.self.invariant c.pop.new.self
     c.pop.ensures.tickets c.pop.ensures.pairs

@@ -8,17 +8,17 @@ use Rattle.fi_channels.proofs.two_sides.TwoSides.notice_all.Goals as goal
 pub notice-requires-clause-registered : goal.notice-requires-clause-registered
 notice-requires-clause-registered g c _ _ =
     let one = c.in-Some.ensures in
-    waits g.met.S.Side.is_side c.loop-slot.self c.in-Some.slot.0 one.0 one.2 c.loop-slot.invariant.ordered one.1
+    waits g.met.S.OneSide.is_side c.loop-slot.self c.in-Some.slot.0 one.0 one.2 c.loop-slot.invariant.ordered one.1
 
 pub notice-requires-clause-no_pair : goal.notice-requires-clause-no_pair
 notice-requires-clause-no_pair g c _ _ =
     let one = c.in-Some.ensures in
-    unpaired g.met.S.Side.is_side c.loop-slot.self c.in-Some.slot.0 one.0 one.2 c.loop-slot.invariant.ordered one.1
+    unpaired g.met.S.OneSide.is_side c.loop-slot.self c.in-Some.slot.0 one.0 one.2 c.loop-slot.invariant.ordered one.1
 
 pub returns : goal.returns
 returns g c =
     let last = c.in_default.ensures in
-    last.1 ∙ sym (notify-none g.met.S.Side.is_side c.loop-slot.self (phase_after c.args.notice) last.0) ∙
+    last.1 ∙ sym (notify-none g.met.S.OneSide.is_side c.loop-slot.self (phase_after c.args.notice) last.0) ∙
     c.loop-slot.invariant.all
 
 pub loop-slot-preserved : goal.loop-slot-preserved
@@ -27,12 +27,12 @@ loop-slot-preserved g c =
     let now = c.loop-slot.self in
     let one = c.in-Some.ensures in
     let was = c.loop-slot.invariant.ordered in
-    let is = next g.met.S.Side.is_side now c.in-Some.slot.0 one.0 one.2 phase
+    let is = next g.met.S.OneSide.is_side now c.in-Some.slot.0 one.0 one.2 phase
     (rw (← c.phase.ensures) c.notice.ensures) in
     record {
-      all = ap (notify g.S.Side.side phase) is ∙ notify-step g.met.S.Side.is_side now phase c.in-Some.slot.0 one.0 was
+      all = ap (notify g.S.OneSide.side phase) is ∙ notify-step g.met.S.OneSide.is_side now phase c.in-Some.slot.0 one.0 was
           one.1
           ∙ c.loop-slot.invariant.all;
-      ordered = rw is (ordered g.met.S.Side.is_side now phase c.in-Some.slot.0 one.0 was one.1
+      ordered = rw is (ordered g.met.S.OneSide.is_side now phase c.in-Some.slot.0 one.0 was one.1
           (notices _ c.args.notice));
     }

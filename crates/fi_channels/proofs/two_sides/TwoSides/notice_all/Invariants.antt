@@ -6,9 +6,9 @@ use Rattle.fi_channels.proofs.two_sides.TwoSides.notice_all.Given as goal
 
 abbrev pub invariant-loop-slot : goal.invariant-loop-slot
 invariant-loop-slot g l = record {
-  all : notify g.S.Side.side (phase_after l.notice) l.self ≡ notify g.S.Side.side (phase_after l.notice) l.fn.self;
-  ordered : IsOrdered (g.S.Side.side.waiters l.self) (g.S.Side.side.pairs_in l.self.out);
+  all : notify g.S.OneSide.side (phase_after l.notice) l.self ≡ notify g.S.OneSide.side (phase_after l.notice) l.fn.self;
+  ordered : IsOrdered (g.S.OneSide.side.waiters l.self) (g.S.OneSide.side.pairs_in l.self.out);
 }
 
 abbrev pub decreases-loop-slot : goal.decreases-loop-slot
-decreases-loop-slot g l = length (g.S.Side.side.waiters l.self).queue
+decreases-loop-slot g l = length (g.S.OneSide.side.waiters l.self).queue

@@ -1,7 +1,7 @@
 use Rattle.std.proofs.Common.{◌≡◌, ℕ, true, Option, Some, None, is_some, refl, ap, sym, ◌∙◌, subst, rules as lemmas}
 use Rattle.std.proofs.lemmas.Bool.{both_ways}
 use Rattle.std.specs.FinMap as map
-use Rattle.fi_parts.specs.declared.phase.Future.{Future}
+use Rattle.fi_parts.specs.declared.phase.LiveFuture.{LiveFuture}
 use Rattle.fi_parts.specs.declared.phase.Phase.{Phase}
 use Rattle.fi_parts.specs.declared.phase.Phase.TheVariants.{Fresh, Registered, Told, Complete, Ended}
 use Rattle.fi_parts.specs.Effects.{TakesEffect}
@@ -38,7 +38,7 @@ cancels_told {W} old new name mid (Some Told) is told left own tells =
 cancels_told old new name mid (Some Complete) is told left own tells = absurd (both_ways _ refl told)
 cancels_told old new name mid (Some Ended) is told left own tells = absurd (both_ways _ refl told)
 
-told_cancelled : {T W : Type 0} (old new : MutexMachine T W) (name : ℕ) (future : Future (Unit {0}) W)
+told_cancelled : {T W : Type 0} (old new : MutexMachine T W) (name : ℕ) (future : LiveFuture (Unit {0}) W)
     (mid : Waiting (Unit {0}) W) →
     map.get old.waiting.side.live name ≡ Some future → is_told (Some future.phase) ≡ true →
     mid ≡ record { side = without_future old.waiting.side name; out = without_pair name old.waiting.out } →

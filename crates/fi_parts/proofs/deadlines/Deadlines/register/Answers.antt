@@ -1,7 +1,7 @@
 use Rattle.std.proofs.Common.{is_some, option_copied, sym, ap, ◌∙◌}
 use Rattle.fi_parts.specs.Waiting.{is_registered}
 use Rattle.fi_parts.specs.declared.phase.Phase.TheVariants.{Registered}
-use Rattle.fi_parts.proofs.Lines.{some_from_copied}
+use Rattle.fi_parts.proofs.WaitQueues.{some_from_copied}
 use Rattle.fi_parts.proofs.Seats.{lives_inside, asks_live, seat_free, kept-registered, seen-phase, phase-unseated}
 use Rattle.fi_parts.proofs.deadlines.Deadlines.register.Goals as goal
 

@@ -1,6 +1,6 @@
 use Rattle.std.proofs.Common.{◌≡◌, true, Option, Some, None, is_some, refl, sym, ap, ◌∙◌}
 use Rattle.std.specs.FinMap as map
-use Rattle.fi_parts.specs.declared.phase.Future.{Future}
+use Rattle.fi_parts.specs.declared.phase.LiveFuture.{LiveFuture}
 use Rattle.fi_parts.specs.Pairs.{waker_of}
 use Rattle.fi_parts.specs.Seats.{deadlines_of}
 use Rattle.fi_parts.specs.Waiting.{asks_in, phase_in, displaced_from}
@@ -8,7 +8,7 @@ use Rattle.fi_parts.proofs.Seats.{kept-forgotten, seen-forgotten, phase-unseated
 use Rattle.fi_parts.proofs.deadlines.Deadlines.remove.Goals as goal
 
 -- one that asks for something lives
-lives : {D W : Type 0} (future : Option (Future D W)) (asks : D) → asks_in future ≡ Some asks → is_some (phase_in future) ≡ true
+lives : {D W : Type 0} (future : Option (LiveFuture D W)) (asks : D) → asks_in future ≡ Some asks → is_some (phase_in future) ≡ true
 lives None asks is = cc
 lives (Some future) asks is = refl
 

@@ -8,7 +8,7 @@ use Rattle.fi_parts.proofs.waits.Waits.next_wake.Goals as goal
 
 pub invariant_of-self : goal.invariant_of-self
 invariant_of-self g c =
-    tied_after_pop (map.get c.self.inside.line.tickets) c.self.inside.outbox c.self.invariant c.pop.new.self
+    tied_after_pop (map.get c.self.inside.wait_queue.tickets) c.self.inside.outbox c.self.invariant c.pop.new.self
     c.pop.ensures.tickets c.pop.ensures.pairs
 
 pub returns-clause-value : goal.returns-clause-value
@@ -20,4 +20,4 @@ pub returns-clause-rest : goal.returns-clause-rest
 returns-clause-rest g c =
     let out : out_of c.pop.new.self.pairs ≡ drop 1 (out_of c.self.inside.outbox.pairs) =
     ap out_of c.pop.ensures.pairs ∙ out-drop c.self.inside.outbox.pairs in
-    rw (← c.self.view_is) (λ i. record { side = c.self.inside.line.side; out = out i })
+    rw (← c.self.view_is) (λ i. record { side = c.self.inside.wait_queue.side; out = out i })

@@ -1,5 +1,0 @@
-use Rattle.std.proofs.Common.{rules, refl}
-use Rattle.fi_parts.proofs.line.swap_asks.Goals as goal
-
-pub returns : goal.returns
-returns g c = (c.unwrap-entry.result.now, search rules, c.replace.ensures.value, rw c.replace.ensures.after refl)

@@ -1,2 +1,0 @@
-//! Thread-safe futures, where no clause says it.
-mod stress;
