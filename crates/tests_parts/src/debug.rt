@@ -1,7 +1,7 @@
 //! The texts of `Debug` and `Display`.
 use fi_parts::{
-    ChannelSendError, Deadlines, Entry, Fault, Future, Leftover, LinkedList, MockClock, Outbox,
-    PairingHeap, Phase, StdClock, Ticket, WaitQueue, Waits,
+    ChannelSendError, Deadlines, Fault, Leftover, LinkedList, LiveFuture, MockClock, Outbox,
+    PairingHeap, Phase, StdClock, Ticket, Ticketed, WaitQueue, Waits,
 };
 use std::alloc::Global;
 use std::io::{self, ErrorKind};
@@ -39,9 +39,9 @@ fn an_outbox_shows_its_name(rt: HostRuntime) {
 }
 
 #[test]
-fn a_line_shows_its_name(rt: HostRuntime) {
-    let line = WaitQueue::<u32, u64>::new(rt.alloc());
-    assert!(rt; shows(rt.alloc(), &line, "WaitQueue"));
+fn a_wait_queue_shows_its_name(rt: HostRuntime) {
+    let queue = WaitQueue::<u32, u64>::new(rt.alloc());
+    assert!(rt; shows(rt.alloc(), &queue, "WaitQueue"));
 }
 
 #[test]
@@ -57,17 +57,18 @@ fn deadlines_show_their_name(rt: HostRuntime) {
 }
 
 #[test]
-fn an_entry_shows_its_fields(rt: HostRuntime) {
-    let future = Future {
+fn what_has_a_ticket_shows_its_fields(rt: HostRuntime) {
+    let future = LiveFuture {
         asks: 5,
         phase: Phase::Registered(7),
     };
-    let entry = Entry {
+    let ticketed = Ticketed {
         ticket: Ticket(3),
         future,
     };
-    let wanted = "Entry { ticket: Ticket(3), future: Future { asks: 5, phase: Registered(7) } }";
-    assert!(rt; shows(rt.alloc(), &entry, wanted));
+    let wanted =
+        "Ticketed { ticket: Ticket(3), future: LiveFuture { asks: 5, phase: Registered(7) } }";
+    assert!(rt; shows(rt.alloc(), &ticketed, wanted));
 }
 
 #[test]
