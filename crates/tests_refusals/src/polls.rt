@@ -9,7 +9,7 @@ use std::alloc::AllocGlobal;
 use std::random::RandomSource;
 use std::sync::Wait;
 use tests_driver::channel::ChannelOver;
-use tests_driver::entries::{Entry, entries_of};
+use tests_driver::entries::{AnsweredCall, entries_of};
 use tests_driver::event::Event;
 use tests_driver::mutex::MutexOf;
 use tests_driver::one_value::{BROADCAST, ONESHOT};
@@ -122,7 +122,7 @@ fn calls_on_a_timer_take_no_memory(rt: HostRuntime) {
 /// Plays a row where a making was refused memory before.
 #[derive(Drop)]
 struct AfterRefusal<'a, C> {
-    entries: &'a [Entry<C>],
+    entries: &'a [AnsweredCall<C>],
     hoard: Hoard,
     making: C,
     refusal: Answer<u64, u64>,
