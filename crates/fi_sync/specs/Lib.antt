@@ -7,4 +7,5 @@ pub mod Timed
 pub mod Locked
 pub mod Granted
 pub mod Blanks
+pub mod Closable
 pub mod Received

@@ -7,6 +7,7 @@ use Rattle.fi_channels.specs.Polled.{Answered, displaced_by, unused_after}
 use Rattle.fi_parts.specs.Machine.{Machine, phase_at, displaced_at}
 use Rattle.fi_parts.specs.Polled.{LeavesWhere, WouldBeReady}
 use Rattle.fi_parts.specs.declared.errors.Fault.{Fault}
+use Rattle.fi_parts.specs.declared.errors.Fault.TheVariants.{Closed}
 use Rattle.fi_parts.specs.declared.phase.Leftover.{Leftover}
 use Rattle.fi_parts.specs.declared.phase.Phase.{Phase}
 use Rattle.fi_sync.specs.declared.claim.Fate.{Fate}
@@ -22,6 +23,16 @@ pub record SharedFuture : Type 0 where
 -- It registers at this source, has a name and has not ended.
 abbrev pub IsNew : ℕ → SharedFuture → Type 0
 IsNew source future = (name : ℕ) × (future ≡ record { source = source; name = Some name; has_ended = false })
+
+-- a refusal that ends its future: that the primitive is closed
+abbrev pub is_last_refusal : Fault → Bool
+is_last_refusal Closed = true
+is_last_refusal fault = false
+
+-- It ends its future: a value, or that the primitive is closed. Any other refusal doesn't.
+abbrev pub is_final : {T : Type 0} → Result T Fault → Bool
+is_final (Ok value) = true
+is_final (Err fault) = is_last_refusal fault
 
 -- the answer ends its future, where such outputs do
 abbrev pub ends : {A : Type 0} → (A → Bool) → Poll A → Bool

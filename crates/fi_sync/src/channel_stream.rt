@@ -16,7 +16,7 @@ use crate::slot_future::{PollOutput, PollSlot, SlotFuture, SlotPolled};
 use crate::wakes::PollWaker;
 use fi_channels::{ChannelReceiveAccess, ChannelState, ChannelStreaming};
 use fi_parts::buffer::RingBuf;
-use fi_parts::{Fault, Leftover, Slot};
+use fi_parts::{Fault, Leftover, Refused, Slot};
 use futures::task::{Context, Poll};
 use futures::{Future, Stream};
 use std::fmt;
@@ -110,8 +110,8 @@ impl<T> PollOutput for Option<Result<T, Fault>> {
         self.is_none()
     }
 
-    fn refused(fault: Fault) -> Self {
-        Some(Err(fault))
+    fn refused(refused: Refused) -> Self {
+        Some(Err(Fault::from(refused)))
     }
 }
 

@@ -1,6 +1,6 @@
 //! The mutex that threads share, its guard and its future.
 ghost use Rattle.std.specs.Arc.{arc_value};
-ghost use Rattle.std.specs.Prelude.{◌≡◌, Option, Some, Result, Err, true, not, IfOk, IfErr, is_ok, ⊤};
+ghost use Rattle.std.specs.Prelude.{◌≡◌, Option, Some, Result, Err, true, not, IfOk, IfErr, ⊤};
 ghost use Rattle.std.specs.Borrow.{Lends, sem};
 ghost use Rattle.futures.specs.declared.task.Poll.{Poll};
 ghost use Rattle.futures.specs.Poll.{OnPending, IfReady};
@@ -9,7 +9,7 @@ ghost use Rattle.futures.specs.declared.task.waker.Waker.{Waker};
 ghost use Rattle.fi_locks.specs.Mutex.{MutexMachine, TriesLock, is_free};
 ghost use Rattle.fi_parts.specs.declared.errors.Fault.{Fault};
 ghost use Rattle.fi_sync.specs.Locked.{IsLockAnswer, PollsLock};
-ghost use Rattle.fi_sync.specs.Waiting.{InSomeHold, IsGiven, IsNew, WaitedFor, polled};
+ghost use Rattle.fi_sync.specs.Waiting.{InSomeHold, IsGiven, IsNew, WaitedFor, is_final, polled};
 ghost use Rattle.fi_sync.specs.Blanks.{IsLockBlank};
 
 use crate::blocking::{Blocking, wait_for};
@@ -362,7 +362,7 @@ impl<M: HasMonitor<State = CountedMutex<T, L>>, T: Drop, L: Ledger> Future
             → IsGiven PollsLock (Err Fault.NoMemory) output) }
         ensures registered { OnPending result (Covers cx.new (λ source. source ≡ self.new.source)) }
         ensures kept { Keeps cx.old cx.new }
-        ensures stands { self.new ≡ polled is_ok self.old result }
+        ensures stands { self.new ≡ polled is_final self.old result }
         ensures spent { self.old.has_ended ≡ true → result ≡ Poll.Pending }
         ensures answered { IsLockAnswer self.old.name self.old.has_ended cx.new.lacks_waker result }
     {

@@ -1,18 +1,19 @@
 //! The semaphore that threads share by reference.
 ghost use Rattle.std.specs.Prelude.{◌≡◌, ◌≤◌, ◌+◌, ◌^◌, Option, true, IfOk, IfErr, IfSome, is_some};
 ghost use Rattle.futures.specs.declared.task.waker.Waker.{Waker};
-ghost use Rattle.fi_locks.specs.Semaphore.{SemaphoreMachine, Releases, TriesAcquire};
+ghost use Rattle.fi_locks.specs.Semaphore.{Releases};
 ghost use Rattle.fi_parts.specs.declared.errors.Fault.{Fault};
 ghost use Rattle.fi_sync.specs.Granted.{PollsAcquire};
 ghost use Rattle.fi_sync.specs.Waiting.{InSomeHold, IsNew, WaitedFor};
 ghost use Rattle.fi_sync.specs.Blanks.{IsPermitBlank};
+ghost use Rattle.fi_sync.specs.Closable.{Closable, WhileOpen, TriesPermits, Closes, free_at};
 
 use crate::blocking::{Blocking, wait_for};
 use crate::counted_semaphore::CountedSemaphore;
 use crate::monitor::Monitor;
 use crate::semaphore_future::SemaphoreAcquireFutureOf;
 use crate::semaphore_releaser::SemaphoreReleaserOf;
-use fi_parts::Fault;
+use fi_parts::{CloseStatus, Fault};
 use std::alloc::Global;
 use std::fmt;
 use std::marker::Model;
@@ -122,10 +123,10 @@ impl<R: Wait, L: Ledger> Semaphore<R, L> {
     }
 
     /// Acquires this many permits if they are free and, in a fair semaphore, no future is queued; 0 permits are always granted.
-    /// None if they are not granted. Keeps `GenericSemaphore::try_acquire`.
+    /// None if they are not granted, or the semaphore is closed. Keeps `GenericSemaphore::try_acquire`.
     #[inline(always)]
     pub fn try_acquire(&self, permits: usize) -> Option<SemaphoreReleaser<'_, R, L>>
-        ensures tried { InSomeHold (λ old. TriesAcquire {W = Option Waker} old permits (is_some result)) }
+        ensures tried { InSomeHold (TriesPermits {W = Option Waker} permits (is_some result)) }
         ensures granted { IfSome result (λ releaser. releaser ≡ permits) }
     {
         let grant = self.monitor.call(permits, CountedSemaphore::try_acquire)?;
@@ -137,34 +138,52 @@ impl<R: Wait, L: Ledger> Semaphore<R, L> {
     /// Refused with `Overflow` if the permits, free and held, would be more than `usize::MAX`; then nothing has changed.
     /// Keeps `GenericSemaphore::release`, which does not check.
     pub fn release(&self, permits: usize) -> Result<(), Fault>
-        ensures released { IfOk result (λ _. InSomeHold (λ old. Releases {W = Option Waker} old permits)) }
+        ensures released { IfOk result (λ _. InSomeHold (WhileOpen {W = Option Waker} (λ old new. Releases old permits new))) }
         ensures refused { IfErr result (λ fault. (fault ≡ Fault.Overflow)
-            × (held : SemaphoreMachine (Option Waker)) × (2 ^ 64 ≤ held.own.free + held.own.held + permits)) }
+            × (held : Closable (Option Waker)) × (2 ^ 64 ≤ held.permits.own.free + held.permits.own.held + permits)) }
     {
         self.monitor.call(permits, CountedSemaphore::release)
     }
 
-    /// How many permits were free when it was looked at. Keeps `GenericSemaphore::permits`.
+    /// Closes the semaphore, and wakes all who wait: they end with `Closed`, as do all who come later. Permits that are held then need not
+    /// come back, and a release adds none. `AlreadyClosed` if it was closed; then nothing has changed. As tokio's `Semaphore::close`;
+    /// futures-intrusive has none.
+    ///
+    /// Those whose needs together are at most `usize::MAX` are woken at once; each of them that is polled or dropped wakes the next.
+    pub fn close(&self) -> CloseStatus
+        ensures closed { InSomeHold (Closes {W = Option Waker} result) }
+    {
+        self.monitor.call((), |semaphore, ()| semaphore.close())
+    }
+
+    /// Returns `true` if the semaphore was closed when it was looked at.
+    pub fn is_closed(&self) -> bool
+        ensures shown { (held : Closable (Option Waker)) × (result ≡ held.is_closed) }
+    {
+        self.monitor.call((), |semaphore, ()| semaphore.is_closed())
+    }
+
+    /// How many permits were free when it was looked at; 0 once the semaphore is closed. Keeps `GenericSemaphore::permits`.
     pub fn permits(&self) -> usize
-        ensures shown { (held : SemaphoreMachine (Option Waker)) × (result ≡ held.own.free) }
+        ensures shown { (held : Closable (Option Waker)) × (result ≡ free_at held) }
     {
         self.monitor.call((), |semaphore, ()| semaphore.permits())
     }
 
-    /// How many permits were held when it was looked at. The Rust crate does not count them.
+    /// How many permits were held when it was looked at; 0 once the semaphore is closed. The Rust crate does not count them.
     pub fn held(&self) -> usize
-        ensures shown { (held : SemaphoreMachine (Option Waker)) × (result ≡ held.own.held) }
+        ensures shown { (held : Closable (Option Waker)) × (result ≡ held.permits.own.held) }
     {
         self.monitor.call((), |semaphore, ()| semaphore.held())
     }
 }
 
 impl<R: Blocking, L: Ledger> Semaphore<R, L> {
-    /// Blocks this thread until this many permits are granted: their releaser. Refused with `NoMemory` where no future or no
-    /// executor can be made.
+    /// Blocks this thread until this many permits are granted: their releaser; or until the semaphore is closed: `Closed`. Refused
+    /// with `NoMemory` where no future or no executor can be made.
     pub fn acquire_blocking(&self, permits: usize) -> Result<SemaphoreReleaser<'_, R, L>, Fault>
         ensures waited { WaitedFor (λ granted. (granted ≡ permits)
-            × InSomeHold (λ old. TriesAcquire {W = Option Waker} old permits true)) PollsAcquire result }
+            × InSomeHold (TriesPermits {W = Option Waker} permits true)) PollsAcquire result }
     {
         if let Some(releaser) = self.try_acquire(permits) {
             return Ok(releaser);

@@ -1,11 +1,11 @@
 //! The future that acquires permits of a semaphore that threads share.
-ghost use Rattle.std.specs.Prelude.{◌≡◌, ℕ, Some, Result, Err, true, false, is_ok, ⊤};
+ghost use Rattle.std.specs.Prelude.{◌≡◌, ℕ, Some, Result, Err, true, false, ⊤};
 ghost use Rattle.futures.specs.declared.task.Poll.{Poll};
 ghost use Rattle.futures.specs.Poll.{OnPending, IfReady};
 ghost use Rattle.futures.specs.Task.{Covers, Keeps};
 ghost use Rattle.fi_parts.specs.declared.errors.Fault.{Fault};
 ghost use Rattle.fi_sync.specs.Granted.{IsAcquireAnswer, PollsAcquire};
-ghost use Rattle.fi_sync.specs.Waiting.{IsGiven, polled};
+ghost use Rattle.fi_sync.specs.Waiting.{IsGiven, is_final, polled};
 
 use crate::claim::Claim;
 use crate::counted_semaphore::CountedSemaphore;
@@ -21,8 +21,9 @@ use std::sync::ledger::Ledger;
 
 /// Acquires permits of a semaphore. Its drop unregisters it; a notice that it had not used is passed on to those who wait.
 ///
-/// Its output is the releaser of the permits, once they are granted. Refused with `NoMemory` where it had to wait and no waker
-/// could be made; it may then be polled again. It reaches the semaphore by a reference or an `Arc`.
+/// Its output is the releaser of the permits, once they are granted; `Closed` ends it once the semaphore is closed. Refused with
+/// `NoMemory` where it had to wait and no waker could be made; it may then be polled again. It reaches the semaphore by a reference
+/// or an `Arc`.
 #[derive(Drop)]
 pub struct SemaphoreAcquireFutureOf<M: HasMonitor<State = CountedSemaphore<L>>, L: Ledger> {
     future: SlotFuture<M, SemaphoreAcquire>,
@@ -78,7 +79,7 @@ impl<M: HasMonitor<State = CountedSemaphore<L>>, L: Ledger> Future
             → IsGiven PollsAcquire (Err Fault.NoMemory) output) }
         ensures registered { OnPending result (Covers cx.new (λ source. source ≡ self.new.source)) }
         ensures kept { Keeps cx.old cx.new }
-        ensures stands { self.new ≡ polled is_ok self.old result }
+        ensures stands { self.new ≡ polled is_final self.old result }
         ensures spent { self.old.has_ended ≡ true → result ≡ Poll.Pending }
         ensures answered { IsAcquireAnswer self.old.name self.old.has_ended cx.new.lacks_waker result }
     {

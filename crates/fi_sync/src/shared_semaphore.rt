@@ -2,11 +2,12 @@
 ghost use Rattle.std.specs.Arc.{arc_value};
 ghost use Rattle.std.specs.Prelude.{◌≡◌, ◌≤◌, ◌+◌, ◌^◌, Option, true, IfOk, IfErr, IfSome, is_some};
 ghost use Rattle.futures.specs.declared.task.waker.Waker.{Waker};
-ghost use Rattle.fi_locks.specs.Semaphore.{SemaphoreMachine, Releases, TriesAcquire};
+ghost use Rattle.fi_locks.specs.Semaphore.{Releases};
 ghost use Rattle.fi_parts.specs.declared.errors.Fault.{Fault};
 ghost use Rattle.fi_sync.specs.Granted.{PollsAcquire};
 ghost use Rattle.fi_sync.specs.Waiting.{InSomeHold, IsNew, WaitedFor};
 ghost use Rattle.fi_sync.specs.Blanks.{IsPermitBlank};
+ghost use Rattle.fi_sync.specs.Closable.{Closable, WhileOpen, TriesPermits, Closes, free_at};
 
 use crate::blocking::{Blocking, wait_for};
 use crate::counted_semaphore::CountedSemaphore;
@@ -14,7 +15,7 @@ use crate::monitor::Monitor;
 use crate::semaphore_future::SemaphoreAcquireFutureOf;
 use crate::semaphore_releaser::SemaphoreReleaserOf;
 use fi_parts::memory::{share, shared};
-use fi_parts::{Fault, Refused};
+use fi_parts::{CloseStatus, Fault, Refused};
 use std::alloc::Global;
 use std::fmt;
 use std::marker::Model;
@@ -145,14 +146,14 @@ impl<R: Wait + Drop, L: Ledger> SharedSemaphore<R, L> {
     }
 
     /// Acquires this many permits if they are free and, in a fair semaphore, no future is queued; 0 permits are always granted.
-    /// None if they are not granted. Refused with `NoMemory` as `clone`; then nothing has changed. Keeps
+    /// None if they are not granted, or the semaphore is closed. Refused with `NoMemory` as `clone`; then nothing has changed. Keeps
     /// `GenericSharedSemaphore::try_acquire`.
     #[inline(always)]
     pub fn try_acquire(
         &self,
         permits: usize,
     ) -> Result<Option<SharedSemaphoreReleaser<R, L>>, Fault>
-        ensures tried { IfOk result (λ granted. InSomeHold (λ old. TriesAcquire {W = Option Waker} old permits (is_some granted))) }
+        ensures tried { IfOk result (λ granted. InSomeHold (TriesPermits {W = Option Waker} permits (is_some granted))) }
         ensures granted { IfOk result (λ granted. IfSome granted (λ releaser. releaser ≡ permits)) }
         ensures fault { IfErr result (λ fault. fault ≡ Fault.NoMemory) }
     {
@@ -166,34 +167,51 @@ impl<R: Wait + Drop, L: Ledger> SharedSemaphore<R, L> {
     /// Adds free permits, as `Semaphore::release`, and is refused with `Overflow` as there. Keeps
     /// `GenericSharedSemaphore::release`, which does not check.
     pub fn release(&self, permits: usize) -> Result<(), Fault>
-        ensures released { IfOk result (λ _. InSomeHold (λ old. Releases {W = Option Waker} old permits)) }
+        ensures released { IfOk result (λ _. InSomeHold (WhileOpen {W = Option Waker} (λ old new. Releases old permits new))) }
         ensures refused { IfErr result (λ fault. (fault ≡ Fault.Overflow)
-            × (held : SemaphoreMachine (Option Waker)) × (2 ^ 64 ≤ held.own.free + held.own.held + permits)) }
+            × (held : Closable (Option Waker)) × (2 ^ 64 ≤ held.permits.own.free + held.permits.own.held + permits)) }
     {
         self.monitor.call(permits, CountedSemaphore::release)
     }
 
-    /// How many permits were free when it was looked at. Keeps `GenericSharedSemaphore::permits`.
+    /// Closes the semaphore, and wakes all who wait: they end with `Closed`, as do all who come later. Permits that are held then need not
+    /// come back, and a release adds none. `AlreadyClosed` if it was closed; then nothing has changed. As `Semaphore::close`.
+    ///
+    /// Those whose needs together are at most `usize::MAX` are woken at once; each of them that is polled or dropped wakes the next.
+    pub fn close(&self) -> CloseStatus
+        ensures closed { InSomeHold (Closes {W = Option Waker} result) }
+    {
+        self.monitor.call((), |semaphore, ()| semaphore.close())
+    }
+
+    /// Returns `true` if the semaphore was closed when it was looked at.
+    pub fn is_closed(&self) -> bool
+        ensures shown { (held : Closable (Option Waker)) × (result ≡ held.is_closed) }
+    {
+        self.monitor.call((), |semaphore, ()| semaphore.is_closed())
+    }
+
+    /// How many permits were free when it was looked at; 0 once the semaphore is closed. Keeps `GenericSharedSemaphore::permits`.
     pub fn permits(&self) -> usize
-        ensures shown { (held : SemaphoreMachine (Option Waker)) × (result ≡ held.own.free) }
+        ensures shown { (held : Closable (Option Waker)) × (result ≡ free_at held) }
     {
         self.monitor.call((), |semaphore, ()| semaphore.permits())
     }
 
-    /// How many permits were held when it was looked at. The Rust crate does not count them.
+    /// How many permits were held when it was looked at; 0 once the semaphore is closed. The Rust crate does not count them.
     pub fn held(&self) -> usize
-        ensures shown { (held : SemaphoreMachine (Option Waker)) × (result ≡ held.own.held) }
+        ensures shown { (held : Closable (Option Waker)) × (result ≡ held.permits.own.held) }
     {
         self.monitor.call((), |semaphore, ()| semaphore.held())
     }
 
-    /// Blocks this thread until this many permits are granted: their releaser. Refused with `NoMemory` where no future or no
-    /// executor can be made.
+    /// Blocks this thread until this many permits are granted: their releaser; or until the semaphore is closed: `Closed`. Refused
+    /// with `NoMemory` where no future or no executor can be made.
     pub fn acquire_blocking(&self, permits: usize) -> Result<SharedSemaphoreReleaser<R, L>, Fault>
     where
         R: Blocking,
         ensures waited { WaitedFor (λ granted. (granted ≡ permits)
-            × InSomeHold (λ old. TriesAcquire {W = Option Waker} old permits true)) PollsAcquire result }
+            × InSomeHold (TriesPermits {W = Option Waker} permits true)) PollsAcquire result }
     {
         if let Some(releaser) = self.try_acquire(permits)? {
             return Ok(releaser);

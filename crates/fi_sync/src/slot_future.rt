@@ -1,6 +1,6 @@
 //! The future of every primitive that threads share.
 ghost use Rattle.std.specs.Prelude.{◌≡◌, ℕ, Bool, Option, Ok, Err, Some, None, true, false, IfOk, IfErr, IfSome, IfNone};
-ghost use Rattle.std.specs.Prelude.{is_ok, is_some, is_none};
+ghost use Rattle.std.specs.Prelude.{is_some, is_none};
 ghost use Rattle.std.specs.Borrow.{MutBor};
 ghost use Rattle.futures.specs.declared.task.Poll.{Poll};
 ghost use Rattle.futures.specs.declared.task.waker.Waker.{Waker};
@@ -9,7 +9,7 @@ ghost use Rattle.futures.specs.Task.{Covers, Keeps};
 ghost use Rattle.fi_parts.specs.declared.errors.Fault.{Fault};
 ghost use Rattle.fi_parts.specs.declared.errors.Slot.{Slot};
 ghost use Rattle.fi_parts.specs.declared.phase.Leftover.{Leftover};
-ghost use Rattle.fi_sync.specs.Waiting.{ends, polled, IsAnswer, IsGiven, IsLeftBy, IsEndedBy};
+ghost use Rattle.fi_sync.specs.Waiting.{ends, is_final, polled, IsAnswer, IsGiven, IsLeftBy, IsEndedBy};
 
 use crate::claim::{Cancel, Claim};
 use crate::monitor::HasMonitor;
@@ -20,7 +20,8 @@ use futures::task::{Context, Poll, Waker};
 use std::fmt;
 use std::marker::Model;
 
-/// The output of a ready poll. It ends its future or doesn't: a refusal and an item of a stream don't.
+/// The output of a ready poll. It ends its future or doesn't: an item of a stream doesn't, nor does a refusal, unless it is that the
+/// primitive is closed.
 pub trait PollOutput {
     /// This output ends its future.
     ghost is_last: { Self → Bool };
@@ -32,23 +33,23 @@ pub trait PollOutput {
     fn ends(&self) -> bool
         ensures { result ≡ is_last self.now };
 
-    /// The output of a poll that is refused for this, which doesn't end its future.
-    fn refused(fault: Fault) -> Self
-        ensures output { result ≡ refusal fault }
+    /// The output of a poll that is refused memory, which doesn't end its future.
+    fn refused(refused: Refused) -> Self
+        ensures output { result ≡ refusal Fault.NoMemory }
         ensures goes_on { is_last result ≡ false };
 }
 
 impl<T> PollOutput for Result<T, Fault> {
-    ghost is_last = { is_ok };
+    ghost is_last = { is_final };
 
     ghost refusal = { Err };
 
     fn ends(&self) -> bool {
-        self.is_ok()
+        matches!(self, Ok(_) | Err(Fault::Closed))
     }
 
-    fn refused(fault: Fault) -> Self {
-        Err(fault)
+    fn refused(refused: Refused) -> Self {
+        Err(Fault::from(refused))
     }
 }
 
@@ -64,12 +65,11 @@ pub(crate) fn no_slot<T>(waker: PollWaker) -> SlotPolled<Result<T, Fault>>
 }
 
 // Why a poll was refused that could make no waker.
-fn no_waker(refused: Option<Refused>) -> Fault
+fn no_waker(refused: Option<Refused>) -> Refused
     requires { is_some refused ≡ true }
-    ensures { result ≡ Fault.NoMemory }
 {
     match refused {
-        Some(refused) => Fault::from(refused),
+        Some(refused) => refused,
         // It was refused, as the call requires.
         None => unreachable!(),
     }

@@ -103,7 +103,7 @@ fn faults_say_what_is_wrong(rt: HostRuntime) {
     let fault = no_memory(rt.alloc()).expect(&rt, "refused");
     let rows = [
         (fault, "out of memory"),
-        (Fault::Closed, "the channel is closed"),
+        (Fault::Closed, "the channel or semaphore is closed"),
         (Fault::Full, "the channel is full"),
         (Fault::Empty, "the channel is empty"),
         (

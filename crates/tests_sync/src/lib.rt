@@ -8,6 +8,8 @@ mod blocking;
 #[cfg(test)]
 mod channel;
 #[cfg(test)]
+mod closing;
+#[cfg(test)]
 mod contention;
 #[cfg(test)]
 mod crosses;
