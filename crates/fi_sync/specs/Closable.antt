@@ -20,7 +20,8 @@ abbrev pub OnPermits : {W : Type 0} → (SemaphoreMachine W → SemaphoreMachine
 OnPermits Steps old new = Steps old.permits new.permits × (new ≡ record old { permits = new.permits })
 
 -- The same of an open semaphore; a closed one stays as it is.
-abbrev pub WhileOpenAt : {W : Type 0} → Bool → (SemaphoreMachine W → SemaphoreMachine W → Type 0) → Closable W → Closable W → Type 0
+abbrev pub WhileOpenAt : {W : Type 0} → Bool → (SemaphoreMachine W → SemaphoreMachine W → Type 0)
+    → Closable W → Closable W → Type 0
 WhileOpenAt true Steps old new = new ≡ old
 WhileOpenAt false Steps old new = OnPermits Steps old new
 
@@ -35,15 +36,15 @@ TriesPermitsAt false n granting old new = OnPermits (λ before after. TriesAcqui
 abbrev pub TriesPermits : {W : Type 0} → ℕ → Bool → Closable W → Closable W → Type 0
 TriesPermits n granting old new = TriesPermitsAt old.is_closed n granting old new
 
--- Those that are held are forgotten, and as many are free as a usize counts: the futures that wait are told, as far as their needs together
--- can be counted, and whichever of them leaves tells the next.
-abbrev pub Floods : {W : Type 0} → SemaphoreMachine W → SemaphoreMachine W → Type 0
-Floods {W} old new = (mid : SemaphoreMachine W) × Disarms old old.own.held mid × Releases mid (18446744073709551615 - mid.own.free) new
+-- The permits that are held are forgotten, and as many are free as a usize counts: the futures that wait are told, as far as their needs
+-- together can be counted, and whichever of them leaves tells the next.
+abbrev pub LetsAllThrough : {W : Type 0} → SemaphoreMachine W → SemaphoreMachine W → Type 0
+LetsAllThrough {W} old new = (mid : SemaphoreMachine W) × Disarms old old.own.held mid × Releases mid (18446744073709551615 - mid.own.free) new
 
 -- Whoever waits is told. A closed semaphore stays as it is.
 abbrev pub ClosesAt : {W : Type 0} → Bool → CloseStatus → Closable W → Closable W → Type 0
 ClosesAt true status old new = (status ≡ AlreadyClosed) × (new ≡ old)
-ClosesAt false status old new = (status ≡ NewlyClosed) × (new.is_closed ≡ true) × Floods old.permits new.permits
+ClosesAt false status old new = (status ≡ NewlyClosed) × (new.is_closed ≡ true) × LetsAllThrough old.permits new.permits
 
 abbrev pub Closes : {W : Type 0} → CloseStatus → Closable W → Closable W → Type 0
 Closes status old new = ClosesAt old.is_closed status old new

@@ -10,12 +10,15 @@ use Rattle.fi_sync.specs.Closable.{Closable, OnPermits}
 use Rattle.fi_sync.specs.Waiting.{PollsAt, CancelsAt, IsUntimedAnswer, leftover_at}
 
 -- A poll of a closed semaphore's future answers so, and changes nothing; that of an open one is its machine's.
-abbrev pub PollsAcquireAt : Bool → Closable (Option Waker) → ℕ → Option Waker → Poll (Result ℕ Fault) → Closable (Option Waker) → Type 0
+abbrev pub PollsAcquireAt : Bool → Closable (Option Waker) → ℕ → Option Waker → Poll (Result ℕ Fault)
+    → Closable (Option Waker) → Type 0
 PollsAcquireAt true old name waker answer new = (answer ≡ Ready (Err Fault.Closed)) × (new ≡ old)
-PollsAcquireAt false old name waker answer new = OnPermits (λ before after. PollsAt can_be_polled Polls before name waker answer after) old new
+PollsAcquireAt false old name waker answer new =
+    OnPermits (λ before after. PollsAt can_be_polled Polls before name waker answer after) old new
 
 -- A poll of a future that acquires permits, under this name, may answer this and go on from old to new.
-abbrev pub PollsAcquire : Closable (Option Waker) → ℕ → Option Waker → Poll (Result ℕ Fault) → Closable (Option Waker) → Type 0
+abbrev pub PollsAcquire : Closable (Option Waker) → ℕ → Option Waker → Poll (Result ℕ Fault)
+    → Closable (Option Waker) → Type 0
 PollsAcquire old name waker answer new = PollsAcquireAt old.is_closed old name waker answer new
 
 -- the wakers of no more use after such a poll: of a closed semaphore's future the cancel that follows gives its own

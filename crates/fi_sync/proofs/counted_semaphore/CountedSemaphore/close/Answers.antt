@@ -6,5 +6,6 @@ use Rattle.fi_sync.proofs.counted_semaphore.CountedSemaphore.close.Goals as goal
 pub returns : goal.returns
 returns g c =
     let was_open : c.args.self.now.is_closed ≡ false = search rules in
-    subst (λ is_closed. ClosesAt is_closed NewlyClosed c.args.self.now (record { permits = c.release.new.self; is_closed = true })) (sym was_open)
+    subst (λ is_closed. ClosesAt is_closed NewlyClosed c.args.self.now (record { permits = c.release.new.self; is_closed = true }))
+    (sym was_open)
     (refl, refl, (c.disarm.new.self, search rules, search rules))
