@@ -6,8 +6,8 @@ use Rattle.fi_channels.specs.TwoSidesModel.{TwoSidesModel, no_waiters, notify_re
 use Rattle.fi_channels.specs.Waiter.{same_waiter, of_receives, sends_in, receives_in}
 use Rattle.fi_parts.specs.Waiting.{Waiters, may_be_named, without_future, clear_queue, named_all, AreSound}
 use Rattle.fi_parts.specs.declared.phase.Phase.{Phase}
-use Rattle.fi_channels.specs.declared.two_sides.Waiter.{Waiter}
-use Rattle.fi_channels.specs.declared.two_sides.Waiter.TheVariants.{Send, Receive}
+use Rattle.fi_channels.specs.declared.channel.two_sides.Waiter.{Waiter}
+use Rattle.fi_channels.specs.declared.channel.two_sides.Waiter.TheVariants.{Send, Receive}
 use Rattle.fi_channels.proofs.Sides.{sends-without_receive, receives-without}
 use Rattle.fi_channels.proofs.Sides.{sends-and_receives}
 use Rattle.fi_channels.specs.SideLaws.{receives-and_receives}

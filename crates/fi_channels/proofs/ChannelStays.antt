@@ -7,13 +7,13 @@ use Rattle.futures.specs.declared.task.Poll.{Poll}
 use Rattle.futures.specs.declared.task.Poll.TheVariants.{Ready, Pending}
 use Rattle.fi_parts.specs.declared.phase.Phase.{Phase}
 use Rattle.fi_parts.specs.MachineTable.{poll_change}
-use Rattle.fi_parts.specs.WakerHistory.{WakerChange, gives}
+use Rattle.fi_parts.specs.WakerHistory.{WakerChange}
 use Rattle.fi_parts.specs.WakerHistory.WakerChange.{Leaves, NoEffect}
 use Rattle.fi_parts.proofs.Effects.{AreFit, SparedBy, are_live}
-use Rattle.fi_channels.specs.declared.channel_errors.SendFault.{SendFault}
-use Rattle.fi_channels.specs.declared.channel_errors.SendFault.TheVariants as send_fault
-use Rattle.fi_channels.specs.declared.channel_fields.ReceiveKind.{ReceiveKind}
-use Rattle.fi_channels.specs.declared.channel_fields.ReceiveKind.TheVariants.{Single, Stream}
+use Rattle.fi_channels.specs.declared.channel.errors.SendFault.{SendFault}
+use Rattle.fi_channels.specs.declared.channel.errors.SendFault.TheVariants as send_fault
+use Rattle.fi_channels.specs.declared.channel.fields.ReceiveKind.{ReceiveKind}
+use Rattle.fi_channels.specs.declared.channel.fields.ReceiveKind.TheVariants.{Single, Stream}
 use Rattle.fi_channels.specs.Channel.{MakesSend, MakesReceive}
 use Rattle.fi_channels.specs.ChannelWords.{ChannelMachine, rules, is_send_phase, is_receive_phase, can_send, can_take}
 use Rattle.fi_channels.specs.ChannelWords.{can_receive, can_stream, send_phase, receive_phase, kind_of}
@@ -89,15 +89,6 @@ module _ {T W : Type 0} (old new : ChannelMachine T W) (was : Holds old) where
   -- a call that is nothing to the wakers
   pub all_stay : Goes old new NoEffect NoEffect → AllStay old new
   all_stay did = these_stay did (λ q. ⊤) (λ q. ⊤) (λ q of lives. tt) (λ q of lives. tt)
-
-  given_spares : (waker : Option W) (q : ℕ) → SparedBy (gives waker) q
-  given_spares None q = tt
-  given_spares (Some waker) q = tt
-
-  -- the taking out of the oldest waker
-  pub popping_stays : (waker : Option W) → Goes old new (gives waker) (gives waker) → AllStay old new
-  popping_stays waker did =
-      these_stay did (λ q. ⊤) (λ q. ⊤) (λ q of lives. given_spares waker q) (λ q of lives. given_spares waker q)
 
   -- a call that was refused
   pub same_stay : (sends receives : ℕ → Type 0) → new ≡ old → TheseStay sends receives old new

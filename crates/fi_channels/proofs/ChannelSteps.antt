@@ -24,12 +24,12 @@ use Rattle.fi_parts.proofs.Oldest.{get-with_asks, get-with_asks_other, phase-wit
 use Rattle.fi_parts.proofs.PairsWithin.{none_some, some_same}
 use Rattle.fi_parts.proofs.Told.{with_phase-same}
 use Rattle.fi_channels.specs.Channel.{PollsNext, StreamsAs}
-use Rattle.fi_channels.specs.declared.channel_errors.SendFault.{SendFault}
-use Rattle.fi_channels.specs.declared.channel_errors.SendFault.TheVariants as send_fault
-use Rattle.fi_channels.specs.declared.channel_fields.ReceiveKind.{ReceiveKind}
-use Rattle.fi_channels.specs.declared.channel_fields.ReceiveKind.TheVariants.{Single, Stream}
-use Rattle.fi_channels.specs.declared.two_sides.Waiter.{Waiter}
-use Rattle.fi_channels.specs.declared.two_sides.Waiter.TheVariants.{Send, Receive}
+use Rattle.fi_channels.specs.declared.channel.errors.SendFault.{SendFault}
+use Rattle.fi_channels.specs.declared.channel.errors.SendFault.TheVariants as send_fault
+use Rattle.fi_channels.specs.declared.channel.fields.ReceiveKind.{ReceiveKind}
+use Rattle.fi_channels.specs.declared.channel.fields.ReceiveKind.TheVariants.{Single, Stream}
+use Rattle.fi_channels.specs.declared.channel.two_sides.Waiter.{Waiter}
+use Rattle.fi_channels.specs.declared.channel.two_sides.Waiter.TheVariants.{Send, Receive}
 use Rattle.fi_channels.specs.Channel.{IsSound, SendsAs, FreshSends, PollsReceive, ReceivesAs, TakesNext, CancelsReceive}
 use Rattle.fi_channels.specs.Channel.{CancelsReceiveAs, Closes, ClosesAt}
 use Rattle.fi_channels.specs.ChannelWords.{ChannelMachine, Buffered, owns_value, is_send_phase, is_receive_phase}

@@ -16,8 +16,8 @@ use Rattle.fi_parts.specs.declared.phase.Phase.TheVariants.{Complete}
 use Rattle.fi_channels.specs.SideView.{SideView, IsSide, two_sides_of, ticket_in, AreBothTied, pairs_of, change, change_naming, notify}
 use Rattle.fi_channels.specs.TwoSidesModel.{TwoSidesModel}
 use Rattle.fi_channels.specs.Waiter.{same_waiter}
-use Rattle.fi_channels.specs.declared.two_sides.WaitQueues.{WaitQueues}
-use Rattle.fi_channels.specs.declared.two_sides.Waiter.{Waiter}
+use Rattle.fi_channels.specs.declared.channel.two_sides.WaitQueues.{WaitQueues}
+use Rattle.fi_channels.specs.declared.channel.two_sides.Waiter.{Waiter}
 use Rattle.fi_parts.proofs.FiniteMaps.{get-insert_same, get-insert_other, get-remove_same, get-remove_other}
 use Rattle.fi_parts.proofs.WaitQueues.{registered_with}
 use Rattle.fi_parts.proofs.Oldest.{phase-with_asks, emptied-step, emptied-none, marked-step, marked-none}

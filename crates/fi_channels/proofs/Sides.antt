@@ -6,8 +6,8 @@ use Rattle.std.specs.FinMap as finmap
 use Rattle.std.specs.FinSet as set
 use Rattle.fi_parts.specs.Tied.{IsTied}
 use Rattle.fi_parts.specs.Pairs.{without_pair}
-use Rattle.fi_channels.specs.declared.two_sides.Waiter.{Waiter}
-use Rattle.fi_channels.specs.declared.two_sides.Waiter.TheVariants.{Send, Receive}
+use Rattle.fi_channels.specs.declared.channel.two_sides.Waiter.{Waiter}
+use Rattle.fi_channels.specs.declared.channel.two_sides.Waiter.TheVariants.{Send, Receive}
 use Rattle.fi_parts.specs.NamedPairs.{IsNameTest, without_by}
 use Rattle.fi_channels.specs.Waiter.{same_waiter, ticket_of_waiter, of_sends, of_receives, sends_in, receives_in}
 use Rattle.fi_parts.proofs.Tied.{tied_empty}

@@ -11,7 +11,7 @@ use Rattle.fi_parts.proofs.Slots.{without_absent}
 use Rattle.fi_parts.proofs.Waiting.{Becomes, becomes-with_phase, becomes-forgotten, live_if_registered, first_registered}
 use Rattle.fi_parts.proofs.Sound.{none_registered}
 use Rattle.fi_parts.specs.Oldest.{pop_first, pop_oldest}
-use Rattle.fi_channels.specs.declared.channel_fields.ReceiveKind.{ReceiveKind}
+use Rattle.fi_channels.specs.declared.channel.fields.ReceiveKind.{ReceiveKind}
 use Rattle.fi_channels.specs.ChannelWords.{AreTold, is_receive_phase}
 
 length-without : (x : ℕ) (xs : List ℕ) → Apart xs → length xs ≤ suc (length (without x xs))

@@ -3,8 +3,8 @@ use Rattle.std.specs.Prelude.{◌≡◌, ℕ, Bool, Option, Some, List, [], ◌�
 use Rattle.std.proofs.Common.{sym, ◌∙◌, ap, subst, inl}
 use Rattle.std.proofs.lemmas.List.{append-nil}
 use Rattle.fi_parts.specs.declared.phase.Phase.{Phase}
-use Rattle.fi_channels.specs.declared.two_sides.Waiter.{Waiter}
-use Rattle.fi_channels.specs.declared.two_sides.Waiter.TheVariants.{Send, Receive}
+use Rattle.fi_channels.specs.declared.channel.two_sides.Waiter.{Waiter}
+use Rattle.fi_channels.specs.declared.channel.two_sides.Waiter.TheVariants.{Send, Receive}
 use Rattle.fi_parts.specs.Effects.{WaiterEffect, PairsChange, LeadsTo, TakesEffect, pairs_after, completes_first}
 use Rattle.fi_parts.specs.Effects.PairsChange.{Keep, TakeOut, Append}
 use Rattle.fi_parts.specs.Effects.WaiterEffect.{NoChange, NotifiesOldest, NotifiesAll, NotifiesFront, CompletesOldest, PopsOldest, AndThen}

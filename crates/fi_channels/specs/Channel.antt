@@ -11,13 +11,13 @@ use Rattle.fi_parts.specs.declared.phase.Phase.TheVariants.{Fresh, Registered, T
 use Rattle.fi_parts.specs.Buffer.{Bounded, Fits}
 use Rattle.fi_parts.specs.Effects.WaiterEffect.{Inserts, Registers, KeepsWaiting, Ends, Removes, NotifiesAll}
 use Rattle.fi_parts.specs.Waiting.{is_registered}
-use Rattle.fi_channels.specs.declared.channel_errors.SendFault.{SendFault}
-use Rattle.fi_channels.specs.declared.channel_errors.SendFault.TheVariants as send_fault
-use Rattle.fi_channels.specs.declared.channel_errors.TryReceiveError.{TryReceiveError}
-use Rattle.fi_channels.specs.declared.channel_errors.TryReceiveError.TheVariants as not_received
-use Rattle.fi_channels.specs.declared.channel_errors.TrySendError.{TrySendError}
-use Rattle.fi_channels.specs.declared.channel_errors.TrySendError.TheVariants as not_sent
-use Rattle.fi_channels.specs.declared.channel_fields.ReceiveKind.{ReceiveKind}
+use Rattle.fi_channels.specs.declared.channel.errors.SendFault.{SendFault}
+use Rattle.fi_channels.specs.declared.channel.errors.SendFault.TheVariants as send_fault
+use Rattle.fi_channels.specs.declared.channel.errors.TryReceiveError.{TryReceiveError}
+use Rattle.fi_channels.specs.declared.channel.errors.TryReceiveError.TheVariants as not_received
+use Rattle.fi_channels.specs.declared.channel.errors.TrySendError.{TrySendError}
+use Rattle.fi_channels.specs.declared.channel.errors.TrySendError.TheVariants as not_sent
+use Rattle.fi_channels.specs.declared.channel.fields.ReceiveKind.{ReceiveKind}
 use Rattle.fi_channels.specs.ChannelWords.{Buffered, ChannelMachine, owns_value, is_given, AreTold, rules, has_room}
 use Rattle.fi_channels.specs.ChannelWords.{with_buffer, closed, Stores, IsGrowing, send_phase, receive_phase, kind_of}
 use Rattle.fi_channels.specs.ChannelWords.{value_of, next_of, value_count, tells_oldest, completes_oldest, finishes}

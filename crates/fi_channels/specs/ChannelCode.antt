@@ -3,8 +3,8 @@ use Rattle.std.specs.Prelude.{◌≡◌, Bool, true, false, refl}
 use Rattle.std.specs.Coded.{Coded, code_by, coded×, coded_bool, coded_option}
 use Rattle.fi_parts.specs.Buffer.{Bounded}
 use Rattle.fi_parts.specs.BufferCode.{bounded_code}
-use Rattle.fi_channels.specs.declared.channel_fields.ReceiveKind.{ReceiveKind}
-use Rattle.fi_channels.specs.declared.channel_fields.ReceiveKind.TheVariants.{Single, Stream}
+use Rattle.fi_channels.specs.declared.channel.fields.ReceiveKind.{ReceiveKind}
+use Rattle.fi_channels.specs.declared.channel.fields.ReceiveKind.TheVariants.{Single, Stream}
 use Rattle.fi_channels.specs.TwoSidedCode.{two_sided_code}
 use Rattle.fi_channels.specs.ChannelWords.{Buffered, ChannelMachine}
 

@@ -2,12 +2,12 @@
 use Rattle.std.specs.Prelude.{Bool, true, false, Option, Some, None}
 use Rattle.fi_parts.specs.declared.errors.Fault.{Fault}
 use Rattle.fi_parts.specs.declared.errors.Fault.TheVariants as faults
-use Rattle.fi_channels.specs.declared.channel_errors.SendFault.{SendFault}
-use Rattle.fi_channels.specs.declared.channel_errors.SendFault.TheVariants as not_polled
-use Rattle.fi_channels.specs.declared.channel_errors.TryReceiveError.{TryReceiveError}
-use Rattle.fi_channels.specs.declared.channel_errors.TryReceiveError.TheVariants as not_received
-use Rattle.fi_channels.specs.declared.channel_errors.TrySendError.{TrySendError}
-use Rattle.fi_channels.specs.declared.channel_errors.TrySendError.TheVariants.{Full, Closed, NoMemory}
+use Rattle.fi_channels.specs.declared.channel.errors.SendFault.{SendFault}
+use Rattle.fi_channels.specs.declared.channel.errors.SendFault.TheVariants as not_polled
+use Rattle.fi_channels.specs.declared.channel.errors.TryReceiveError.{TryReceiveError}
+use Rattle.fi_channels.specs.declared.channel.errors.TryReceiveError.TheVariants as not_received
+use Rattle.fi_channels.specs.declared.channel.errors.TrySendError.{TrySendError}
+use Rattle.fi_channels.specs.declared.channel.errors.TrySendError.TheVariants.{Full, Closed, NoMemory}
 
 module _ {T : Type 0} where
   -- the value that was not sent

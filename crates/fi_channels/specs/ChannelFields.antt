@@ -5,9 +5,9 @@ use Rattle.fi_parts.specs.Buffer.{Bounded}
 use Rattle.fi_parts.specs.Oldest.{asks_of_oldest, complete_oldest, pair_of_oldest}
 use Rattle.fi_parts.specs.declared.phase.Phase.{Phase}
 use Rattle.fi_parts.specs.declared.phase.Phase.TheVariants.{Fresh, Ended}
-use Rattle.fi_channels.specs.declared.channel_fields.ChannelFields.{ChannelFields}
-use Rattle.fi_channels.specs.declared.channel_fields.ReceiveKind.{ReceiveKind}
-use Rattle.fi_channels.specs.declared.channel_fields.ReceiveKind.TheVariants.{Stream}
+use Rattle.fi_channels.specs.declared.channel.fields.ChannelFields.{ChannelFields}
+use Rattle.fi_channels.specs.declared.channel.fields.ReceiveKind.{ReceiveKind}
+use Rattle.fi_channels.specs.declared.channel.fields.ReceiveKind.TheVariants.{Stream}
 use Rattle.fi_channels.specs.ChannelWords.{ChannelMachine, next_value}
 use Rattle.fi_channels.specs.TwoSidesModel.{TwoSidesModel}
 use Rattle.fi_channels.specs.Waiter.{of_sends}

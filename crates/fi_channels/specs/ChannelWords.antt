@@ -15,11 +15,11 @@ use Rattle.fi_parts.specs.NamedPairs.{waker_by}
 use Rattle.fi_parts.specs.Oldest.{asks_of_oldest}
 use Rattle.fi_parts.specs.Order.{holds, Apart}
 use Rattle.fi_parts.specs.Waiting.{Waiters, phase_of, asks_of, displaced_from}
-use Rattle.fi_channels.specs.declared.channel_errors.SendFault.{SendFault}
-use Rattle.fi_channels.specs.declared.channel_errors.SendFault.TheVariants as send_fault
-use Rattle.fi_channels.specs.declared.channel_fields.ReceiveKind.{ReceiveKind}
-use Rattle.fi_channels.specs.declared.channel_fields.ReceiveKind.TheVariants.{Single, Stream}
-use Rattle.fi_channels.specs.declared.two_sides.Waiter.TheVariants.{Send, Receive}
+use Rattle.fi_channels.specs.declared.channel.errors.SendFault.{SendFault}
+use Rattle.fi_channels.specs.declared.channel.errors.SendFault.TheVariants as send_fault
+use Rattle.fi_channels.specs.declared.channel.fields.ReceiveKind.{ReceiveKind}
+use Rattle.fi_channels.specs.declared.channel.fields.ReceiveKind.TheVariants.{Single, Stream}
+use Rattle.fi_channels.specs.declared.channel.two_sides.Waiter.TheVariants.{Send, Receive}
 use Rattle.fi_channels.specs.TwoSidedEffects.{TwoSidedEffect}
 use Rattle.fi_channels.specs.TwoSidedEffects.TwoSidedEffect.{OnSends, OnReceives}
 use Rattle.fi_channels.specs.TwoSidedMachine.{TwoSidedMachine, TwoSidedRules, initial_two_sided}

@@ -2,7 +2,7 @@
 use Rattle.std.specs.Prelude.{◌≡◌, Option, Some, None}
 use Rattle.fi_parts.specs.declared.phase.Phase.{Phase}
 use Rattle.fi_parts.specs.declared.phase.Phase.TheVariants.{Fresh}
-use Rattle.fi_channels.specs.declared.content.Content.{Content}
+use Rattle.fi_channels.specs.declared.oneshot.content.Content.{Content}
 use Rattle.fi_channels.specs.Oneshot.{Giving, GivesFrom}
 
 -- a fresh one what a channel with this content gives, after which the channel holds what is left; any other nothing

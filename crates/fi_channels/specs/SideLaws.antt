@@ -5,8 +5,8 @@ use Rattle.fi_parts.specs.NamedPairs.{has_by}
 use Rattle.fi_parts.specs.Pairs.{has}
 use Rattle.fi_channels.specs.SideView.{IsSide, sends_side, receives_side}
 use Rattle.fi_channels.specs.Waiter.{same_waiter, of_sends, of_receives, sends_in, receives_in}
-use Rattle.fi_channels.specs.declared.two_sides.Waiter.{Waiter}
-use Rattle.fi_channels.specs.declared.two_sides.Waiter.TheVariants.{Send, Receive}
+use Rattle.fi_channels.specs.declared.channel.two_sides.Waiter.{Waiter}
+use Rattle.fi_channels.specs.declared.channel.two_sides.Waiter.TheVariants.{Send, Receive}
 
 module _ {W : Type 0} where
   pub has-sends : (n : ℕ) (out : List (Waiter × W)) → has_by same_waiter (Send n) out ≡ has n (sends_in out)

@@ -3,8 +3,8 @@ use Rattle.std.specs.Borrow.{Lends, Fml, RattleType, MutBor}
 use Rattle.fi_parts.specs.WaitQueueModel.{WaitQueueModel}
 use Rattle.fi_parts.specs.contracts.wait_queue.WaitQueue as one
 use Rattle.fi_channels.specs.SideView.{SideView}
-use Rattle.fi_channels.specs.contracts.two_sides.WaitQueues as both
-use Rattle.fi_channels.specs.declared.two_sides.WaitQueues.{WaitQueues}
+use Rattle.fi_channels.specs.contracts.channel.two_sides.WaitQueues as both
+use Rattle.fi_channels.specs.declared.channel.two_sides.WaitQueues.{WaitQueues}
 
 module _ (D E A W : RattleType) (s : SideView D.Denot E.Denot A.Denot W.Denot) where
   abbrev pub LendsWaitQueue : MutBor (WaitQueues D.Denot E.Denot W.Denot) → MutBor (WaitQueueModel A.Denot W.Denot) → Fml

@@ -9,9 +9,9 @@ use Rattle.fi_parts.specs.Waiting.{Waiters, clear_queue, named_all}
 use Rattle.fi_parts.specs.declared.phase.Phase.{Phase}
 use Rattle.fi_channels.specs.TwoSidesModel.{TwoSidesModel}
 use Rattle.fi_channels.specs.Waiter.{same_waiter, ticket_of_waiter, sends_in, receives_in}
-use Rattle.fi_channels.specs.declared.two_sides.WaitQueues.{WaitQueues}
-use Rattle.fi_channels.specs.declared.two_sides.Waiter.{Waiter}
-use Rattle.fi_channels.specs.declared.two_sides.Waiter.TheVariants.{Send, Receive}
+use Rattle.fi_channels.specs.declared.channel.two_sides.WaitQueues.{WaitQueues}
+use Rattle.fi_channels.specs.declared.channel.two_sides.Waiter.{Waiter}
+use Rattle.fi_channels.specs.declared.channel.two_sides.Waiter.TheVariants.{Send, Receive}
 
 module _ {D E W : Type 0} where
   abbrev pub two_sides_of : WaitQueues D E W → OutboxModel (Waiter × W) → TwoSidesModel D E W

@@ -4,7 +4,7 @@ use Rattle.std.specs.Coded.{Coded, code_by, coded×, coded_list}
 use Rattle.fi_parts.specs.Codes.{waiters_code}
 use Rattle.fi_channels.specs.WaiterCode.{waiter_code}
 use Rattle.fi_parts.specs.Waiting.{Waiters}
-use Rattle.fi_channels.specs.declared.two_sides.Waiter.{Waiter}
+use Rattle.fi_channels.specs.declared.channel.two_sides.Waiter.{Waiter}
 use Rattle.fi_channels.specs.TwoSidesModel.{TwoSidesModel}
 use Rattle.fi_channels.specs.TwoSidedMachine.{TwoSidedMachine}
 

@@ -1,6 +1,6 @@
 -- What a call does to the sends and receives that wait over one outbox: a waiter effect on either side.
 use Rattle.std.specs.Prelude.{◌≡◌, ℕ, Bool, Option, List, ◌++◌, drop, map}
-use Rattle.fi_channels.specs.declared.two_sides.Waiter.TheVariants.{Send, Receive}
+use Rattle.fi_channels.specs.declared.channel.two_sides.Waiter.TheVariants.{Send, Receive}
 use Rattle.fi_parts.specs.Effects.{WaiterEffect, PairsChange, LeadsTo}
 use Rattle.fi_parts.specs.Effects.WaiterEffect.{AndThen}
 use Rattle.fi_parts.specs.Effects.PairsChange.{Keep, TakeOut, Append}

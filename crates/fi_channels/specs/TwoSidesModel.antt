@@ -3,7 +3,7 @@ use Rattle.std.specs.Prelude.{Bool, Option, List, [], ◌++◌}
 use Rattle.fi_channels.specs.Waiter.{of_sends, of_receives, sends_in, receives_in}
 use Rattle.fi_parts.specs.Waiting.{Waiters, no_futures, clear_queue, named_all, AreSound}
 use Rattle.fi_parts.specs.declared.phase.Phase.{Phase}
-use Rattle.fi_channels.specs.declared.two_sides.Waiter.{Waiter}
+use Rattle.fi_channels.specs.declared.channel.two_sides.Waiter.{Waiter}
 
 -- The sends, the receives, and who is to be woken with which waker, oldest first.
 pub record TwoSidesModel (D E W : Type 0) : Type 0 where

@@ -2,8 +2,8 @@
 use Rattle.std.specs.Prelude.{ℕ, eqb, Bool, false, Option, List, [], ◌∷◌, map}
 use Rattle.std.specs.Ordering.{nat_cmp}
 use Rattle.std.specs.FinMap as finmap
-use Rattle.fi_channels.specs.declared.two_sides.Waiter.{Waiter}
-use Rattle.fi_channels.specs.declared.two_sides.Waiter.TheVariants.{Send, Receive}
+use Rattle.fi_channels.specs.declared.channel.two_sides.Waiter.{Waiter}
+use Rattle.fi_channels.specs.declared.channel.two_sides.Waiter.TheVariants.{Send, Receive}
 
 -- the same slot of the same side
 abbrev pub same_waiter : Waiter → Waiter → Bool

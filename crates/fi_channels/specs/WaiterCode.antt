@@ -2,8 +2,8 @@
 use Rattle.std.specs.Prelude.{◌≡◌, ◌⊎◌, ℕ, refl}
 use Rattle.std.proofs.Common.{inl, inr}
 use Rattle.std.specs.Coded.{Coded, code_by, coded⊎, coded_ℕ}
-use Rattle.fi_channels.specs.declared.two_sides.Waiter.{Waiter}
-use Rattle.fi_channels.specs.declared.two_sides.Waiter.TheVariants.{Send, Receive}
+use Rattle.fi_channels.specs.declared.channel.two_sides.Waiter.{Waiter}
+use Rattle.fi_channels.specs.declared.channel.two_sides.Waiter.TheVariants.{Send, Receive}
 
 abbrev waiter_cases : Waiter → ℕ ⊎ ℕ
 waiter_cases (Send slot) = inl slot

@@ -10,20 +10,25 @@ ghost use Rattle.fi_channels.specs.Channel.{CancelsReceive, TriesSend, TriesRece
 ghost use Rattle.fi_channels.specs.Channel.{OwesNoWake};
 ghost use Rattle.fi_channels.specs.ChannelWords as words;
 ghost use Rattle.fi_channels.specs.ChannelWords.{opened, send_phase, receive_phase, kind_of, displaced_send};
-ghost use Rattle.fi_channels.specs.ChannelWords.{displaced_receive, displaced_by_send, has_room};
+ghost use Rattle.fi_channels.specs.ChannelWords.{displaced_receive, displaced_by_send, has_room, next_of};
 ghost use Rattle.fi_channels.specs.ChannelStays.{AllStay, OtherSendsStay, OtherReceivesStay, IsApartFromSends, IsApartFromReceives};
 ghost use Rattle.fi_channels.specs.Cleared.{ClosesAndClears, NoSendWaits};
-ghost use Rattle.fi_channels.specs.declared.channel_fields.ReceiveKind.TheVariants.{Single, Stream};
+ghost use Rattle.fi_channels.specs.declared.channel.fields.ReceiveKind.TheVariants.{Single, Stream};
+
+pub mod errors;
+pub mod fields;
+pub mod stream;
+pub mod two_sides;
 
 use crate::access::{ChannelReceiveAccess, ChannelSendAccess, Received, Sent};
-use crate::channel_errors::{TryReceiveError, TrySendError};
-use crate::channel_fields::{ChannelFields, ReceiveKind};
-use crate::channel_stream::LocalChannelStream;
+use crate::channel::errors::{TryReceiveError, TrySendError};
+use crate::channel::fields::{ChannelFields, ReceiveKind};
+use crate::channel::stream::LocalChannelStream;
+use crate::channel::two_sides::{Receives, Sends};
 use crate::receive_future::LocalReceiveFuture;
 use crate::send_future::LocalSendFuture;
-use crate::two_sides::{Receives, Sends};
 use fi_parts::buffer::{ArrayBuf, RingBuf};
-use fi_parts::{CloseStatus, Fault, Leftover, NoRoom, Refused, Slot, Stage};
+use fi_parts::{CloseStatus, Fault, Leftover, NoRoom, Phase, Refused, Slot, Stage};
 use futures::task::Poll;
 use std::alloc::Global;
 use std::fmt;
@@ -188,35 +193,35 @@ impl<T: Drop, B: RingBuf<Item = T>, W: Drop> ChannelState<T, B, W> {
     pub fn is_closed(&self) -> bool
         ensures { result ≡ not self.now.own.is_open }
     {
-        self.fields.is_closed()
+        !self.fields.is_open
     }
 
     /// Returns the number of values in the buffer. Those of sends that wait are not counted.
     pub fn len(&self) -> usize
         ensures { result ≡ length self.now.own.buffer.items }
     {
-        self.fields.len()
+        self.fields.buffer.len()
     }
 
     /// Returns `true` if the buffer holds no value. With capacity 0 a send may wait nevertheless.
     pub fn is_empty(&self) -> bool
         ensures { result ≡ (length self.now.own.buffer.items == 0) }
     {
-        self.fields.is_empty()
+        self.fields.buffer.is_empty()
     }
 
     /// Returns `true` if the buffer has no room for one more value. With capacity 0 it is both full and empty.
     pub fn is_full(&self) -> bool
         ensures { result ≡ not (has_room self.now.own) }
     {
-        self.fields.is_full()
+        !self.fields.buffer.can_push()
     }
 
     /// Returns the most values that the buffer can hold.
     pub fn capacity(&self) -> usize
         ensures { result ≡ self.now.own.buffer.capacity }
     {
-        self.fields.capacity()
+        self.fields.buffer.capacity()
     }
 
     /// A future that sends the value: it is ready once the value is stored, or was taken from it.
@@ -274,7 +279,7 @@ impl<T: Drop, B: RingBuf<Item = T>, W: Drop> ChannelState<T, B, W> {
         ensures popped { Wakes self.old result self.new }
         ensures all_stay { AllStay self.old self.new }
     {
-        self.fields.next_wake()
+        self.fields.waiters.next_wake()
     }
 
     /// How many wakers are named to be woken. Its clauses also say what holds of every channel: it is sound and owes no wake.
@@ -283,7 +288,7 @@ impl<T: Drop, B: RingBuf<Item = T>, W: Drop> ChannelState<T, B, W> {
         ensures sound { IsSound self.now }
         ensures no_wake { OwesNoWake self.now }
     {
-        self.fields.wake_count()
+        self.fields.waiters.wake_count()
     }
 
     /// Makes a send of this value under a slot that was not live. Refused only for want of memory; then the value comes back
@@ -363,7 +368,16 @@ impl<T: Drop, B: RingBuf<Item = T>, W: Drop> ChannelState<T, B, W> {
             WouldBeReady (PollsNext self.now slot.0) (not result) }
         ensures pollable { result ≡ true → words.can_stream (kind_of self.now slot.0) (receive_phase self.now slot.0) ≡ true }
     {
-        self.fields.next_would_wait(slot)
+        let future = match self.fields.waiters.future::<Receives>(slot) {
+            Some(future) => future,
+            None => return false,
+        };
+        match (&future.asks, &future.phase) {
+            (ReceiveKind::Stream, Phase::Fresh | Phase::Told) => self.fields.is_open
+                && !self.has_next(),
+            (ReceiveKind::Stream, Phase::Registered(_)) => true,
+            _ => false,
+        }
     }
 
     /// Polls the stream under this slot, if one lives there: ready with its next item, or with None once the channel is closed and
@@ -386,6 +400,19 @@ impl<T: Drop, B: RingBuf<Item = T>, W: Drop> ChannelState<T, B, W> {
         ensures handed_back { IfErr result (λ back. back ≡ waker) }
     {
         self.fields.next_checked(slot, waker)
+    }
+
+    // Whether there is a value to be received: one that is buffered, or of a send that waits.
+    fn has_next(&self) -> bool
+        ensures { result ≡ is_some (next_of self.now) }
+    {
+        if !self.fields.buffer.is_empty() {
+            return true;
+        }
+        match self.fields.waiters.oldest_asks::<Sends>() {
+            Some(value) => value.is_some(),
+            None => false,
+        }
     }
 }
 
@@ -412,18 +439,25 @@ impl<T: Drop, B: RingBuf<Item = T>, W: Drop> ChannelSendAccess for ChannelState<
     ghost others_stay = { channel_stays.OtherSendsStay };
 
     fn can_send(&self, slot: Slot) -> bool {
-        self.fields.can_send(slot)
+        match self.fields.waiters.phase::<Sends>(slot) {
+            Some(Phase::Fresh | Phase::Registered(_) | Phase::Complete) => true,
+            None | Some(Phase::Told | Phase::Ended) => false,
+        }
     }
 
     fn has_send(&self, slot: Slot) -> bool {
-        self.fields.has_send(slot)
+        self.fields.waiters.phase::<Sends>(slot).is_some()
     }
 
     fn send_would_wait(&self, slot: Slot) -> bool
         ensures waits { WouldBeReady (PollsSend self.now slot.0) (not result) }
         ensures pollable { result ≡ true → words.can_send (send_phase self.now slot.0) ≡ true }
     {
-        self.fields.send_would_wait(slot)
+        match self.fields.waiters.phase::<Sends>(slot) {
+            Some(Phase::Fresh) => self.fields.is_open && !self.fields.buffer.can_push(),
+            Some(Phase::Registered(_)) => true,
+            None | Some(Phase::Told | Phase::Complete | Phase::Ended) => false,
+        }
     }
 
     #[inline(always)]
@@ -478,11 +512,18 @@ impl<T: Drop, B: RingBuf<Item = T>, W: Drop> ChannelReceiveAccess for ChannelSta
     ghost others_stay = { channel_stays.OtherReceivesStay };
 
     fn can_receive(&self, slot: Slot) -> bool {
-        self.fields.can_receive(slot)
+        let future = match self.fields.waiters.future::<Receives>(slot) {
+            Some(future) => future,
+            None => return false,
+        };
+        match (&future.asks, &future.phase) {
+            (ReceiveKind::Single, Phase::Fresh | Phase::Registered(_) | Phase::Told) => true,
+            _ => false,
+        }
     }
 
     fn has_receive(&self, slot: Slot) -> bool {
-        self.fields.has_receive(slot)
+        self.fields.waiters.phase::<Receives>(slot).is_some()
     }
 
     fn receive_would_wait(&self, slot: Slot) -> bool
@@ -490,7 +531,15 @@ impl<T: Drop, B: RingBuf<Item = T>, W: Drop> ChannelReceiveAccess for ChannelSta
             WouldBeReady (λ waker. Answered (PollsReceive self.now slot.0 waker) (λ fault state. ⊥)) (not result) }
         ensures pollable { result ≡ true → words.can_receive (kind_of self.now slot.0) (receive_phase self.now slot.0) ≡ true }
     {
-        self.fields.receive_would_wait(slot)
+        let Some(future) = self.fields.waiters.future::<Receives>(slot) else {
+            return false;
+        };
+        match (&future.asks, &future.phase) {
+            (ReceiveKind::Single, Phase::Fresh | Phase::Told) => self.fields.is_open
+                && !self.has_next(),
+            (ReceiveKind::Single, Phase::Registered(_)) => true,
+            _ => false,
+        }
     }
 
     #[inline(always)]

@@ -1,6 +1,6 @@
 //! The sends of a channel.
 use crate::access::ChannelSendAccess;
-use crate::channel_errors::SendFault;
+use crate::channel::errors::SendFault;
 use fi_parts::{FutureKind, FuturesOf, LocalFuture, Slot};
 use futures::task::Poll;
 

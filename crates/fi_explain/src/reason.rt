@@ -1,8 +1,7 @@
 //! Why lines are bad.
 
-use fi_scripts::{
-    Label, Labels, MadeFuture, Numbers, Row, Scripted, Verb, Words, after_hold, split_at_first,
-};
+use fi_run::{MadeFuture, Numbers, Row, Verb};
+use fi_scripts::{Label, Labels, Scripted, Words, after_hold, parse_numbers, split_at_first};
 use std::fmt;
 
 /// Why a line is bad.
@@ -124,7 +123,7 @@ fn reason_of_text(text: &[u8]) -> Reason {
     };
     let (first, rest) = split_at_first(numerals, b' ');
     let (second, third) = split_at_first(rest.unwrap_or(first), b' ');
-    if third.is_some() && Numbers::parse(first).is_some() && Numbers::parse(second).is_some() {
+    if third.is_some() && parse_numbers(first).is_some() && parse_numbers(second).is_some() {
         return Reason::TooManyNumbers;
     }
     match numerals.first() {

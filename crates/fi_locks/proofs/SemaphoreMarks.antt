@@ -20,8 +20,8 @@ use Rattle.fi_parts.proofs.Slots.{eqb_same, holds-append, without_absent, withou
 use Rattle.fi_parts.proofs.Waiting.{Becomes}
 use Rattle.fi_locks.specs.FrontLaws.{sum_held, sum_without_one, not_empty}
 use Rattle.fi_locks.specs.Semaphore.{Permits, SemaphoreMachine, opened, need_of, can_take, IsSound}
-use Rattle.fi_locks.specs.SemaphoreFields.{IsFirst, Marks, MarksIf, MarksWithout, MarksWithoutIf}
-use Rattle.fi_locks.specs.SemaphoreFields.{left_promised, promised_without}
+use Rattle.fi_locks.specs.SemaphoreMarks.{IsFirst, MarksFair, MarksIf, MarksWithout, MarksWithoutIf}
+use Rattle.fi_locks.specs.SemaphoreMarks.{left_promised, promised_without}
 use Rattle.fi_locks.specs.SemaphoreFairLaws.{taken_fairly, less_told}
 use Rattle.fi_locks.specs.SemaphoreLaws.{queue_to, unqueued}
 use Rattle.fi_locks.specs.SemaphoreSoundLaws.{after, same_need, other_need_inserted, other_need_removed}
@@ -45,13 +45,13 @@ module _ {W : Type 0} where
   -- What fair semaphores need shown: in an unfair one nothing is promised.
   pub if_fair : (is_fair : Bool) (free free_now promised : ℕ) (untold untold_now : Option Slot) (old new : Waiters ℕ W) →
       MarksIf is_fair free promised untold old →
-      (is_fair ≡ true → Marks free promised untold old → Marks free_now promised untold_now new) →
+      (is_fair ≡ true → MarksFair free promised untold old → MarksFair free_now promised untold_now new) →
       MarksIf is_fair free_now promised untold_now new
   if_fair true free free_now promised untold untold_now old new was fair = fair refl was
   if_fair false free free_now promised untold untold_now old new was fair = was
 
   pub marks_fair : (is_fair : Bool) (free promised : ℕ) (untold : Option Slot) (side : Waiters ℕ W) → is_fair ≡ true →
-      MarksIf is_fair free promised untold side → Marks free promised untold side
+      MarksIf is_fair free promised untold side → MarksFair free promised untold side
   marks_fair is_fair free promised untold side fair was = subst (λ b. MarksIf b free promised untold side) fair was
 
   pub marks_unfair : (is_fair : Bool) (free promised : ℕ) (untold : Option Slot) (side : Waiters ℕ W) → is_fair ≡ false →
@@ -63,9 +63,9 @@ module _ {W : Type 0} where
   told_queued side told rest front q at = ap (holds q) front.is_front ∙ holds-append q told rest ∙ or_left _ _ at
 
   -- Queue and told futures are as before, those queued need what they needed, and what is promised is free.
-  pub marks_still : (free free_now promised : ℕ) (untold : Option Slot) (old new : Waiters ℕ W) → Marks free promised untold old →
+  pub marks_still : (free free_now promised : ℕ) (untold : Option Slot) (old new : Waiters ℕ W) → MarksFair free promised untold old →
       new.queue ≡ old.queue → ((q : ℕ) → is_told (phase_of new q) ≡ is_told (phase_of old q)) →
-      ((q : ℕ) → holds q old.queue ≡ true → need_of new q ≡ need_of old q) → promised ≤ free_now → Marks free_now promised untold new
+      ((q : ℕ) → holds q old.queue ≡ true → need_of new q ≡ need_of old q) → promised ≤ free_now → MarksFair free_now promised untold new
   marks_still free free_now promised untold old new was queue told needs fits = record {
     told = was.told;
     rest = was.rest;
@@ -77,7 +77,7 @@ module _ {W : Type 0} where
 
   -- where permits are granted to one that does not wait, what is promised is free still
   promised_still : (permits : Permits) (side : Waiters ℕ W) (n promised : ℕ) (untold : Option Slot) → permits.is_fair ≡ true →
-      can_take permits side.queue n ≡ true → Marks permits.free promised untold side → promised ≤ permits.free - n
+      can_take permits side.queue n ≡ true → MarksFair permits.free promised untold side → promised ≤ permits.free - n
   promised_still permits side n promised untold fair takes was = elim (taken_fairly permits side.queue n fair takes) [
     | inl empty ↦ omega (arith, sym was.sums ∙ ap (sum_by (need_of side)) (none was.told was.rest (sym was.front.is_front ∙ empty)))
     | inr zero_need ↦ omega (arith, zero_need, was.fits)
@@ -155,7 +155,7 @@ module _ {W : Type 0} where
   -- A name left the queue that the marks leave out.
   marks_left : (old new : Waiters ℕ W) (name : ℕ) (phase : Option (Phase W)) (free promised : ℕ) (untold : Option Slot) →
       MarksWithout name free promised untold old → Becomes old new name phase → is_told phase ≡ false →
-      new.queue ≡ without name old.queue → ((q : ℕ) → q ≢ name → need_of new q ≡ need_of old q) → Marks free promised untold new
+      new.queue ≡ without name old.queue → ((q : ℕ) → q ≢ name → need_of new q ≡ need_of old q) → MarksFair free promised untold new
   marks_left old new name phase free promised untold was b not_told queue needs = record {
     told = without name was.told;
     rest = without name was.rest;
@@ -166,7 +166,7 @@ module _ {W : Type 0} where
   }
 
   module _ (free free_now promised : ℕ) (untold : Option Slot) (side : Waiters ℕ W) (name : ℕ) (once : Apart side.queue)
-      (was : Marks free promised untold side) where
+      (was : MarksFair free promised untold side) where
     once_here : Apart (was.told ++ was.rest)
     once_here = subst Apart was.front.is_front once
 
@@ -228,21 +228,24 @@ module _ {W : Type 0} where
         ∙ or_right (holds slot.0 was.told) _ (ap (holds slot.0) here.1 ∙ or_left (eqb slot.0 slot.0) _ (eqb_same slot.0))
 
   module _ (old : SemaphoreMachine W) (name promised : ℕ) (untold_slot : Option Slot) (new : Waiting ℕ W) (sound : IsSound old) where
-    -- a told one of a fair semaphore is granted what it needs
-    pub marks_told_ended : old.own.is_fair ≡ true → phase_at old name ≡ Some Told →
+    -- a told one is granted what it needs
+    pub marks_told_ended : phase_at old name ≡ Some Told →
         MarksIf old.own.is_fair old.own.free promised untold_slot old.waiting.side → TakesEffect (EndsPlaced name) old.waiting new →
-        MarksIf old.own.is_fair (old.own.free - need_of old.waiting.side name) (promised - need_of old.waiting.side name)
-        untold_slot new.side
-    marks_told_ended fair stood was taken =
-        let side = old.waiting.side in
-        let marks = marks_fair old.own.is_fair old.own.free promised untold_slot side fair was in
-        let b = after (EndsPlaced name) old new sound tt taken in
-        let needs = same_need (EndsPlaced name) old.waiting new taken (λ q. refl) in
-        let left : Marks (old.own.free - need_of side name) (promised - need_of side name) untold_slot new.side =
-        marks_left side new.side name (Some Ended) _ _ untold_slot
-        (marks_without_told old.own.free (old.own.free - need_of side name) promised untold_slot side name sound.waiters.ordered.once marks
-        (ap is_told stood) (omega (arith, marks.fits))) b refl (queue_to new _ taken.1) (λ q ne. needs q) in
-        subst (λ k. MarksIf k (old.own.free - need_of side name) (promised - need_of side name) untold_slot new.side) (sym fair) left
+        MarksIf old.own.is_fair (old.own.free - need_of old.waiting.side name)
+        (left_promised (old.own.is_fair && true) promised (need_of old.waiting.side name)) untold_slot new.side
+    marks_told_ended stood was taken = each old.own.is_fair was
+      where
+        each : (b : Bool) → MarksIf b old.own.free promised untold_slot old.waiting.side →
+            MarksIf b (old.own.free - need_of old.waiting.side name)
+            (left_promised (b && true) promised (need_of old.waiting.side name)) untold_slot new.side
+        each true marks =
+            let side = old.waiting.side in
+            let needs = same_need (EndsPlaced name) old.waiting new taken (λ q. refl) in
+            marks_left side new.side name (Some Ended) _ _ untold_slot
+            (marks_without_told old.own.free (old.own.free - need_of side name) promised untold_slot side name sound.waiters.ordered.once
+            marks (ap is_told stood) (omega (arith, marks.fits))) (after (EndsPlaced name) old new sound tt taken) refl
+            (queue_to new _ taken.1) (λ q ne. needs q)
+        each false none = none
 
     pub marks_removed : MarksWithoutIf old.own.is_fair name old.own.free promised untold_slot old.waiting.side →
         TakesEffect (Removes name) old.waiting new → MarksIf old.own.is_fair old.own.free promised untold_slot new.side
@@ -266,7 +269,7 @@ module _ {W : Type 0} where
   -- The marks without a name that is about to leave the queue of a fair semaphore.
   module _ (old : SemaphoreMachine W) (name promised : ℕ) (untold_slot : Option Slot) (sound : IsSound old)
       (fair : old.own.is_fair ≡ true) (was : MarksIf old.own.is_fair old.own.free promised untold_slot old.waiting.side) where
-    marks : Marks old.own.free promised untold_slot old.waiting.side
+    marks : MarksFair old.own.free promised untold_slot old.waiting.side
     marks = marks_fair old.own.is_fair old.own.free promised untold_slot old.waiting.side fair was
 
     unmark_told : is_told (phase_at old name) ≡ true →

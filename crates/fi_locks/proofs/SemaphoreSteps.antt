@@ -1,43 +1,30 @@
 -- How the calls on a semaphore's fields make up the lines of its table.
 use Rattle.std.proofs.Common.{◌≡◌, ℕ, ◌≤◌, ◌<◌, Bool, true, false, Option}
-use Rattle.std.proofs.Common.{Some, None, is_some, refl, sym, ap, subst, ◌∙◌, arith}
+use Rattle.std.proofs.Common.{Some, refl, sym, ap, subst, ◌∙◌, arith}
 use Rattle.std.proofs.lemmas.Bool.{le-leb, lt-leb, false_from_ne_true}
-use Rattle.std.specs.FinMap as map
-use Rattle.std.specs.Option.{IsSome}
 use Rattle.futures.specs.declared.task.Poll.TheVariants.{Ready, Pending}
 use Rattle.fi_parts.specs.declared.errors.Slot.{Slot}
-use Rattle.fi_parts.specs.declared.phase.LiveFuture.{LiveFuture}
 use Rattle.fi_parts.specs.declared.phase.Phase.TheVariants.{Told}
-use Rattle.fi_parts.specs.Effects.{WaiterEffect}
+use Rattle.fi_parts.specs.Effects.{WaiterEffect, TakesEffect}
 use Rattle.fi_parts.specs.Effects.WaiterEffect.{Registers, EndsPlaced}
 use Rattle.fi_parts.specs.Machine.{phase_at, StepsTo}
 use Rattle.fi_parts.specs.Order.{holds}
 use Rattle.fi_parts.specs.Places.{is_told}
-use Rattle.fi_parts.specs.Waiting.{Waiters, phase_in, phase_of, is_queued, IsLive}
-use Rattle.fi_locks.specs.Semaphore.{Permits, SemaphoreMachine, granted, need_of}
-use Rattle.fi_locks.specs.Semaphore.{is_granted, StepsTelling, PollsAs, Polls, IsSound}
-use Rattle.fi_locks.specs.SemaphoreFields.{MarksIf}
+use Rattle.fi_parts.specs.Waiting.{Waiters, Waiting, is_queued}
+use Rattle.fi_locks.specs.Semaphore.{Permits, SemaphoreMachine, at_own, granted, need_of}
+use Rattle.fi_locks.specs.Semaphore.{is_granted, StepsTelling, PollsAs, PollsNeeding, Polls, IsSound}
+use Rattle.fi_locks.specs.SemaphoreMarks.{MarksIf, TellsIf}
 use Rattle.fi_locks.specs.SemaphoreLaws.{unqueued}
 use Rattle.fi_locks.proofs.SemaphoreMarks.{marks_fair, marks_unfair, told_need_free}
 
 module _ {W : Type 0} where
-  -- a telling round follows
-  pub telling_if : (tells : Bool) (old : SemaphoreMachine W) (permits : Permits) (effect : WaiterEffect ℕ W) (new : SemaphoreMachine W) →
-      tells ≡ true → StepsTelling true old permits effect new → StepsTelling tells old permits effect new
-  telling_if tells old permits effect new is did = subst (λ b. StepsTelling b old permits effect new) (sym is) did
-
-  -- none follows
-  pub quiet_if : (tells : Bool) (old : SemaphoreMachine W) (permits : Permits) (effect : WaiterEffect ℕ W) (new : SemaphoreMachine W) →
-      tells ≡ false → StepsTo old permits effect new → StepsTelling tells old permits effect new
-  quiet_if tells old permits effect new is did = subst (λ b. StepsTelling b old permits effect new) (sym is) did
-
-  -- who has a phase lives
-  pub live_from : (side : Waiters ℕ W) (name : ℕ) → is_some (phase_of side name) ≡ true → IsLive side name
-  live_from side name is = each (map.get side.live name) is
-    where
-      each : (o : Option (LiveFuture ℕ W)) → is_some (phase_in o) ≡ true → IsSome o
-      each None r = r
-      each (Some f) r = refl
+  -- a step, and then a telling round or none
+  pub steps_telling : (tells : Bool) (old : SemaphoreMachine W) (permits : Permits) (effect : WaiterEffect ℕ W) (mid : Waiting ℕ W)
+      (new : SemaphoreMachine W) → TakesEffect effect old.waiting mid → TellsIf tells (at_own permits mid) new →
+      StepsTelling tells old permits effect new
+  steps_telling true old permits effect mid new taken did = (mid, taken, did)
+  steps_telling false old permits effect mid new taken same =
+      subst (λ m. StepsTo old permits effect m) (sym same) (refl, taken)
 
   -- nothing is marked in an unfair semaphore
   pub marks_any : (is_fair : Bool) (free free_now promised : ℕ) (untold untold_now : Option Slot) (old new : Waiters ℕ W) →
@@ -70,10 +57,9 @@ module _ {W : Type 0} where
         subst (λ p. PollsAs p (is_granted p old need) need old name waker Pending new) (sym stood)
         (subst (λ b. PollsAs (Some Told) b need old name waker Pending new) (sym (lt-leb need old.own.free over)) (unfair, refl, steps))
 
-    pub told_ends : need_of old.waiting.side name ≤ old.own.free →
-        StepsTelling old.own.is_fair old (granted old.own (need_of old.waiting.side name)) (EndsPlaced name) new →
-        Polls old name waker (Ready (need_of old.waiting.side name)) new
-    told_ends fits steps =
-        let need = need_of old.waiting.side name in
-        subst (λ p. PollsAs p (is_granted p old need) need old name waker (Ready need) new) (sym stood)
-        (subst (λ b. PollsAs (Some Told) b need old name waker (Ready need) new) (sym (le-leb need old.own.free fits)) (refl, steps))
+    pub told_ends : (need : ℕ) → need ≡ need_of old.waiting.side name → need ≤ old.own.free →
+        StepsTelling old.own.is_fair old (granted old.own need) (EndsPlaced name) new → Polls old name waker (Ready need) new
+    told_ends need is fits steps =
+        subst (λ n. PollsNeeding n old name waker (Ready need) new) is
+        (subst (λ p. PollsAs p (is_granted p old need) need old name waker (Ready need) new) (sym stood)
+        (subst (λ b. PollsAs (Some Told) b need old name waker (Ready need) new) (sym (le-leb need old.own.free fits)) (refl, steps)))

@@ -24,7 +24,7 @@ use Rattle.fi_parts.proofs.Waiting.{asks-with_phases}
 use Rattle.fi_locks.specs.FrontLaws.{same_rest, same_first, not_empty}
 use Rattle.fi_locks.specs.Semaphore.{SemaphoreMachine, need_of, IsLongestFit, IsSound, Tells}
 use Rattle.fi_locks.specs.SemaphoreFairLaws.{front_is_told, front_needs}
-use Rattle.fi_locks.specs.SemaphoreFields.{IsFirst, IsStopped, MarksIf, Walk}
+use Rattle.fi_locks.specs.SemaphoreMarks.{IsFirst, IsStopped, MarksIf, Walk}
 use Rattle.fi_locks.specs.ToldFutures.{IsToldFront}
 use Rattle.fi_locks.proofs.SemaphoreMarks.{marks_fair, marks_unfair}
 

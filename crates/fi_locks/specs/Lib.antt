@@ -13,4 +13,4 @@ pub mod SemaphoreUnfairLaws
 pub mod SemaphoreLaws
 pub mod Mutex
 pub mod MutexLaws
-pub mod SemaphoreFields
+pub mod SemaphoreMarks

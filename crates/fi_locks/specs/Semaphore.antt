@@ -12,17 +12,11 @@ use Rattle.fi_parts.specs.Machine.{Machine, phase_at, initial, StepsTo, HasSound
 pub use Rattle.fi_parts.specs.Machine.{Wakes}
 use Rattle.fi_parts.specs.Places.{is_told}
 use Rattle.fi_parts.specs.Waiting.{Waiters, Waiting, phase_of, asks_of, is_queued, is_registered}
-use Rattle.fi_locks.specs.declared.asked.Asked.{Asked}
-use Rattle.fi_locks.specs.declared.asked.Asked.TheVariants.{NoNeed, OneNeed, MixedNeeds}
+pub use Rattle.fi_locks.specs.declared.semaphore.Permits.{Permits}
+use Rattle.fi_locks.specs.declared.semaphore.asked.Asked.{Asked}
+use Rattle.fi_locks.specs.declared.semaphore.asked.Asked.TheVariants.{NoNeed, OneNeed, MixedNeeds}
 use Rattle.fi_locks.specs.ToldFutures.{AreTold, IsToldFront}
 pub use Rattle.fi_parts.specs.Polled.{can_be_polled, is_wait_phase}
-
--- Fair or unfair, how many permits are free and how many are held, and what the futures that were made so far needed.
-pub record Permits : Type 0 where
-  pub is_fair : Bool
-  pub free : ℕ
-  pub held : ℕ
-  pub asked : Asked
 
 -- Its own data are the permits; a future asks for the number of permits that it needs.
 abbrev pub SemaphoreMachine : Type 0 → Type 0
@@ -65,6 +59,9 @@ AreHeld (Ready permits) held = permits ≤ held
 AreHeld Pending held = ⊤
 
 module _ {W : Type 0} where
+  abbrev pub at_own : Permits → Waiting ℕ W → SemaphoreMachine W
+  at_own permits waiting = record { own = permits; waiting = waiting }
+
   abbrev pub opened : Bool → ℕ → SemaphoreMachine W
   opened is_fair permits = initial (record { is_fair = is_fair; free = permits; held = 0; asked = NoNeed })
 

@@ -3,8 +3,8 @@ use Rattle.std.specs.Prelude.{◌≡◌, ◌⊎◌, ℕ, Bool, true, false, refl
 use Rattle.std.proofs.Common.{inl, inr}
 use Rattle.std.specs.Coded.{Coded, code_by, coded×, coded⊎, coded_ℕ, coded_bool}
 use Rattle.fi_parts.specs.MachineCode.{machine_code}
-use Rattle.fi_locks.specs.declared.asked.Asked.{Asked}
-use Rattle.fi_locks.specs.declared.asked.Asked.TheVariants.{NoNeed, OneNeed, MixedNeeds}
+use Rattle.fi_locks.specs.declared.semaphore.asked.Asked.{Asked}
+use Rattle.fi_locks.specs.declared.semaphore.asked.Asked.TheVariants.{NoNeed, OneNeed, MixedNeeds}
 use Rattle.fi_locks.specs.Semaphore.{Permits, SemaphoreMachine}
 
 abbrev pub asked_cases : Asked → Bool ⊎ ℕ

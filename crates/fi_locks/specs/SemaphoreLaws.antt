@@ -27,15 +27,15 @@ use Rattle.fi_parts.proofs.Effects.{untold, untold_if_leaving}
 use Rattle.fi_parts.proofs.Machines.{line, ends, ends_placed, registers, stays, polls_and_then, pops, added}
 use Rattle.fi_parts.proofs.Slots.{without_absent}
 use Rattle.fi_parts.proofs.Waiting.{Becomes}
-use Rattle.fi_locks.specs.declared.asked.Asked.{Asked}
-use Rattle.fi_locks.specs.declared.asked.Asked.TheVariants.{NoNeed, OneNeed, MixedNeeds}
+use Rattle.fi_locks.specs.declared.semaphore.asked.Asked.{Asked}
+use Rattle.fi_locks.specs.declared.semaphore.asked.Asked.TheVariants.{NoNeed, OneNeed, MixedNeeds}
 use Rattle.fi_locks.specs.FrontLaws.{sum_without, not_empty}
 use Rattle.fi_locks.specs.Semaphore.{Permits, SemaphoreMachine, asked_after, granted, can_take, opened, need_of, can_be_polled, is_granted}
-use Rattle.fi_locks.specs.Semaphore.{AreHeld, Tells, StepsTelling, Makes, PollsAs}
+use Rattle.fi_locks.specs.Semaphore.{at_own, AreHeld, Tells, StepsTelling, Makes, PollsAs}
 use Rattle.fi_locks.specs.Semaphore.{Polls, cancel_tells, Cancels, TriesAcquire, Releases}
 use Rattle.fi_locks.specs.Semaphore.{GivesBack, Disarms, Wakes, is_wait_phase, IsSound}
 use Rattle.fi_locks.specs.Semaphore.{OwesNoWakeFair, OwesNoWakeUnfair, OwesNoWakeIf, OwesNoWake}
-use Rattle.fi_locks.specs.SemaphoreSoundLaws.{rules, no_lack, at_own, Changes, same_need, other_need_inserted, other_need_removed}
+use Rattle.fi_locks.specs.SemaphoreSoundLaws.{rules, no_lack, Changes, same_need, other_need_inserted, other_need_removed}
 use Rattle.fi_locks.specs.SemaphoreSoundLaws.{told_waits, registered_waits, waiters_after, sound_phase, sound_permits, sound_inserted}
 use Rattle.fi_locks.specs.SemaphoreSoundLaws.{counted_still, after, sound_ended, sound_removed, sound_tells, sound_opened}
 use Rattle.fi_locks.specs.SemaphoreFairLaws.{taken_fairly, fair_still, fair_empty, fair_changed}

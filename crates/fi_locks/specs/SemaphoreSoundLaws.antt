@@ -21,10 +21,10 @@ use Rattle.fi_parts.proofs.Notified.{AllBecome}
 use Rattle.fi_parts.proofs.PairsWithin.{if_true, if_false}
 use Rattle.fi_parts.proofs.Slots.{holds-append}
 use Rattle.fi_parts.proofs.Waiting.{Becomes}
-use Rattle.fi_locks.specs.declared.asked.Asked.{Asked}
-use Rattle.fi_locks.specs.declared.asked.Asked.TheVariants.{NoNeed, OneNeed, MixedNeeds}
+use Rattle.fi_locks.specs.declared.semaphore.asked.Asked.{Asked}
+use Rattle.fi_locks.specs.declared.semaphore.asked.Asked.TheVariants.{NoNeed, OneNeed, MixedNeeds}
 use Rattle.fi_locks.specs.Semaphore.{Permits, SemaphoreMachine, asked_after, IsAmong, granted}
-use Rattle.fi_locks.specs.Semaphore.{opened, need_of, is_wait_phase, IsSound, Tells}
+use Rattle.fi_locks.specs.Semaphore.{at_own, opened, need_of, is_wait_phase, IsSound, Tells}
 
 among_zero : (asked : Asked) → IsAmong asked 0
 among_zero NoNeed = refl
@@ -99,9 +99,6 @@ module _ {W : Type 0} where
   pub record Changes (old new : Waiters ℕ W) (name : ℕ) (phase : Option (Phase W)) : Type 0 where
     pub becomes : Becomes old new name phase
     pub needs : (q : ℕ) → q ≢ name → need_of new q ≡ need_of old q
-
-  abbrev pub at_own : Permits → Waiting ℕ W → SemaphoreMachine W
-  at_own permits waiting = record { own = permits; waiting = waiting }
 
   need_from : (new : Waiters ℕ W) (q : ℕ) (asks : Option ℕ) → asks_of new q ≡ asks → need_of new q ≡ unwrap_or asks 0
   need_from new q asks same = ap (λ o. unwrap_or o 0) same

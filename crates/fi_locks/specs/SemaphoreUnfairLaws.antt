@@ -11,7 +11,7 @@ use Rattle.fi_parts.specs.Places.{is_told}
 use Rattle.fi_parts.specs.Waiting.{Waiters, phase_of, is_queued, is_registered}
 use Rattle.fi_parts.proofs.Slots.{eqb_same, holds-append, Apart-front}
 use Rattle.fi_parts.proofs.Waiting.{Becomes}
-use Rattle.fi_locks.specs.declared.asked.Asked.TheVariants.{NoNeed, OneNeed}
+use Rattle.fi_locks.specs.declared.semaphore.asked.Asked.TheVariants.{NoNeed, OneNeed}
 use Rattle.fi_locks.specs.FrontLaws.{length_without_one, some_first, sum_one, times, more_times, Apart-join}
 use Rattle.fi_locks.specs.Semaphore.{SemaphoreMachine, IsAmong, need_of, IsSound, Tells, OwesNoWakeUnfair}
 use Rattle.fi_locks.specs.SemaphoreSoundLaws.{waits_if, registered_waits, told_now}

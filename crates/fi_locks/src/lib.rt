@@ -12,21 +12,18 @@
 //! A state names whom to wake, the oldest first: `next_wake` takes the wakers out.
 #![tactic(auto)]
 
-mod asked;
 mod mutex;
-mod mutex_future;
-mod mutex_guard;
 mod semaphore;
-mod semaphore_future;
 mod tally;
 mod timer;
-mod timer_future;
 
+pub use mutex::future::{LocalMutexLockFuture, MutexLock};
+pub use mutex::guard::LocalMutexGuard;
 pub use mutex::{LocalMutex, MutexState};
-pub use mutex_future::{LocalMutexLockFuture, MutexLock};
-pub use mutex_guard::LocalMutexGuard;
+pub use semaphore::future::{
+    LocalSemaphoreAcquireFuture, LocalSemaphoreReleaser, SemaphoreAcquire,
+};
 pub use semaphore::{LocalSemaphore, SemaphoreState};
-pub use semaphore_future::{LocalSemaphoreAcquireFuture, LocalSemaphoreReleaser, SemaphoreAcquire};
 pub use tally::{Grant, Tally};
+pub use timer::future::{LocalTimerFuture, TimerWait};
 pub use timer::{LocalTimerService, TimerState};
-pub use timer_future::{LocalTimerFuture, TimerWait};

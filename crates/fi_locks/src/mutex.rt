@@ -16,8 +16,11 @@ ghost use Rattle.futures.specs.Poll.{OnPending};
 ghost use Rattle.fi_parts.specs.Stays.{AllStay, OthersStay, IsApart};
 ghost use Rattle.fi_parts.specs.Stages.{stage_of, AppendsQueue};
 
-use crate::mutex_future::LocalMutexLockFuture;
-use crate::mutex_guard::LocalMutexGuard;
+pub mod future;
+pub mod guard;
+
+use crate::mutex::future::LocalMutexLockFuture;
+use crate::mutex::guard::LocalMutexGuard;
 use fi_parts::{Fault, Leftover, Phase, Refused, Slot, Stage, Waits, last_waker};
 use futures::task::Poll;
 use std::alloc::Global;

@@ -1,23 +1,26 @@
 //! A semaphore.
-ghost use Rattle.std.specs.Prelude.{◌≡◌, ◌≤◌, ◌<◌, ◌+◌, ◌-◌, ◌^◌, ◌&&◌, not, true, false, Option, Some};
-ghost use Rattle.std.specs.Prelude.{None, IfOk, IfErr, OnOk, OnErr, MatchOption, is_some, length, ⊤};
+ghost use Rattle.std.specs.Prelude.{◌≡◌, ◌≤◌, ◌+◌, ◌-◌, ◌^◌, ◌&&◌, not, true, false, Option, Some, IfOk, IfErr, OnOk, OnErr, MatchOption};
+ghost use Rattle.std.specs.Prelude.{is_some, length, ⊤};
 ghost use Rattle.std.specs.Option.{option_map};
 ghost use Rattle.fi_parts.specs.Effects.{TakesEffect};
 ghost use Rattle.fi_parts.specs.Effects.WaiterEffect.{EndsPlaced};
 ghost use Rattle.fi_parts.specs.Machine.{phase_at, displaced_at};
 ghost use Rattle.fi_parts.specs.Polled.{unused_after, WouldBeReady, LeavesWhere};
-ghost use Rattle.fi_parts.specs.Waiting.{phase_of, displaced, is_registered};
+ghost use Rattle.fi_parts.specs.Waiting.{phase_of, displaced, is_registered, is_queued, IsOrderedBy};
 ghost use Rattle.fi_parts.specs.declared.phase.Phase.TheVariants as phases;
-ghost use Rattle.fi_locks.specs.Semaphore.{opened, can_be_polled, need_of, can_take, granted};
+ghost use Rattle.fi_locks.specs.Semaphore.{opened, can_be_polled, need_of, can_take, at_own};
 ghost use Rattle.fi_locks.specs.Semaphore.{cancel_tells, Makes, Polls, Cancels, TriesAcquire, Releases};
-ghost use Rattle.fi_locks.specs.Semaphore.{GivesBack, Disarms, Wakes, Tells, AreHeld, IsSound, OwesNoWake};
+ghost use Rattle.fi_locks.specs.Semaphore.{GivesBack, Disarms, Wakes, AreHeld, IsSound, OwesNoWake};
 ghost use Rattle.futures.specs.Poll.{OnPending};
 ghost use Rattle.fi_parts.specs.Stays.{AllStay, OthersStay, IsApart};
 ghost use Rattle.fi_parts.specs.Stages.{stage_of, AppendsQueue};
-ghost use Rattle.fi_locks.specs.SemaphoreFields.{IsMarked};
+ghost use Rattle.fi_locks.specs.SemaphoreMarks.{IsMarked, MarksWithoutIf, promised_without, left_promised, Walk, IsStopped, TellsIf};
 
-use crate::asked::Asked;
-use crate::semaphore_future::{LocalSemaphoreAcquireFuture, LocalSemaphoreReleaser};
+pub mod asked;
+pub mod future;
+
+use crate::semaphore::asked::Asked;
+use crate::semaphore::future::{LocalSemaphoreAcquireFuture, LocalSemaphoreReleaser};
 use fi_parts::{Fault, Leftover, Phase, Refused, Slot, Stage, Waits, last_waker};
 use futures::task::Poll;
 use std::alloc::Global;
@@ -50,7 +53,27 @@ use std::marker::Model;
 /// ```
 #[derive(Drop)]
 pub struct SemaphoreState<W> {
-    fields: SemaphoreFields<W>,
+    permits: Permits,
+    marks: Marks,
+    waits: Waits<usize, W>,
+}
+
+/// Fair or unfair, how many permits are free and how many are held, and what the futures that were made so far needed.
+#[derive(Clone, Copy)]
+pub struct Permits {
+    pub is_fair: bool,
+    pub free: usize,
+    pub held: usize,
+    pub asked: Asked,
+}
+
+// Where a telling round of a fair semaphore goes on: those told already are not walked over again.
+#[derive(Drop)]
+struct Marks {
+    // How many permits the told futures need together; none in an unfair semaphore.
+    promised: usize,
+    // The oldest future that waits and isn't told. An unfair semaphore doesn't read it.
+    untold: Option<Slot>,
 }
 
 impl<W: Drop> fmt::Debug for SemaphoreState<W> {
@@ -85,17 +108,142 @@ impl<W: Drop> fmt::Debug for SemaphoreState<W> {
 pub type LocalSemaphore<W> = SemaphoreState<W>;
 
 impl<W> Model for SemaphoreState<W> {
-    ghost use Rattle.fi_locks.specs.Semaphore.{SemaphoreMachine, IsSound, OwesNoWake};
+    ghost use Rattle.fi_locks.specs.Semaphore.{SemaphoreMachine, at_own, IsSound, OwesNoWake};
     ghost use Rattle.fi_locks.specs.SemaphoreCode.{semaphore_code};
-    ghost use Rattle.fi_locks.specs.SemaphoreFields.{machine_of, IsMarked};
+    ghost use Rattle.fi_locks.specs.SemaphoreMarks.{IsMarked};
 
     ghost Value = { SemaphoreMachine W };
 
     ghost coded = { semaphore_code W.code };
 
-    ghost view = { λ s. machine_of s.fields };
+    ghost view = { λ s. at_own s.permits s.waits };
 
-    ghost invariant = { λ s. (IsSound (machine_of s.fields) × OwesNoWake (machine_of s.fields)) × IsMarked s.fields };
+    ghost invariant = { λ s. (IsSound (at_own s.permits s.waits) × OwesNoWake (at_own s.permits s.waits))
+        × IsMarked s.permits s.marks s.waits.side };
+}
+
+impl Marks {
+    // What a told future of a fair semaphore needed is promised no longer.
+    fn unpromise(&mut self, is_fair: bool, is_told: bool, need: usize)
+        requires { (is_fair && is_told) ≡ true → need ≤ self.old.promised }
+        ensures { self.new ≡ record self.old { promised = left_promised (is_fair && is_told) self.old.promised need } }
+    {
+        if is_fair && is_told {
+            self.promised -= need;
+        }
+    }
+}
+
+// How many permits the future under this slot needs.
+fn need<W: Drop>(waits: &Waits<usize, W>, slot: Slot) -> usize
+    ensures { result ≡ need_of waits.now.side slot.0 }
+{
+    match waits.asks(slot) {
+        Some(need) => *need,
+        None => 0,
+    }
+}
+
+// Ends a live future, which leaves the queue if it has a place there. Gives the waker that it had.
+fn end<W: Drop>(waits: &mut Waits<usize, W>, slot: Slot) -> Option<W>
+    requires live { is_some (phase_of waits.old.side slot.0) ≡ true }
+    ensures ended { TakesEffect (EndsPlaced slot.0) waits.old waits.new }
+    ensures waker { result ≡ displaced waits.old.side waits.old.out slot.0 }
+{
+    let named = waits.take_out(slot);
+    waits.leave(slot);
+    waits.set_phase(slot, Phase::Ended).or(named)
+}
+
+// A telling round follows the cancel of a future with this phase.
+fn tells_on_cancel<W>(is_fair: bool, phase: &Phase<W>) -> bool
+    ensures { result ≡ cancel_tells is_fair (Some phase.now) }
+{
+    match phase {
+        Phase::Told => true,
+        Phase::Registered(_) => is_fair,
+        Phase::Fresh | Phase::Complete | Phase::Ended => false,
+    }
+}
+
+// Marks the oldest that is not told as it is without this future, whether or not the future is told.
+#[inline(always)]
+fn pass_over<W: Drop>(permits: Permits, marks: &mut Marks, waits: &mut Waits<usize, W>, slot: Slot)
+    requires sound { IsSound (at_own permits waits.old) }
+    requires marked { IsMarked permits marks.old waits.old.side }
+    ensures marked { MarksWithoutIf permits.is_fair slot.0 permits.free
+        (promised_without permits.is_fair marks.old.promised waits.old.side slot.0) marks.new.untold waits.old.side }
+    ensures promised { marks.new.promised ≡ marks.old.promised }
+    ensures same { waits.new ≡ waits.old }
+{
+    if !permits.is_fair {
+        return;
+    }
+    let Some(first) = marks.untold else {
+        return;
+    };
+    if first.0 == slot.0 {
+        marks.untold = waits.younger(slot);
+    }
+}
+
+// The future with which a telling round begins: the oldest that is not told.
+fn first_untold<W: Drop>(permits: Permits, marks: &Marks, waits: &Waits<usize, W>) -> Option<Slot>
+    requires marked { IsMarked permits marks.now waits.now.side }
+    ensures { Walk permits.is_fair permits.free waits.now waits.now (permits.free - marks.now.promised) result }
+{
+    if permits.is_fair {
+        return marks.untold;
+    }
+    waits.oldest()
+}
+
+// Tells futures from this one on, each taking its need from what is available, until the first that needs more. Gives
+// that one, and what is left.
+#[inline(always)]
+fn tell_from<W: Drop>(
+    permits: Permits,
+    waits: &mut Waits<usize, W>,
+    first: Option<Slot>,
+    count: usize,
+) -> (Option<Slot>, usize)
+    requires ordered { IsOrderedBy (is_queued permits.is_fair) waits.old.side waits.old.out }
+    requires walked { Walk permits.is_fair permits.free waits.old waits.old count first }
+    ensures walked { Walk permits.is_fair permits.free waits.old waits.new result.1 result.0 }
+    ensures stopped { IsStopped waits.old.side result.1 result.0 }
+{
+    let mut available = count;
+    let mut next = first;
+    while let Some(slot) = next {
+        let need = need(waits, slot);
+        if available < need {
+            return (next, available);
+        }
+        available -= need;
+        next = waits.younger(slot);
+        waits.tell(slot, permits.is_fair);
+    }
+    (None, available)
+}
+
+// A telling round, if it is to be one: the longest front of the queue whose needs together are free is told.
+#[inline(always)]
+fn tell_if<W: Drop>(tells: bool, permits: Permits, marks: &mut Marks, waits: &mut Waits<usize, W>)
+    requires sound { IsSound (at_own permits waits.old) }
+    requires marked { IsMarked permits marks.old waits.old.side }
+    ensures told { TellsIf tells (at_own permits waits.old) (at_own permits waits.new) }
+    ensures marked { IsMarked permits marks.new waits.new.side }
+{
+    if !tells {
+        return;
+    }
+    let first = first_untold(permits, marks, waits);
+    let available = permits.free - marks.promised;
+    let (untold, left) = tell_from(permits, waits, first, available);
+    if permits.is_fair {
+        marks.untold = untold;
+        marks.promised = permits.free - left;
+    }
 }
 
 impl<W: Drop> SemaphoreState<W> {
@@ -104,15 +252,17 @@ impl<W: Drop> SemaphoreState<W> {
         ensures { result ≡ opened is_fair permits }
     {
         SemaphoreState {
-            fields: SemaphoreFields {
+            permits: Permits {
                 is_fair,
                 free: permits,
                 held: 0,
                 asked: Asked::NoNeed,
+            },
+            marks: Marks {
                 promised: 0,
                 untold: None,
-                waits: Waits::new(alloc),
             },
+            waits: Waits::new(alloc),
         }
     }
 
@@ -161,21 +311,28 @@ impl<W: Drop> SemaphoreState<W> {
         ensures held { self.new.own.held ≡ self.old.own.held }
         ensures all_stay { AllStay can_be_polled self.old self.new }
     {
-        self.fields.release(permits)
+        if permits > usize::MAX - (self.permits.free + self.permits.held) {
+            return Err(Fault::Overflow);
+        }
+        self.permits.free += permits;
+        tell_if(permits > 0, self.permits, &mut self.marks, &mut self.waits);
+        Ok(())
     }
 
     /// How many permits are free. Keeps `GenericSemaphore::permits`.
     pub fn permits(&self) -> usize
         ensures { result ≡ self.now.own.free }
     {
-        self.fields.free
+        let permits = self.permits;
+        permits.free
     }
 
     /// How many permits are held by those who acquired them.
     pub fn held(&self) -> usize
         ensures { result ≡ self.now.own.held }
     {
-        self.fields.held
+        let permits = self.permits;
+        permits.held
     }
 
     /// Takes out the oldest waker that was named to be woken; None where none is left.
@@ -183,7 +340,7 @@ impl<W: Drop> SemaphoreState<W> {
         ensures woken { Wakes self.old result self.new }
         ensures all_stay { AllStay can_be_polled self.old self.new }
     {
-        self.fields.next_wake()
+        self.waits.next_wake()
     }
 
     /// How many wakers are named to be woken. Its clauses also say what holds of every semaphore: it is sound and owes no wake.
@@ -192,7 +349,7 @@ impl<W: Drop> SemaphoreState<W> {
         ensures sound { IsSound self.now }
         ensures no_wake { OwesNoWake self.now }
     {
-        self.fields.waits.wake_count()
+        self.waits.wake_count()
     }
 
     /// Makes a future that needs this many permits, under a slot that was not live. Refused only with `NoMemory`; then nothing
@@ -206,21 +363,26 @@ impl<W: Drop> SemaphoreState<W> {
         ensures apart { IfOk result (λ slot. IsApart slot.0 self.old) }
         ensures all_stay { AllStay can_be_polled self.old self.new }
     {
-        self.fields.claim_acquire(permits)
+        let slot = match self.waits.insert(permits) {
+            Ok(slot) => slot,
+            Err(failed) => return Err(Fault::from(failed)),
+        };
+        self.permits.asked = self.permits.asked.after(permits);
+        Ok(slot)
     }
 
     /// Returns `true` if a future lives under this slot.
     pub fn is_live(&self, slot: Slot) -> bool
         ensures { result ≡ is_some (phase_at self.now slot.0) }
     {
-        self.fields.waits.phase(slot).is_some()
+        self.waits.phase(slot).is_some()
     }
 
     /// How far the future under this slot is; None if none lives there.
     pub fn stage(&self, slot: Slot) -> Option<Stage>
         ensures { result ≡ option_map stage_of (phase_at self.now slot.0) }
     {
-        self.fields.waits.stage(slot)
+        self.waits.stage(slot)
     }
 
     /// Appends the slots of the queue, the oldest first. Where there was no memory for all, a beginning was appended.
@@ -228,7 +390,7 @@ impl<W: Drop> SemaphoreState<W> {
         ensures same { self.new ≡ self.old }
         ensures appended { OnOk result (AppendsQueue self.old.waiting.side.queue slots.old.items slots.new.items) }
     {
-        self.fields.waits.queue(slots)
+        self.waits.queue(slots)
     }
 
     /// Returns `true` if a poll of the future under this slot would have to wait now, so that it needs a waker; `false` where none may be
@@ -237,7 +399,16 @@ impl<W: Drop> SemaphoreState<W> {
         ensures waits { WouldBeReady (Polls self.now slot.0) (not result) }
         ensures pollable { result ≡ true → can_be_polled (phase_at self.now slot.0) ≡ true }
     {
-        self.fields.would_wait(slot)
+        let future = match self.waits.future(slot) {
+            Some(future) => future,
+            None => return false,
+        };
+        match &future.phase {
+            Phase::Fresh => !self.can_take(future.asks),
+            Phase::Registered(_) => self.permits.is_fair || self.permits.free < future.asks,
+            Phase::Told => self.permits.free < future.asks,
+            Phase::Complete | Phase::Ended => false,
+        }
     }
 
     /// Polls the future under this slot, if one lives there that has not ended: ready with the permits that it needs if they are
@@ -255,7 +426,17 @@ impl<W: Drop> SemaphoreState<W> {
         ensures handed_back { IfErr result (λ back. back ≡ waker) }
         ensures others { OthersStay can_be_polled slot.0 self.old self.new }
     {
-        self.fields.poll_checked(slot, waker)
+        let Some(future) = self.waits.future(slot) else {
+            return Err(waker);
+        };
+        let need = future.asks;
+        let polled = match &future.phase {
+            Phase::Fresh => self.poll_fresh(slot, need, waker),
+            Phase::Registered(_) => self.poll_registered(slot, need, waker),
+            Phase::Told => self.poll_told(slot, need, waker),
+            Phase::Complete | Phase::Ended => return Err(waker),
+        };
+        Ok(polled)
     }
 
     /// Cancels the future under this slot, if one lives there, and gives back the waker that it had. A notice that it had not used is
@@ -271,7 +452,17 @@ impl<W: Drop> SemaphoreState<W> {
         if !self.is_live(slot) {
             return None;
         }
-        self.fields.remove_live(slot)
+        pass_over(self.permits, &mut self.marks, &mut self.waits, slot);
+        let (future, named) = match self.waits.remove_future(slot) {
+            Some(left) => left,
+            None => return None,
+        };
+        let tells = tells_on_cancel(self.permits.is_fair, &future.phase);
+        self.marks
+            .unpromise(self.permits.is_fair, future.phase.is_told(), future.asks);
+        let waker = last_waker(future.phase, named);
+        tell_if(tells, self.permits, &mut self.marks, &mut self.waits);
+        waker
     }
 
     /// Acquires this many permits as `try_acquire` does, and says whether it did. They are then held until `give_back` or
@@ -281,7 +472,12 @@ impl<W: Drop> SemaphoreState<W> {
         ensures tried { TriesAcquire self.old permits result self.new }
         ensures all_stay { AllStay can_be_polled self.old self.new }
     {
-        self.fields.try_acquire(permits)
+        if !self.can_take(permits) {
+            return false;
+        }
+        self.permits.free -= permits;
+        self.permits.held += permits;
+        true
     }
 
     /// Makes this many held permits free again, and tells the longest front of the queue whose needs together are free then.
@@ -293,7 +489,12 @@ impl<W: Drop> SemaphoreState<W> {
         ensures given_back { GivesBack self.old permits self.new }
         ensures all_stay { AllStay can_be_polled self.old self.new }
     {
-        self.fields.give_back(permits);
+        self.permits = Permits {
+            free: self.permits.free + permits,
+            held: self.permits.held - permits,
+            ..self.permits
+        };
+        tell_if(permits > 0, self.permits, &mut self.marks, &mut self.waits);
     }
 
     /// Forgets this many held permits, which will not be given back.
@@ -304,134 +505,38 @@ impl<W: Drop> SemaphoreState<W> {
         ensures disarmed { Disarms self.old permits self.new }
         ensures all_stay { AllStay can_be_polled self.old self.new }
     {
-        self.fields.disarm(permits);
-    }
-}
-
-/// The fields of a semaphore. Between two calls on them the semaphore's law may be broken.
-///
-/// A telling round of a fair semaphore goes on where the one before ended, so those told already are not walked over again.
-#[derive(Drop)]
-struct SemaphoreFields<W> {
-    is_fair: bool,
-    free: usize,
-    held: usize,
-    asked: Asked,
-    // Of a fair semaphore: how many permits the told futures need together.
-    promised: usize,
-    // Of a fair semaphore: the oldest future that waits and isn't told. An unfair one doesn't read it.
-    untold: Option<Slot>,
-    waits: Waits<usize, W>,
-}
-
-impl<W: Drop> SemaphoreFields<W> {
-    ghost use Rattle.fi_locks.specs.SemaphoreFields.{machine_of, MarksWithoutIf, promised_without, left_promised, Walk, IsStopped};
-
-    fn next_wake(&mut self) -> Option<W>
-        requires marked { IsMarked self.old }
-        ensures popped { Wakes (machine_of self.old) result (machine_of self.new) }
-        ensures marked { IsMarked self.new }
-    {
-        self.waits.next_wake()
-    }
-
-    #[inline(always)]
-    fn claim_acquire(&mut self, permits: usize) -> Result<Slot, Fault>
-        requires sound { IsSound (machine_of self.old) }
-        requires marked { IsMarked self.old }
-        ensures made { IfOk result (λ slot. Makes (machine_of self.old) permits slot.0 (machine_of self.new)) }
-        ensures refused { OnErr result (machine_of self.new ≡ machine_of self.old) }
-        ensures fault { IfErr result (λ fault. fault ≡ Fault.NoMemory) }
-        ensures marked { IsMarked self.new }
-    {
-        match self.waits.insert(permits) {
-            Ok(slot) => {
-                self.asked = self.asked.after(permits);
-                Ok(slot)
-            }
-            Err(failed) => Err(Fault::from(failed)),
-        }
-    }
-
-    // How many permits the future under this slot needs.
-    fn need(&self, slot: Slot) -> usize
-        ensures { result ≡ need_of self.now.waits.side slot.0 }
-    {
-        match self.waits.asks(slot) {
-            Some(need) => *need,
-            None => 0,
-        }
+        self.permits.held -= permits;
     }
 
     // Whether one who does not wait is granted this many permits.
     fn can_take(&self, permits: usize) -> bool
-        ensures { result ≡ can_take (machine_of self.now).own self.now.waits.side.queue permits }
+        ensures { result ≡ can_take self.now.own self.now.waiting.side.queue permits }
     {
-        if permits > self.free {
+        if permits > self.permits.free {
             return false;
         }
-        if !self.is_fair || permits == 0 {
+        if !self.permits.is_fair || permits == 0 {
             return true;
         }
         self.waits.oldest().is_none()
     }
 
-    fn would_wait(&self, slot: Slot) -> bool
-        ensures waits { WouldBeReady (Polls (machine_of self.now) slot.0) (not result) }
-        ensures pollable { result ≡ true → can_be_polled (phase_of self.now.waits.side slot.0) ≡ true }
-    {
-        let future = match self.waits.future(slot) {
-            Some(future) => future,
-            None => return false,
-        };
-        match &future.phase {
-            Phase::Fresh => !self.can_take(future.asks),
-            Phase::Registered(_) => self.is_fair || self.free < future.asks,
-            Phase::Told => self.free < future.asks,
-            Phase::Complete | Phase::Ended => false,
-        }
-    }
-
-    // Free permits are held now.
-    fn hand_out(&mut self, permits: usize)
-        requires free { permits ≤ self.old.free }
-        requires counted { self.old.free + self.old.held < 2 ^ 64 }
-        ensures { self.new ≡ record self.old { free = self.old.free - permits; held = self.old.held + permits } }
-    {
-        self.free -= permits;
-        self.held += permits;
-    }
-
-    // Ends a live future, which leaves the queue if it has a place there. Gives the waker that it had.
-    fn end(&mut self, slot: Slot) -> Option<W>
-        requires live { is_some (phase_of self.old.waits.side slot.0) ≡ true }
-        ensures ended { TakesEffect (EndsPlaced slot.0) self.old.waits self.new.waits }
-        ensures rest { self.new ≡ record self.old { waits = self.new.waits } }
-        ensures waker { result ≡ displaced self.old.waits.side self.old.waits.out slot.0 }
-    {
-        let named = self.waits.take_out(slot);
-        self.waits.leave(slot);
-        self.waits.set_phase(slot, Phase::Ended).or(named)
-    }
-
     #[inline(always)]
     fn poll_fresh(&mut self, slot: Slot, need: usize, waker: W) -> (Poll<usize>, Leftover<W>)
-        requires sound { IsSound (machine_of self.old) }
-        requires marked { IsMarked self.old }
-        requires need { need ≡ need_of self.old.waits.side slot.0 }
-        requires fresh { phase_of self.old.waits.side slot.0 ≡ Some phases.Fresh }
-        ensures polled { Polls (machine_of self.old) slot.0 waker result.0 (machine_of self.new) }
-        ensures displaced { result.1.displaced ≡ displaced self.old.waits.side self.old.waits.out slot.0 }
+        requires need { need ≡ need_of self.old.waiting.side slot.0 }
+        requires fresh { phase_at self.old slot.0 ≡ Some phases.Fresh }
+        ensures polled { Polls self.old slot.0 waker result.0 self.new }
+        ensures displaced { result.1.displaced ≡ displaced_at self.old slot.0 }
         ensures unused { result.1.unused ≡ unused_after result.0 waker }
-        ensures marked { IsMarked self.new }
     {
         if !self.can_take(need) {
             let named = self.waits.take_out(slot);
             self.waits.register(slot, waker);
-            self.untold = self.untold.or(Some(slot));
+            self.marks.untold = self.marks.untold.or(Some(slot));
             return (Poll::Pending, Leftover::of(named, None));
         }
-        self.hand_out(need);
+        self.permits.free -= need;
+        self.permits.held += need;
         let named = self.waits.take_out(slot);
         self.waits.set_phase(slot, Phase::Ended);
         (Poll::Ready(need), Leftover::of(named, Some(waker)))
@@ -439,246 +544,46 @@ impl<W: Drop> SemaphoreFields<W> {
 
     #[inline(always)]
     fn poll_registered(&mut self, slot: Slot, need: usize, waker: W) -> (Poll<usize>, Leftover<W>)
-        requires sound { IsSound (machine_of self.old) }
-        requires marked { IsMarked self.old }
-        requires need { need ≡ need_of self.old.waits.side slot.0 }
-        requires registered { is_registered (phase_of self.old.waits.side slot.0) ≡ true }
-        ensures polled { Polls (machine_of self.old) slot.0 waker result.0 (machine_of self.new) }
-        ensures displaced { result.1.displaced ≡ displaced self.old.waits.side self.old.waits.out slot.0 }
+        requires need { need ≡ need_of self.old.waiting.side slot.0 }
+        requires registered { is_registered (phase_at self.old slot.0) ≡ true }
+        ensures polled { Polls self.old slot.0 waker result.0 self.new }
+        ensures displaced { result.1.displaced ≡ displaced_at self.old slot.0 }
         ensures unused { result.1.unused ≡ unused_after result.0 waker }
-        ensures marked { IsMarked self.new }
     {
-        if self.is_fair || need > self.free {
+        if self.permits.is_fair || need > self.permits.free {
             self.waits.take_out(slot);
             let before = self.waits.set_phase(slot, Phase::Registered(waker));
             return (Poll::Pending, Leftover::of(before, None));
         }
-        self.hand_out(need);
-        let before = self.end(slot);
+        self.permits.free -= need;
+        self.permits.held += need;
+        let before = end(&mut self.waits, slot);
         (Poll::Ready(need), Leftover::of(before, Some(waker)))
     }
 
     #[inline(always)]
     fn poll_told(&mut self, slot: Slot, need: usize, waker: W) -> (Poll<usize>, Leftover<W>)
-        requires sound { IsSound (machine_of self.old) }
-        requires marked { IsMarked self.old }
-        requires need { need ≡ need_of self.old.waits.side slot.0 }
-        requires told { phase_of self.old.waits.side slot.0 ≡ Some phases.Told }
-        ensures polled { Polls (machine_of self.old) slot.0 waker result.0 (machine_of self.new) }
-        ensures displaced { result.1.displaced ≡ displaced self.old.waits.side self.old.waits.out slot.0 }
+        requires need { need ≡ need_of self.old.waiting.side slot.0 }
+        requires told { phase_at self.old slot.0 ≡ Some phases.Told }
+        ensures polled { Polls self.old slot.0 waker result.0 self.new }
+        ensures displaced { result.1.displaced ≡ displaced_at self.old slot.0 }
         ensures unused { result.1.unused ≡ unused_after result.0 waker }
-        ensures marked { IsMarked self.new }
     {
-        if need > self.free {
+        if need > self.permits.free {
             let named = self.waits.take_out(slot);
             self.waits.register(slot, waker);
             return (Poll::Pending, Leftover::of(named, None));
         }
-        self.hand_out(need);
-        let named = self.end(slot);
-        if !self.is_fair {
-            return (Poll::Ready(need), Leftover::of(named, Some(waker)));
-        }
-        self.promised -= need;
-        self.tell();
+        self.permits.free -= need;
+        self.permits.held += need;
+        let named = end(&mut self.waits, slot);
+        self.marks.unpromise(self.permits.is_fair, true, need);
+        tell_if(
+            self.permits.is_fair,
+            self.permits,
+            &mut self.marks,
+            &mut self.waits,
+        );
         (Poll::Ready(need), Leftover::of(named, Some(waker)))
-    }
-
-    #[inline(always)]
-    fn poll_checked(&mut self, slot: Slot, waker: W) -> Result<(Poll<usize>, Leftover<W>), W>
-        requires sound { IsSound (machine_of self.old) }
-        requires marked { IsMarked self.old }
-        ensures polled { IfOk result (λ polled. Polls (machine_of self.old) slot.0 waker polled.0 (machine_of self.new)) }
-        ensures displaced { IfOk result (λ polled. polled.1.displaced ≡ displaced self.old.waits.side self.old.waits.out slot.0) }
-        ensures unused { IfOk result (λ polled. polled.1.unused ≡ unused_after polled.0 waker) }
-        ensures marked { IsMarked self.new }
-        ensures refused { OnErr result ((can_be_polled (phase_of self.old.waits.side slot.0) ≡ false) × (self.new ≡ self.old)) }
-        ensures handed_back { IfErr result (λ back. back ≡ waker) }
-    {
-        let Some(future) = self.waits.future(slot) else {
-            return Err(waker);
-        };
-        let need = future.asks;
-        match &future.phase {
-            Phase::Fresh => Ok(self.poll_fresh(slot, need, waker)),
-            Phase::Registered(_) => Ok(self.poll_registered(slot, need, waker)),
-            Phase::Told => Ok(self.poll_told(slot, need, waker)),
-            Phase::Complete | Phase::Ended => Err(waker),
-        }
-    }
-
-    // A telling round follows the cancel of a future with this phase.
-    fn tells_on_cancel(&self, phase: &Phase<W>) -> bool
-        ensures { result ≡ cancel_tells self.now.is_fair (Some phase.now) }
-    {
-        match phase {
-            Phase::Told => true,
-            Phase::Registered(_) => self.is_fair,
-            Phase::Fresh | Phase::Complete | Phase::Ended => false,
-        }
-    }
-
-    // Marks the oldest that is not told as it is without this future, whether or not the future is told.
-    #[inline(always)]
-    fn pass_over(&mut self, slot: Slot)
-        requires sound { IsSound (machine_of self.old) }
-        requires marked { IsMarked self.old }
-        ensures marked { MarksWithoutIf self.old.is_fair slot.0 self.old.free
-            (promised_without self.old.is_fair self.old.promised self.old.waits.side slot.0) self.new.untold self.old.waits.side }
-        ensures rest { self.new ≡ record self.old { untold = self.new.untold } }
-    {
-        if !self.is_fair {
-            return;
-        }
-        let Some(first) = self.untold else {
-            return;
-        };
-        if first.0 == slot.0 {
-            self.untold = self.waits.younger(slot);
-        }
-    }
-
-    // What a told future of a fair semaphore needed is promised no longer, once it has left.
-    fn unpromise(&mut self, is_told: bool, need: usize)
-        requires { (self.old.is_fair && is_told) ≡ true → need ≤ self.old.promised }
-        ensures { self.new ≡ record self.old { promised = left_promised (self.old.is_fair && is_told) self.old.promised need } }
-    {
-        if self.is_fair && is_told {
-            self.promised -= need;
-        }
-    }
-
-    #[inline(always)]
-    fn remove_live(&mut self, slot: Slot) -> Option<W>
-        requires sound { IsSound (machine_of self.old) }
-        requires marked { IsMarked self.old }
-        requires live { is_some (phase_of self.old.waits.side slot.0) ≡ true }
-        ensures cancelled { Cancels (machine_of self.old) slot.0 (machine_of self.new) }
-        ensures displaced { result ≡ displaced self.old.waits.side self.old.waits.out slot.0 }
-        ensures marked { IsMarked self.new }
-    {
-        self.pass_over(slot);
-        let (future, named) = match self.waits.remove_future(slot) {
-            Some(left) => left,
-            None => return None,
-        };
-        let tells = self.tells_on_cancel(&future.phase);
-        self.unpromise(future.phase.is_told(), future.asks);
-        let waker = last_waker(future.phase, named);
-        if tells {
-            self.tell();
-        }
-        waker
-    }
-
-    #[inline(always)]
-    fn try_acquire(&mut self, permits: usize) -> bool
-        requires sound { IsSound (machine_of self.old) }
-        requires marked { IsMarked self.old }
-        ensures tried { TriesAcquire (machine_of self.old) permits result (machine_of self.new) }
-        ensures marked { IsMarked self.new }
-    {
-        if !self.can_take(permits) {
-            return false;
-        }
-        self.hand_out(permits);
-        true
-    }
-
-    #[inline(always)]
-    fn release(&mut self, permits: usize) -> Result<(), Fault>
-        requires sound { IsSound (machine_of self.old) }
-        requires marked { IsMarked self.old }
-        ensures released { IfOk result (λ _. Releases (machine_of self.old) permits (machine_of self.new)) }
-        ensures refused { OnErr result (machine_of self.new ≡ machine_of self.old) }
-        ensures fault { IfErr result (λ fault. (fault ≡ Fault.Overflow) × (2 ^ 64 ≤ self.old.free + self.old.held + permits)) }
-        ensures marked { IsMarked self.new }
-    {
-        if permits > usize::MAX - (self.free + self.held) {
-            return Err(Fault::Overflow);
-        }
-        self.free += permits;
-        if permits > 0 {
-            self.tell();
-        }
-        Ok(())
-    }
-
-    #[inline(always)]
-    fn give_back(&mut self, permits: usize)
-        requires sound { IsSound (machine_of self.old) }
-        requires marked { IsMarked self.old }
-        requires held { permits ≤ self.old.held }
-        ensures given_back { GivesBack (machine_of self.old) permits (machine_of self.new) }
-        ensures marked { IsMarked self.new }
-    {
-        self.held -= permits;
-        self.free += permits;
-        if permits > 0 {
-            self.tell();
-        }
-    }
-
-    fn disarm(&mut self, permits: usize)
-        requires marked { IsMarked self.old }
-        requires held { permits ≤ self.old.held }
-        ensures disarmed { Disarms (machine_of self.old) permits (machine_of self.new) }
-        ensures marked { IsMarked self.new }
-    {
-        self.held -= permits;
-    }
-
-    // The future with which a telling round begins: the oldest that is not told.
-    fn first_untold(&self) -> Option<Slot>
-        requires sound { IsSound (machine_of self.now) }
-        requires marked { IsMarked self.now }
-        ensures { Walk self.now.is_fair self.now.free self.now.waits self.now.waits (self.now.free - self.now.promised) result }
-    {
-        if self.is_fair {
-            return self.untold;
-        }
-        self.waits.oldest()
-    }
-
-    // Tells futures from this one on, each taking its need from what is available, until the first that needs more. Gives
-    // that one, and what is left.
-    #[inline(always)]
-    fn tell_from(&mut self, first: Option<Slot>, permits: usize) -> (Option<Slot>, usize)
-        requires sound { IsSound (machine_of self.old) }
-        requires walked { Walk self.old.is_fair self.old.free self.old.waits self.old.waits permits first }
-        ensures walked { Walk self.old.is_fair self.old.free self.old.waits self.new.waits result.1 result.0 }
-        ensures stopped { IsStopped self.old.waits.side result.1 result.0 }
-        ensures rest { self.new ≡ record self.old { waits = self.new.waits } }
-    {
-        let is_fair = self.is_fair;
-        let mut available = permits;
-        let mut next = first;
-        while let Some(slot) = next {
-            let need = self.need(slot);
-            if available < need {
-                return (next, available);
-            }
-            available -= need;
-            next = self.waits.younger(slot);
-            self.waits.tell(slot, is_fair);
-        }
-        (None, available)
-    }
-
-    // A telling round: the longest front of the queue whose needs together are free is told.
-    #[inline(always)]
-    fn tell(&mut self)
-        requires sound { IsSound (machine_of self.old) }
-        requires marked { IsMarked self.old }
-        ensures told { Tells (machine_of self.old) (machine_of self.new) }
-        ensures marked { IsMarked self.new }
-    {
-        let first = self.first_untold();
-        let available = self.free - self.promised;
-        let (untold, left) = self.tell_from(first, available);
-        if self.is_fair {
-            self.untold = untold;
-            self.promised = self.free - left;
-        }
     }
 }

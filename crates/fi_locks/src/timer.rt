@@ -12,7 +12,9 @@ ghost use Rattle.fi_parts.specs.Stages.{stage_of};
 ghost use Rattle.fi_locks.specs.Timer.{opened, expiry_after, can_be_polled, Makes, Polls, Cancels, Checks, Wakes};
 ghost use Rattle.fi_locks.specs.Timer.{IsSound, OwesNoWake};
 
-use crate::timer_future::LocalTimerFuture;
+pub mod future;
+
+use crate::timer::future::LocalTimerFuture;
 use fi_parts::{Deadlines, Fault, Leftover, Phase, Slot, Stage, whole_millis};
 use futures::task::Poll;
 use std::alloc::Global;

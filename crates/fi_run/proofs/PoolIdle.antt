@@ -13,8 +13,8 @@ use Rattle.fi_parts.specs.Effects.WaiterEffect.{NoChange, NotifiesAll}
 use Rattle.fi_parts.specs.Oldest.{asks_of_oldest}
 use Rattle.fi_parts.specs.Waiting.{Waiting, front_told}
 use Rattle.fi_parts.specs.Waiting as waiting
-use Rattle.fi_channels.specs.declared.channel_errors.TryReceiveError.{TryReceiveError}
-use Rattle.fi_channels.specs.declared.channel_fields.ReceiveKind.{ReceiveKind}
+use Rattle.fi_channels.specs.declared.channel.errors.TryReceiveError.{TryReceiveError}
+use Rattle.fi_channels.specs.declared.channel.fields.ReceiveKind.{ReceiveKind}
 use Rattle.fi_channels.specs.Channel.{TriesNext, TriesReceive, Closes, ClosesAt}
 use Rattle.fi_channels.specs.ChannelWords.{ChannelMachine, tells_oldest, closed, next_value, next_of, with_buffer}
 use Rattle.fi_channels.specs.TwoSidedEffects.{TakesTwoSided}

@@ -2,13 +2,14 @@
 use Rattle.std.specs.Prelude.{◌≡◌, ◌≤◌, ◌+◌, ◌-◌, ◌∷◌, ℕ, Bool, true, false, [], Option, length, Ok}
 use Rattle.std.proofs.Common.{sym, ◌∙◌, ap, subst, arith, length-append}
 use Rattle.fi_parts.specs.declared.errors.CloseStatus.TheVariants.{NewlyClosed}
-use Rattle.fi_channels.specs.declared.channel_fields.ReceiveKind.{ReceiveKind}
+use Rattle.fi_channels.specs.declared.channel.fields.ReceiveKind.{ReceiveKind}
 use Rattle.fi_channels.specs.Channel.{TriesSend, TriesReceive, Closes}
 use Rattle.fi_channels.specs.ChannelWords.{Buffered, ChannelMachine, tells_oldest}
 use Rattle.fi_channels.specs.TwoSidedEffects.{TakesTwoSided}
 use Rattle.fi_channels.specs.TwoSidesModel.{TwoSidesModel}
-use Rattle.fi_locks.specs.Semaphore.{Permits, SemaphoreMachine, GivesBack, TriesAcquire}
-use Rattle.fi_run.specs.declared.pool_state.PoolFields.{PoolFields}
+use Rattle.fi_locks.specs.declared.semaphore.Permits.{Permits}
+use Rattle.fi_locks.specs.Semaphore.{SemaphoreMachine, GivesBack, TriesAcquire}
+use Rattle.fi_run.specs.declared.pool.state.PoolFields.{PoolFields}
 use Rattle.fi_run.specs.Pool.{is_drained, SetsIf}
 use Rattle.fi_run.specs.PoolFields.{machine_of, AreTied, IsPool}
 use Rattle.fi_run.specs.PoolLaws.{open_is_not_drained, running_is_not_drained, waiting_is_not_drained, set_by}

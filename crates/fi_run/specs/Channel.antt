@@ -6,9 +6,9 @@ use Rattle.fi_parts.specs.declared.errors.Fault.{Fault}
 use Rattle.fi_parts.specs.declared.errors.Fault.TheVariants.{NoMemory, NoSlot, Closed, Full, Empty}
 use Rattle.fi_parts.specs.declared.phase.Phase.TheVariants.{Fresh}
 use Rattle.fi_parts.specs.Buffer.{Fits, empty}
-use Rattle.fi_channels.specs.declared.channel_errors.SendFault.TheVariants as send_fault
-use Rattle.fi_channels.specs.declared.channel_errors.TrySendError.TheVariants as not_sent
-use Rattle.fi_channels.specs.declared.channel_fields.ReceiveKind.TheVariants as kinds
+use Rattle.fi_channels.specs.declared.channel.errors.SendFault.TheVariants as send_fault
+use Rattle.fi_channels.specs.declared.channel.errors.TrySendError.TheVariants as not_sent
+use Rattle.fi_channels.specs.declared.channel.fields.ReceiveKind.TheVariants as kinds
 use Rattle.fi_channels.specs.Channel.{MakesSend, MakesReceive, PollsSend, PollsReceive, PollsNext, CancelsSend}
 use Rattle.fi_channels.specs.Channel.{CancelsReceive, TriesSend, TriesReceive, Closes, Wakes, IsSound, OwesNoWake}
 use Rattle.fi_channels.specs.ChannelWords.{ChannelMachine, opened, can_send, can_receive, can_stream, IsGrowing}

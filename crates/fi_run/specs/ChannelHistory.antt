@@ -5,8 +5,8 @@ use Rattle.fi_parts.specs.declared.phase.Phase.{Phase}
 use Rattle.fi_parts.specs.declared.phase.Phase.TheVariants.{Fresh, Ended}
 use Rattle.fi_parts.specs.WakerHistory.{WakerChange, KeepsWakers}
 use Rattle.fi_parts.specs.WakerHistory.WakerChange.{NoEffect}
-use Rattle.fi_channels.specs.declared.channel_fields.ReceiveKind.{ReceiveKind}
-use Rattle.fi_channels.specs.declared.channel_fields.ReceiveKind.TheVariants as kinds
+use Rattle.fi_channels.specs.declared.channel.fields.ReceiveKind.{ReceiveKind}
+use Rattle.fi_channels.specs.declared.channel.fields.ReceiveKind.TheVariants as kinds
 use Rattle.fi_channels.specs.ChannelWords.{ChannelMachine, receive_phase, kind_of}
 use Rattle.fi_channels.specs.TwoSidedEffects.{waiting_sends, waiting_receives}
 use Rattle.fi_run.specs.declared.answer.Answer.{Answer}

@@ -16,11 +16,11 @@ use Rattle.fi_parts.specs.Oldest.{complete_first, complete_oldest, asks_of_oldes
 use Rattle.fi_parts.specs.Waiting.{Waiters, is_registered, registered, stays, ended, clear_queue, insert_fresh, exchange, without_future}
 use Rattle.fi_parts.proofs.PairsWithin.{none_some, some_same, if_true, if_false}
 use Rattle.fi_parts.proofs.WakerHistories.{kept_at_first}
-use Rattle.fi_channels.specs.declared.channel_errors.SendFault.{SendFault}
-use Rattle.fi_channels.specs.declared.channel_errors.SendFault.TheVariants as send_fault
-use Rattle.fi_channels.specs.declared.channel_errors.TryReceiveError.{TryReceiveError}
-use Rattle.fi_channels.specs.declared.channel_errors.TrySendError.TheVariants as not_sent
-use Rattle.fi_channels.specs.declared.channel_fields.ReceiveKind.TheVariants as kinds
+use Rattle.fi_channels.specs.declared.channel.errors.SendFault.{SendFault}
+use Rattle.fi_channels.specs.declared.channel.errors.SendFault.TheVariants as send_fault
+use Rattle.fi_channels.specs.declared.channel.errors.TryReceiveError.{TryReceiveError}
+use Rattle.fi_channels.specs.declared.channel.errors.TrySendError.TheVariants as not_sent
+use Rattle.fi_channels.specs.declared.channel.fields.ReceiveKind.TheVariants as kinds
 use Rattle.fi_channels.specs.Channel.{FreshSends, SendsAs, TakesNext, ReceivesAs, StreamsAs, CancelsReceiveAs}
 use Rattle.fi_channels.specs.Channel.{TriesNext, ClosesAt, IsSound, OwesNoWake}
 use Rattle.fi_channels.specs.ChannelWords.{ChannelMachine, Buffered, rules, has_room, next_value, next_of, send_phase}

@@ -24,11 +24,11 @@ use Rattle.fi_parts.proofs.Waiting.{noticed_phase, becomes-made, becomes-with_ph
 use Rattle.fi_parts.proofs.Waiting.{asks-with_phase, asks-with_phases, first_registered, live_if_registered}
 use Rattle.fi_parts.proofs.Sound.{sound-forgotten}
 use Rattle.fi_parts.specs.declared.errors.Slot.{Slot}
-use Rattle.fi_channels.specs.declared.channel_errors.SendFault.TheVariants as send_fault
-use Rattle.fi_channels.specs.declared.channel_fields.ReceiveKind.{ReceiveKind}
-use Rattle.fi_channels.specs.declared.channel_fields.ReceiveKind.TheVariants as kinds
-use Rattle.fi_channels.specs.declared.two_sides.Waiter.{Waiter}
-use Rattle.fi_channels.specs.declared.two_sides.Waiter.TheVariants as sides
+use Rattle.fi_channels.specs.declared.channel.errors.SendFault.TheVariants as send_fault
+use Rattle.fi_channels.specs.declared.channel.fields.ReceiveKind.{ReceiveKind}
+use Rattle.fi_channels.specs.declared.channel.fields.ReceiveKind.TheVariants as kinds
+use Rattle.fi_channels.specs.declared.channel.two_sides.Waiter.{Waiter}
+use Rattle.fi_channels.specs.declared.channel.two_sides.Waiter.TheVariants as sides
 use Rattle.fi_channels.specs.Channel.{SendsAs, FreshSends, TakesNext, ReceivesAs, StreamsAs, CancelsReceiveAs}
 use Rattle.fi_channels.specs.Channel.{TriesNext, ClosesAt}
 use Rattle.fi_channels.specs.ChannelWords.{ChannelMachine, is_receive_phase, can_receive, can_stream, receive_phase}

@@ -2,6 +2,9 @@ pub mod OutgoingLaws
 pub mod PoolCode
 pub mod Run
 pub mod Script
+pub mod Rows
+pub mod Hidden
+pub mod Verbs
 pub mod WakerChanges
 pub mod FirstPolls
 pub mod Outgoing

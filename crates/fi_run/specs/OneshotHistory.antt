@@ -3,8 +3,8 @@
 use Rattle.std.specs.Prelude.{◌≡◌, ⊤, ◌⊎◌, ℕ, ◌+◌, ◌≤◌, true, false, List, [], ◌∷◌, length}
 use Rattle.fi_parts.specs.declared.errors.Fault.TheVariants.{NoMemory, NoSlot}
 use Rattle.fi_parts.specs.WakerHistory.{IsIn, KeepsWakers}
-use Rattle.fi_channels.specs.declared.content.Content.{Content}
-use Rattle.fi_channels.specs.declared.content.Content.TheVariants.{Empty, Full, Spent}
+use Rattle.fi_channels.specs.declared.oneshot.content.Content.{Content}
+use Rattle.fi_channels.specs.declared.oneshot.content.Content.TheVariants.{Empty, Full, Spent}
 use Rattle.fi_channels.specs.Oneshot.{OneshotMachine, Giving}
 use Rattle.fi_run.specs.declared.answer.Answer.{Answer}
 use Rattle.fi_run.specs.declared.answer.Answer.TheVariants.{Item, Done, Newly, Refused}

@@ -17,8 +17,8 @@ use Rattle.fi_parts.specs.Waiting.{is_registered}
 use Rattle.fi_parts.specs.WakerHistory.{IsIn}
 use Rattle.fi_parts.proofs.Machines.{line_preserves, unchanged, inserts, removes, pops}
 use Rattle.fi_parts.proofs.WakerHistories.{line_keeps_wakers, kept_at_first}
-use Rattle.fi_channels.specs.declared.content.Content.{Content}
-use Rattle.fi_channels.specs.declared.content.Content.TheVariants.{Empty, Full, Spent}
+use Rattle.fi_channels.specs.declared.oneshot.content.Content.{Content}
+use Rattle.fi_channels.specs.declared.oneshot.content.Content.TheVariants.{Empty, Full, Spent}
 use Rattle.fi_channels.specs.Oneshot.{OneshotMachine, Giving, GivesFrom, taking, left_by, can_receive, has_closed, MayLack}
 use Rattle.fi_channels.specs.Oneshot.{MayLackFor, FreshPolls, PollsAs, TriesReceive, SendsAt, ClosesAt, IsSound, OwesNoWake}
 use Rattle.fi_channels.specs.OneshotLaws as laws

@@ -6,7 +6,7 @@ use Rattle.fi_parts.specs.Machine.{Machine, StepsTo}
 use Rattle.fi_parts.specs.Order.{head_or}
 use Rattle.fi_parts.specs.NamedPairs as named
 use Rattle.fi_parts.specs.Pairs.{oldest, wakers_of}
-use Rattle.fi_channels.specs.declared.two_sides.Waiter.{Waiter}
+use Rattle.fi_channels.specs.declared.channel.two_sides.Waiter.{Waiter}
 use Rattle.fi_channels.specs.TwoSidedEffects.TwoSidedEffect.{PopsFirst}
 use Rattle.fi_channels.specs.TwoSidedMachine.{TwoSidedMachine, TwoSidedStep}
 use Rattle.fi_run.specs.Outgoing.{TakesOldest, machine_outgoing, two_sided_outgoing}

@@ -2,7 +2,7 @@
 use Rattle.std.specs.Prelude.{◌≡◌, ◌+◌, false, length}
 use Rattle.fi_parts.specs.Effects.{nobody}
 use Rattle.fi_channels.specs.TwoSidesModel.{no_waiters}
-use Rattle.fi_run.specs.declared.pool_state.PoolFields.{PoolFields}
+use Rattle.fi_run.specs.declared.pool.state.PoolFields.{PoolFields}
 use Rattle.fi_run.specs.Pool.{PoolMachine, is_drained}
 
 module _ {W : Type 0} where

@@ -17,7 +17,8 @@ use Rattle.fi_parts.specs.Waiting.{Waiting, is_queued}
 use Rattle.fi_parts.specs.WakerHistory.{gives}
 use Rattle.fi_parts.proofs.PairsWithin.{if_true, if_false}
 use Rattle.fi_parts.proofs.Slots.{without_absent}
-use Rattle.fi_locks.specs.Semaphore.{Permits, SemaphoreMachine, granted, need_of, is_granted, StepsTelling, Makes, PollsAs, Polls}
+use Rattle.fi_locks.specs.declared.semaphore.Permits.{Permits}
+use Rattle.fi_locks.specs.Semaphore.{SemaphoreMachine, granted, need_of, is_granted, StepsTelling, Makes, PollsAs, Polls}
 use Rattle.fi_locks.specs.Semaphore.{cancel_tells, Cancels, TriesAcquire, Releases, GivesBack, Disarms, Wakes}
 use Rattle.fi_locks.specs.Semaphore.{IsSound, asked_after}
 use Rattle.fi_locks.specs.SemaphoreFairLaws.{taken_fairly}

@@ -3,8 +3,10 @@ ghost use Rattle.std.specs.Prelude.{ℕ};
 ghost use Rattle.fi_run.specs.Pool.{PoolMachine, IsSound, OwesNoWake, Opens, InEveryRun};
 ghost use Rattle.fi_run.specs.PoolHistory.{StartsInOrder, RunningAddsUp, WakersAreKept};
 
+pub mod state;
+
 use crate::answer::Answer;
-use crate::pool_state::PoolState;
+use crate::pool::state::PoolState;
 use crate::runs::{Primitive, every_run};
 use fi_parts::{Fault, Slot};
 use std::alloc::Global;

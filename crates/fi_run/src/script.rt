@@ -1,24 +1,29 @@
-//! Histories as scripts of the program `schedule`.
-ghost use Rattle.std.specs.Prelude.{◌≡◌, ◌≢◌, ◌⊎◌, IfErr, OnOk, slice_get};
+//! The lines of scripts, which the program `schedule` answers: what each line of a call says, and histories as scripts.
+ghost use Rattle.std.specs.Prelude.{◌≡◌, ◌≢◌, ◌⊎◌, ℕ, IfErr, MatchOption, OnOk, Option, Some, slice_get};
 ghost use Rattle.fi_run.specs.Script.{LeavesWakers, TakesAllWakers, asks_for_waker, took_waker, is_left_out};
+ghost use Rattle.fi_run.specs.declared.answer.Answer.TheVariants.{Woken};
+ghost use Rattle.fi_run.specs.declared.script.row.Row.{Row};
 
 use crate::answer::Answer;
 use crate::journal::{Entry, Settled};
 use crate::runs::Primitive;
+use crate::script::row::{Numbers, Row};
 use fi_parts::{Fault, Refused, Slot, Stage};
 use std::alloc::AllocError;
 use std::error::Error;
 use std::fmt;
 use std::io::{self, ErrorKind};
 
-mod channel;
+pub(crate) mod channel;
 mod event;
 mod mutex;
-mod oneshot;
+pub(crate) mod oneshot;
 mod pool;
+pub(crate) mod row;
 mod semaphore;
 mod state;
 mod timer;
+pub(crate) mod verb;
 
 /// The greatest capacity that a script names.
 const MOST_PLACES: usize = 65536;
@@ -94,7 +99,7 @@ impl From<Refused> for ScriptError {
 
 /// A primitive whose calls have lines in scripts: docs/SCRIPTS.md.
 ///
-/// A future's label is a letter and its slot.
+/// What a line says of a call is a row: a verb, a future if it is about one, and numbers. A future's label is a letter and its slot.
 ///
 /// # Examples
 ///
@@ -109,19 +114,31 @@ impl From<Refused> for ScriptError {
 /// assert!(rt; script.as_str() == "event reset\nhold set\n");
 /// ```
 pub trait ScriptLines: Primitive<Answer = Answer<u64, u64>, Waker = u64> {
+    /// The call that a row asks for, if it asks for one.
+    ghost call_of: { Row → Option Self.Call };
+
+    /// A call as its row has it: a delay in whole milliseconds, and any other call as it is.
+    ghost as_written: { Self.Call → Self.Call } = { λ call. call };
+
     /// Writes the first line but for its end: the primitive's name, and the words of the opening. Refused with `Opening` if no
     /// script names the opening, and with `NoMemory`.
     fn write_opening(script: &mut String, opening: &Self::Opening) -> Result<(), ScriptError>
         ensures unwritten { IfErr result (λ error. error ≢ ScriptError.NoMemory → script.new ≡ script.old) }
         ensures fault { IfErr result (λ error. (error ≡ ScriptError.NoMemory) ⊎ (error ≡ ScriptError.Opening)) };
 
-    /// Writes the line of a call that was answered so, but for its end. A call for the oldest waker has none, nor has one whose future
-    /// could not be made.
-    fn write_call(
-        script: &mut String,
-        call: &Self::Call,
-        answer: &Answer<u64, u64>,
-    ) -> Result<(), AllocError>;
+    /// The call that a row asks for; `None` if it asks for none of this primitive's.
+    fn call(row: Row) -> Option<Self::Call>
+        ensures { result ≡ call_of row };
+
+    /// The row of a call, which asks for that call. Only the call for the oldest waker has none.
+    fn row(call: &Self::Call) -> Option<Row>
+        ensures { MatchOption result (call.now ≡ Self.take_waker) (λ row. call_of row ≡ Some (as_written call.now)) };
+
+    /// A waker is handed out in this form.
+    ghost says_woken: { (waker : Option ℕ) → Self.hands_out waker ≡ Woken waker };
+
+    /// No line asks for the oldest waker.
+    ghost hides: { (row : Row) → call_of row ≢ Some Self.take_waker };
 }
 
 /// A primitive whose futures can be told apart by their labels: which future a call is about, how far it is, and who waits.
@@ -148,7 +165,10 @@ pub trait ScriptFutures: ScriptLines {
     const LETTERS: &'static str;
 
     /// The letter and the slot of the future that a call made, polled or cancelled, if it is about one.
-    fn future_of(call: &Self::Call, answer: &Answer<u64, u64>) -> Option<(char, Slot)>;
+    fn future_of(call: &Self::Call, answer: &Answer<u64, u64>) -> Option<(char, Slot)> {
+        let future = Self::row(call)?.future(answer)?;
+        Some((future.verb.letter(), future.slot))
+    }
 
     /// How far a future is; None if none lives under this label.
     fn stage_of(&self, letter: char, slot: Slot) -> Option<Stage>;
@@ -257,10 +277,37 @@ fn write_entries<P: ScriptLines>(
             if !is_followed {
                 script.push_str("hold ")?;
             }
-            P::write_call(script, &entry.call, &entry.answer)?;
+            write_call::<P>(script, &entry.call, &entry.answer)?;
             script.push_str("\n")?;
             is_taking = is_followed;
         }
     }
     Ok(())
+}
+
+/// Writes the line of a call that was answered so, but for its end. A call for the oldest waker has none, nor has one whose future could
+/// not be made.
+pub(crate) fn write_call<P: ScriptLines>(
+    script: &mut String,
+    call: &P::Call,
+    answer: &Answer<u64, u64>,
+) -> Result<(), AllocError> {
+    let Some(row) = P::row(call) else {
+        return Ok(());
+    };
+    let (verb, numbers) = row.words();
+    let future = row.future(answer);
+    if matches!(row, Row::Make(..)) && future.is_none() {
+        return Ok(());
+    }
+    script.push_str(verb.text())?;
+    if let Some(future) = future {
+        let (letter, Slot(slot)) = (future.verb.letter(), future.slot);
+        write!(script, " {letter}{slot}")?;
+    }
+    match numbers {
+        Numbers::Absent => Ok(()),
+        Numbers::One(number) => write!(script, " {number}"),
+        Numbers::Two(first, second) => write!(script, " {first} {second}"),
+    }
 }

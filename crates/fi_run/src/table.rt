@@ -3,7 +3,7 @@ ghost use Rattle.std.specs.Prelude.{◌≡◌, IfErr};
 
 use crate::answer::Answer;
 use crate::journal::{Entry, Settled};
-use crate::script::{ScriptError, ScriptFutures, is_left_out};
+use crate::script::{ScriptError, ScriptFutures, is_left_out, write_call};
 use fi_parts::memory::{insert_under, push};
 use fi_parts::{Fault, Refused, Slot, Stage};
 use std::alloc::{AllocError, Global};
@@ -433,7 +433,7 @@ where
         row.call.push_str("next-wake")?;
         return table.add(primitive, None, row);
     }
-    P::write_call(&mut row.call, &entry.call, &answer)?;
+    write_call::<P>(&mut row.call, &entry.call, &answer)?;
     if row.call.is_empty() {
         // The future could not be made, and so has no label.
         row.call.push_str("making")?;

@@ -37,7 +37,7 @@ module _ {S O C : Type 0} (primitive : Spoken S O C) where
   -- What a line asks for, done, is what the line calls.
   pub called_by : (line : List ℕ) (holds : Bool) (request : Option (Request C)) (labels after : Labels) (old new : S)
       (answer : Answer ℕ ℕ)
-      → Asks primitive.language.call_of labels line holds request
+      → Asks primitive.call_of labels line holds request
       → Performs primitive.step request labels old answer after new
       → Calls primitive line holds labels old answer after new
   called_by line holds None labels after old new answer asks done = inl (asks.0, asks.1, done.0, done.1, done.2)
@@ -142,7 +142,7 @@ module _ {S O C W : Type 0} (primitive : Spoken S O C) (contents : W → Option 
         )
 
     pub front_answered : (bad : List ℕ) (after : Option (List ℕ)) → NextLine rest (Some bad) after
-        → IsBad primitive.language.call_of used bad
+        → IsBad primitive.call_of used bad
         → Tells contents shown left (RefusesLine primitive (λ asked. asked ≡ opening) whole (number + 1))
     unfolding LinesAre AnswersLines
     front_answered bad after comes is_bad =

@@ -14,13 +14,13 @@ use Rattle.fi_scripts.specs.Channels.{capacity_of, OpensOver}
 use Rattle.fi_scripts.specs.Cuts.{IsCut}
 use Rattle.fi_scripts.specs.Language.{Openings, Spoken, spoken}
 use Rattle.fi_scripts.specs.Lines.{Labels}
-use Rattle.fi_scripts.specs.Tables.{buffer_text}
+use Rattle.fi_scripts.specs.Openings.{buffer_text}
 use Rattle.fi_scripts.specs.declared.buffer.Buffer.{Buffer}
 use Rattle.fi_scripts.specs.declared.buffer.Buffer.TheVariants.{Fixed, Growing}
 use Rattle.fi_scripts.specs.declared.fault.ScriptFault.{ScriptFault}
 use Rattle.fi_scripts.specs.declared.output.Output.{Output}
 use Rattle.fi_scripts.specs.Unread.{AnswersLeft}
-use Rattle.fi_scripts.specs.declared.row.Row.{Row}
+use Rattle.fi_run.specs.declared.script.row.Row.{Row}
 use Rattle.fi_scripts.proofs.Answered.{answers_more}
 use Rattle.fi_scripts.proofs.Reading.{one_place, cut_of, some_same, none_is_not, same_number, heap_lacks}
 
@@ -28,10 +28,10 @@ use Rattle.fi_scripts.proofs.Reading.{one_place, cut_of, some_same, none_is_not,
 module _ {S O P C : Type 0} (step : S → C → Answer ℕ ℕ → S → Type 0) (outgoing : Outgoing S ℕ) (call_of : Row → Option C)
     (opens : O → S → Type 0) (opens_too : P → S → Type 0) (openings : Openings O) (openings_too : Openings P) where
   abbrev one : Spoken S O C
-  one = spoken opens step outgoing (record { openings = openings; call_of = call_of })
+  one = spoken opens step outgoing openings call_of
 
   abbrev other : Spoken S P C
-  other = spoken opens_too step outgoing (record { openings = openings_too; call_of = call_of })
+  other = spoken opens_too step outgoing openings_too call_of
 
   wakers_over : (holds : Bool) (called new : S) (answer : Answer ℕ ℕ) (text : List ℕ)
       → TellsWakers one holds called answer new text → TellsWakers other holds called answer new text

@@ -5,7 +5,7 @@ use Rattle.std.specs.Fmt.{decimal}
 use Rattle.fi_scripts.specs.Cuts.{IsCut}
 use Rattle.fi_scripts.specs.Language.{AsksFor, AsksForNone}
 use Rattle.fi_scripts.specs.Lines.{joined}
-use Rattle.fi_scripts.specs.Tables.{fairness_text, fair_openings}
+use Rattle.fi_scripts.specs.Openings.{fairness_text, fair_openings}
 use Rattle.fi_scripts.proofs.Reading.{one_place, cut_of, of_cut, some_same, none_is_not, fairness_lacks}
 
 module _ (text word : List ℕ) (rest : Option (List ℕ)) (cut : IsCut 32 text word rest) where

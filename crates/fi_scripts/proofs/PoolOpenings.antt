@@ -4,9 +4,9 @@ use Rattle.std.specs.Prelude.{Some}
 use Rattle.fi_scripts.specs.Language.{AsksForNone}
 use Rattle.fi_scripts.specs.Lines.{Fit, numerals}
 use Rattle.fi_scripts.specs.Spelled.{IsNoNumerals}
-use Rattle.fi_scripts.specs.Tables.{pool_openings}
-use Rattle.fi_scripts.specs.declared.numbers.Numbers.{Numbers}
-use Rattle.fi_scripts.specs.declared.numbers.Numbers.TheVariants.{Two}
+use Rattle.fi_scripts.specs.Openings.{pool_openings}
+use Rattle.fi_run.specs.declared.script.row.Numbers.{Numbers}
+use Rattle.fi_run.specs.declared.script.row.Numbers.TheVariants.{Two}
 use Rattle.fi_scripts.proofs.Reading.{same_numerals}
 
 fits_two : (opening : ℕ × ℕ) → pool_openings.is_nameable opening → Fit (Two opening.0 opening.1)

@@ -9,15 +9,15 @@ use Rattle.std.specs.Str.Parse.{digits_value}
 use Rattle.fi_scripts.specs.Cuts.{IsCut}
 use Rattle.fi_scripts.specs.Labels.{IsLabel}
 use Rattle.fi_scripts.specs.Lines.{joined, numerals, Fit, words_after, HasWords, Labels, row_of, HoldsLine, IsNoCall, IsBad}
-use Rattle.fi_scripts.specs.declared.row.Row.{Row}
+use Rattle.fi_run.specs.declared.script.row.Row.{Row}
 use Rattle.fi_scripts.specs.Primitives.{known}
 use Rattle.fi_scripts.specs.Spelled.{IsNotSpelled, IsNoNumerals}
-use Rattle.fi_scripts.specs.Tables.{fairness_text}
-use Rattle.fi_scripts.specs.Verbs.{verb_text, IsNoVerb}
+use Rattle.fi_scripts.specs.Openings.{fairness_text}
+use Rattle.fi_run.specs.Verbs.{verb_text, IsNoVerb}
 use Rattle.fi_scripts.specs.declared.named.Named.{Named}
-use Rattle.fi_scripts.specs.declared.numbers.Numbers.{Numbers}
-use Rattle.fi_scripts.specs.declared.numbers.Numbers.TheVariants.{Absent, One, Two}
-use Rattle.fi_scripts.specs.declared.verb.Verb.{Verb}
+use Rattle.fi_run.specs.declared.script.row.Numbers.{Numbers}
+use Rattle.fi_run.specs.declared.script.row.Numbers.TheVariants.{Absent, One, Two}
+use Rattle.fi_run.specs.declared.script.verb.Verb.{Verb}
 use Rattle.fi_scripts.proofs.Numerals.{own, numeral_digits}
 
 -- no byte is the separator

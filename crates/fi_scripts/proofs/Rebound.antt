@@ -12,11 +12,11 @@ use Rattle.fi_scripts.specs.Standing.{standing}
 use Rattle.fi_scripts.specs.Stored.{Stores}
 use Rattle.fi_scripts.specs.declared.label.Label.{Label}
 use Rattle.fi_scripts.specs.declared.labelled.Labelled.{Labelled}
-use Rattle.fi_scripts.specs.declared.numbers.Numbers.{Numbers}
-use Rattle.fi_scripts.specs.declared.row.MadeFuture.{MadeFuture}
-use Rattle.fi_scripts.specs.declared.row.Row.{Row}
-use Rattle.fi_scripts.specs.declared.row.Row.TheVariants.{Make, Cancel}
-use Rattle.fi_scripts.specs.declared.verb.Verb.{Verb}
+use Rattle.fi_run.specs.declared.script.row.Numbers.{Numbers}
+use Rattle.fi_run.specs.declared.script.row.MadeFuture.{MadeFuture}
+use Rattle.fi_run.specs.declared.script.row.Row.{Row}
+use Rattle.fi_run.specs.declared.script.row.Row.TheVariants.{Make, Cancel}
+use Rattle.fi_run.specs.declared.script.verb.Verb.{Verb}
 use Rattle.fi_scripts.proofs.Labels.{one_word}
 
 rebinds : (word : List ℕ) (future : Option MadeFuture) (code : ℕ) (old new : Labelled MadeFuture) → IsLabel word

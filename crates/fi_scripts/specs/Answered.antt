@@ -6,7 +6,7 @@ use Rattle.fi_scripts.specs.Lines.{Labels, NoLabels, LabelsAfter, HoldsLine, Sta
 use Rattle.fi_scripts.specs.Texts.{answer_text, wakes_text}
 use Rattle.fi_scripts.specs.declared.fault.ScriptFault.{ScriptFault}
 use Rattle.fi_scripts.specs.declared.fault.ScriptFault.TheVariants.{Read, Write, BadLine, NoMemory}
-use Rattle.fi_scripts.specs.declared.row.Row.{Row}
+use Rattle.fi_run.specs.declared.script.row.Row.{Row}
 use Rattle.fi_run.specs.declared.answer.Answer.{Answer}
 use Rattle.fi_run.specs.declared.answer.Answer.TheVariants.{Done}
 
@@ -37,7 +37,7 @@ module _ {S O C : Type 0} (primitive : Spoken S O C) where
   Calls line holds labels old answer after new =
       ((line ≡ codes "wakes") × (holds ≡ false) × (answer ≡ Done) × (new ≡ old) × (after ≡ labels))
       ⊎ ((own : List ℕ) × (row : Row) × (label : Option (List ℕ)) × (call : C) × HoldsLine holds line own
-      × StandsFor primitive.language.call_of labels own row label call × primitive.step old call answer new
+      × StandsFor primitive.call_of labels own row label call × primitive.step old call answer new
       × LabelsAfter row label answer labels after)
 
   -- The text of a line that is held has no wakers, which stay; that of another has all of them, and none is left.
@@ -90,7 +90,7 @@ module _ {S O C : Type 0} (primitive : Spoken S O C) where
     pub bad : List ℕ
     pub later : Option (List ℕ)
     pub next : NextLine beginning.end (Some bad) later
-    pub is_bad : IsBad primitive.language.call_of beginning.after bad
+    pub is_bad : IsBad primitive.call_of beginning.after bad
     pub number_is : number ≡ length beginning.lines + 2
 
   -- It was refused before the first of these lines, as nothing was asked for, or at one of them.

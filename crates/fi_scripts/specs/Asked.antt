@@ -3,7 +3,7 @@ use Rattle.std.specs.Prelude.{◌≡◌, ℕ, Bool, false, List, Option, None, S
 use Rattle.fi_scripts.specs.Lines.{Labels, LabelsAfter, StandsFor, HoldsLine}
 use Rattle.fi_scripts.specs.Spelled.{IsLabelOf}
 use Rattle.fi_scripts.specs.declared.requests.Request.{Request}
-use Rattle.fi_scripts.specs.declared.row.Row.{Row}
+use Rattle.fi_run.specs.declared.script.row.Row.{Row}
 use Rattle.fi_run.specs.declared.answer.Answer.{Answer}
 use Rattle.fi_run.specs.declared.answer.Answer.TheVariants.{Done}
 

@@ -3,9 +3,10 @@ use Rattle.std.specs.Prelude.{ℕ}
 use Rattle.fi_channels.specs.ChannelWords.{ChannelMachine}
 use Rattle.fi_run.specs.Channel.{Opens, Step}
 use Rattle.fi_run.specs.Outgoing.{two_sided_outgoing}
+use Rattle.fi_run.specs.Rows.{channel_call}
 use Rattle.fi_run.specs.declared.channel.ChannelCall.{ChannelCall}
 use Rattle.fi_scripts.specs.Language.{Spoken, spoken}
-use Rattle.fi_scripts.specs.Tables.{channel_language, channel_openings}
+use Rattle.fi_scripts.specs.Openings.{channel_openings}
 use Rattle.fi_scripts.specs.declared.buffer.Buffer.{Buffer}
 use Rattle.fi_scripts.specs.declared.buffer.Buffer.TheVariants.{Array0, Array1, Array2, Array5, Fixed, Growing}
 
@@ -24,4 +25,4 @@ OpensOver buffer state = Opens (λ capacity. capacity) (capacity_of buffer) stat
 
 -- Over every buffer it is the same machine, with the same lines.
 abbrev pub spoken_channel : Spoken (ChannelMachine ℕ ℕ) Buffer (ChannelCall ℕ ℕ)
-spoken_channel = spoken OpensOver Step two_sided_outgoing (channel_language channel_openings)
+spoken_channel = spoken OpensOver Step two_sided_outgoing channel_openings channel_call

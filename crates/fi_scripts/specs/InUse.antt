@@ -1,6 +1,6 @@
 -- The labels that are in use.
 use Rattle.fi_scripts.specs.declared.labelled.Labelled.{Labelled}
-use Rattle.fi_scripts.specs.declared.row.MadeFuture.{MadeFuture}
+use Rattle.fi_run.specs.declared.script.row.MadeFuture.{MadeFuture}
 use Rattle.fi_scripts.specs.Labels.{code_of}
 use Rattle.fi_scripts.specs.Lines.{Labels}
 use Rattle.fi_scripts.specs.Standing.{standing}

@@ -2,7 +2,7 @@
 use Rattle.std.specs.Prelude.{◌≡◌, ℕ, List, Option}
 use Rattle.fi_run.specs.Outgoing.{Outgoing}
 use Rattle.fi_run.specs.declared.answer.Answer.{Answer}
-use Rattle.fi_scripts.specs.declared.row.Row.{Row}
+use Rattle.fi_run.specs.declared.script.row.Row.{Row}
 
 -- The words of its openings.
 pub record Openings (O : Type 0) : Type 1 where
@@ -20,20 +20,16 @@ module _ {O : Type 0} (openings : Openings O) where
   abbrev pub AsksForNone : Option (List ℕ) → Type 0
   AsksForNone words = (opening : O) → AsksFor words opening → ⊥
 
--- Its openings, and the calls of its lines.
-pub record Language (O C : Type 0) : Type 1 where
-  pub openings : Openings O
-  -- the call that a line asks for
-  pub call_of : Row → Option C
-
 -- A primitive's machine, and how scripts speak of it.
 pub record Spoken (S O C : Type 0) : Type 1 where
   pub opens : O → S → Type 0
   pub step : S → C → Answer ℕ ℕ → S → Type 0
   pub outgoing : Outgoing S ℕ
-  pub language : Language O C
+  pub openings : Openings O
+  -- the call that a line asks for
+  pub call_of : Row → Option C
 
-abbrev pub spoken : {S O C : Type 0} → (O → S → Type 0) → (S → C → Answer ℕ ℕ → S → Type 0) → Outgoing S ℕ → Language O C
-    → Spoken S O C
-spoken opens step outgoing language =
-    record { opens = opens; step = step; outgoing = outgoing; language = language }
+abbrev pub spoken : {S O C : Type 0} → (O → S → Type 0) → (S → C → Answer ℕ ℕ → S → Type 0) → Outgoing S ℕ → Openings O
+    → (Row → Option C) → Spoken S O C
+spoken opens step outgoing openings call_of =
+    record { opens = opens; step = step; outgoing = outgoing; openings = openings; call_of = call_of }

@@ -4,11 +4,11 @@ pub mod Begun
 pub mod Channels
 pub mod Cuts
 pub mod Ended
-pub mod Hidden
 pub mod InUse
 pub mod Labels
 pub mod Language
 pub mod Lines
+pub mod Openings
 pub mod Outputs
 pub mod Primitives
 pub mod Script
@@ -16,7 +16,5 @@ pub mod Spelled
 pub mod Standing
 pub mod Statuses
 pub mod Stored
-pub mod Tables
 pub mod Texts
 pub mod Unread
-pub mod Verbs

@@ -3,15 +3,15 @@ use Rattle.std.specs.Prelude.{◌≡◌, ◌≢◌, ⊤, ℕ, Bool, true, false,
 use Rattle.std.specs.Fmt.{decimal}
 use Rattle.fi_run.specs.declared.answer.Answer.{Answer}
 use Rattle.fi_run.specs.declared.answer.Answer.TheVariants.{Made}
+use Rattle.fi_run.specs.Rows.{labelled_row}
+use Rattle.fi_run.specs.Verbs.{verb_text}
+use Rattle.fi_run.specs.declared.script.row.Numbers.{Numbers}
+use Rattle.fi_run.specs.declared.script.row.Numbers.TheVariants.{Absent, One, Two}
+use Rattle.fi_run.specs.declared.script.row.MadeFuture.{MadeFuture}
+use Rattle.fi_run.specs.declared.script.row.Row.{Row}
+use Rattle.fi_run.specs.declared.script.row.Row.TheVariants as row
+use Rattle.fi_run.specs.declared.script.verb.Verb.{Verb}
 use Rattle.fi_scripts.specs.Labels.{IsLabel}
-use Rattle.fi_scripts.specs.Verbs.{verb_text}
-use Rattle.fi_scripts.specs.declared.numbers.Numbers.{Numbers}
-use Rattle.fi_scripts.specs.declared.numbers.Numbers.TheVariants.{Absent, One, Two}
-use Rattle.fi_scripts.specs.declared.row.MadeFuture.{MadeFuture}
-use Rattle.fi_scripts.specs.declared.row.Row.{Row}
-use Rattle.fi_scripts.specs.declared.row.Row.TheVariants as row
-use Rattle.fi_scripts.specs.declared.verb.Verb.{Verb}
-use Rattle.fi_scripts.specs.declared.verb.Verb.TheVariants as verb
 
 -- a word, and after one space what stands behind it
 abbrev pub joined : List ℕ → Option (List ℕ) → List ℕ
@@ -53,13 +53,6 @@ NoLabels labels = (word : List ℕ) → labels word ≡ None
 abbrev pub Rebinds : List ℕ → Option MadeFuture → Labels → Labels → Type 0
 Rebinds label future old new =
     (new label ≡ future) × ((other : List ℕ) → IsLabel other → other ≢ label → new other ≡ old other)
-
--- What a line with a label asks for: a free label is for making a future, one in use for its poll or cancel.
-abbrev pub labelled_row : Verb → Numbers → Option MadeFuture → Option Row
-labelled_row verb numbers None = Some (row.Make verb numbers)
-labelled_row verb.Poll numbers (Some future) = Some (row.Poll future numbers)
-labelled_row verb.Cancel numbers (Some future) = Some (row.Cancel future numbers)
-labelled_row verb numbers (Some future) = None
 
 -- what a line of these words asks for
 abbrev pub row_of : Labels → Verb → Option (List ℕ) → Numbers → Option Row

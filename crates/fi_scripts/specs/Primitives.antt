@@ -6,13 +6,13 @@ use Rattle.fi_run.specs.Mutex as mutex
 use Rattle.fi_run.specs.Oneshot as oneshot
 use Rattle.fi_run.specs.Outgoing.{machine_outgoing}
 use Rattle.fi_run.specs.Pool as pool
+use Rattle.fi_run.specs.Rows.{event_call, mutex_call, oneshot_call, pool_call, semaphore_call, state_call, timer_call}
 use Rattle.fi_run.specs.Semaphore as semaphore
 use Rattle.fi_run.specs.State as state
 use Rattle.fi_run.specs.Timer as timer
 use Rattle.fi_scripts.specs.Channels.{spoken_channel}
 use Rattle.fi_scripts.specs.Language.{Openings, Spoken, spoken}
-use Rattle.fi_scripts.specs.Tables.{event_language, mutex_language, oneshot_language, pool_language, semaphore_language}
-use Rattle.fi_scripts.specs.Tables.{state_language, timer_language}
+use Rattle.fi_scripts.specs.Openings.{event_openings, fair_openings, only_opening, pool_openings}
 use Rattle.fi_scripts.specs.declared.named.Named.{Named}
 use Rattle.fi_scripts.specs.declared.named.Named.TheVariants as named
 
@@ -37,22 +37,22 @@ never_fails value = ⊤
 -- One entry for each primitive: what is said of scripts is said over an entry, so that a new one adds no other case.
 abbrev pub known : Named → Known
 known named.Channel = entry (codes "channel") spoken_channel
-known named.Event = entry (codes "event") (spoken event.Opens event.Step machine_outgoing event_language)
+known named.Event = entry (codes "event") (spoken event.Opens event.Step machine_outgoing event_openings event_call)
 known named.Oneshot =
-    entry (codes "oneshot") (spoken oneshot.Opens (oneshot.Step taking) machine_outgoing oneshot_language)
+    entry (codes "oneshot") (spoken oneshot.Opens (oneshot.Step taking) machine_outgoing only_opening oneshot_call)
 known named.OneshotBroadcast = entry (codes "oneshot-broadcast")
-    (spoken oneshot.Opens (oneshot.Step (cloning is_same never_fails)) machine_outgoing oneshot_language)
+    (spoken oneshot.Opens (oneshot.Step (cloning is_same never_fails)) machine_outgoing only_opening oneshot_call)
 known named.StateBroadcast = entry (codes "state-broadcast")
-    (spoken state.Opens (state.Step is_same never_fails) machine_outgoing state_language)
-known named.Timer = entry (codes "timer") (spoken timer.Opens timer.Step machine_outgoing timer_language)
-known named.Mutex = entry (codes "mutex") (spoken mutex.Opens mutex.Step machine_outgoing mutex_language)
+    (spoken state.Opens (state.Step is_same never_fails) machine_outgoing only_opening state_call)
+known named.Timer = entry (codes "timer") (spoken timer.Opens timer.Step machine_outgoing only_opening timer_call)
+known named.Mutex = entry (codes "mutex") (spoken mutex.Opens mutex.Step machine_outgoing fair_openings mutex_call)
 known named.Semaphore =
-    entry (codes "semaphore") (spoken semaphore.Opens semaphore.Step machine_outgoing semaphore_language)
-known named.Pool = entry (codes "pool") (spoken pool.Opens pool.Step pool.pool_outgoing pool_language)
+    entry (codes "semaphore") (spoken semaphore.Opens semaphore.Step machine_outgoing fair_openings semaphore_call)
+known named.Pool = entry (codes "pool") (spoken pool.Opens pool.Step pool.pool_outgoing pool_openings pool_call)
 
 -- how its openings are named
 abbrev pub openings_of : (named : Named) → Openings (known named).Opening
-openings_of named = (known named).spoken.language.openings
+openings_of named = (known named).spoken.openings
 
 -- no primitive has this name
 abbrev pub IsNoName : List ℕ → Type 0

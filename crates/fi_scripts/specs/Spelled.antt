@@ -4,8 +4,8 @@ use Rattle.fi_scripts.specs.Cuts.{IsCut}
 use Rattle.fi_scripts.specs.Labels.{IsLabel, code_of}
 use Rattle.fi_scripts.specs.Lines.{HasWords, Fit, numerals}
 use Rattle.fi_scripts.specs.declared.label.Label.{Label}
-use Rattle.fi_scripts.specs.declared.numbers.Numbers.{Numbers}
-use Rattle.fi_scripts.specs.declared.verb.Verb.{Verb}
+use Rattle.fi_run.specs.declared.script.row.Numbers.{Numbers}
+use Rattle.fi_run.specs.declared.script.verb.Verb.{Verb}
 use Rattle.fi_scripts.specs.declared.words.Words.{Words}
 
 -- the label that a word spells

@@ -3,7 +3,7 @@ ghost use Rattle.std.specs.Prelude.{◌≡◌, ◌≢◌, ◌≤◌, ℕ, MatchO
 ghost use Rattle.std.specs.Fmt.{decimal};
 ghost use Rattle.fi_scripts.specs.Channels.{capacity_of};
 ghost use Rattle.fi_scripts.specs.Language.{AsksFor, AsksForNone};
-ghost use Rattle.fi_scripts.specs.Tables.{buffer_text, channel_openings, IsNameable};
+ghost use Rattle.fi_scripts.specs.Openings.{buffer_text, channel_openings, IsNameable};
 ghost use Rattle.fi_scripts.specs.declared.buffer.Buffer.TheVariants as buffers;
 
 use crate::number::parse_number;

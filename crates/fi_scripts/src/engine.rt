@@ -10,7 +10,7 @@ ghost use Rattle.fi_scripts.specs.Primitives.{known, openings_of};
 ghost use Rattle.fi_scripts.specs.Script.{AnswersScript, RefusesScript, StopsScript, Turns, IfFault};
 ghost use Rattle.fi_scripts.specs.InUse.{labels_of};
 ghost use Rattle.fi_scripts.specs.Outputs.{GoesOn, Tells, Collects, SameWriter};
-ghost use Rattle.fi_scripts.specs.Tables.{channel_openings};
+ghost use Rattle.fi_scripts.specs.Openings.{channel_openings};
 ghost use Rattle.fi_scripts.specs.Texts.{wakes_text};
 ghost use Rattle.fi_scripts.specs.Unread.{lines_left, AnswersLeft};
 
@@ -30,7 +30,7 @@ use fi_channels::{
 use fi_locks::{MutexState, SemaphoreState, TimerState};
 use fi_parts::buffer::{ArrayBuf, FixedHeapBuf, GrowingHeapBuf, RingBuf};
 use fi_parts::memory::items_for;
-use fi_run::{Answer, PoolState};
+use fi_run::{Answer, PoolState, ScriptBuffer};
 use std::alloc::Global;
 use std::io::{Read, Write};
 
@@ -129,8 +129,8 @@ fn answer_calls<P: Scripted, W: Write>(
     lines: Lines<'_>,
     output: &mut Output<'_, W>,
 ) -> Result<(), ScriptFault>
-    ensures { AnswersLeft (spoken P.opens P.step P.outgoing P.Scripted.language)
-        (AsksFor P.Scripted.language.openings (option_copied words.entry))
+    ensures { AnswersLeft (spoken P.opens P.step P.outgoing P.Scripted.openings P.ScriptLines.call_of)
+        (AsksFor P.Scripted.openings (option_copied words.entry))
         (lines_left lines.entry) W.contents output.old output.new result }
 {
     match P::opening(words) {
@@ -176,7 +176,7 @@ fn answer_over_named<W: Write>(
 }
 
 /// Answers the lines of a channel over this buffer, which `B` is.
-fn answer_over<B: RingBuf<Item = u64>, W: Write>(
+fn answer_over<B: RingBuf<Item = u64> + ScriptBuffer, W: Write>(
     alloc: Global,
     buffer: Buffer,
     lines: Lines<'_>,
@@ -196,7 +196,7 @@ fn answer_lines<P: Scripted, W: Write>(
     mut lines: Lines<'_>,
     output: &mut Output<'_, W>,
 ) -> Result<(), ScriptFault>
-    ensures { AnswersLeft (spoken P.opens P.step P.outgoing P.Scripted.language) (λ asked. asked ≡ opening)
+    ensures { AnswersLeft (spoken P.opens P.step P.outgoing P.Scripted.openings P.ScriptLines.call_of) (λ asked. asked ≡ opening)
         (lines_left lines.entry) W.contents output.old output.new result }
 {
     let primitive = match P::open(alloc, opening) {
@@ -232,10 +232,10 @@ impl<P: Scripted> Session<P> {
         output: &mut Output<'_, W>,
     ) -> Result<(), ScriptFault>
         ensures answered { OnOk result (Tells W.contents output.old output.new
-            (AnswersLine (spoken P.opens P.step P.outgoing P.Scripted.language) line.now
+            (AnswersLine (spoken P.opens P.step P.outgoing P.Scripted.openings P.ScriptLines.call_of) line.now
             (labels_of self.old.futures) self.old.primitive (labels_of self.new.futures) self.new.primitive)) }
         ensures stopped { IfErr result (IfStopped (λ at. (at ≡ number)
-            × IsBad P.Scripted.language.call_of (labels_of self.old.futures) line.now
+            × IsBad P.ScriptLines.call_of (labels_of self.old.futures) line.now
             × GoesOn W.contents output.old output.new (Some []))
             (GoesOn W.contents output.old output.new (Some []))) }
         ensures same_writer { SameWriter output.old output.new }
@@ -257,12 +257,12 @@ impl<P: Scripted> Session<P> {
         output: &mut Output<'_, W>,
     ) -> Result<(), ScriptFault>
         ensures answered { OnOk result (Tells W.contents output.old output.new
-            (AnswersLine (spoken P.opens P.step P.outgoing P.Scripted.language) line.now
+            (AnswersLine (spoken P.opens P.step P.outgoing P.Scripted.openings P.ScriptLines.call_of) line.now
             (labels_of self.old.futures) self.old.primitive (labels_of self.new.futures) self.new.primitive)) }
         // A bad line is told by its number.
         ensures fault { IfErr result (λ fault. (fault ≡ ScriptFault.NoMemory)
             ⊎ ((fault ≡ ScriptFault.BadLine number)
-            × IsBad P.Scripted.language.call_of (labels_of self.old.futures) line.now)) }
+            × IsBad P.ScriptLines.call_of (labels_of self.old.futures) line.now)) }
         ensures collects { Collects output.old output.new }
     {
         let Some((holds, request)) = self.futures.read::<P>(line) else {

@@ -1,7 +1,7 @@
 //! Openings of primitives that are fair or not.
 ghost use Rattle.std.specs.Prelude.{◌≡◌, ◌≢◌, Bool, MatchOption, option_copied};
 ghost use Rattle.fi_scripts.specs.Language.{AsksFor, AsksForNone};
-ghost use Rattle.fi_scripts.specs.Tables.{fairness_text, fair_openings};
+ghost use Rattle.fi_scripts.specs.Openings.{fairness_text, fair_openings};
 
 use crate::number::parse_number;
 use crate::words::split_at_first;

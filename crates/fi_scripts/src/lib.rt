@@ -2,37 +2,26 @@
 //!
 //! - `run_script` reads a script and writes its answers; `ScriptFault` says how that can fail. `run_program` is a program's whole run:
 //!   arguments, input, output and status.
-//! - `words`, `verb`, `label`, `numbers` and `row` read a line. `scripted` is what a primitive adds, a table from rows to calls; each
-//!   primitive has a module with its own (`event`, `channel`, ..), and `named` and `buffer` read what the first line opens.
+//! - `words`, `label` and `number` read a line, whose words are those of `fi_run`, as are the calls of each primitive (`ScriptLines`).
+//!   `named`, `buffer` and `scripted` read what the first line opens.
 //! - `Labels` keeps the futures whose labels are in use, and reads by them the call that a line asks for, whoever then makes it.
 //! - `engine` answers a script and each of its lines; `labelled` keeps futures by their labels; `texts` and `output` write the answers.
 #![tactic(auto)]
 
 mod buffer;
-mod channel;
 mod engine;
-mod event;
 mod fairness;
 mod fault;
 mod input;
 mod label;
 mod labelled;
-mod mutex;
 mod named;
 mod number;
-mod numbers;
-mod oneshot;
 mod output;
-mod pool;
 mod program;
 mod requests;
-mod row;
 mod scripted;
-mod semaphore;
-mod state;
 mod texts;
-mod timer;
-mod verb;
 mod words;
 
 pub use buffer::Buffer;
@@ -42,11 +31,9 @@ pub use input::read_whole;
 pub use label::Label;
 pub use labelled::Labelled;
 pub use named::Named;
-pub use numbers::Numbers;
+pub use number::parse_numbers;
 pub use output::{COLLECTED, LINE, write_whole};
 pub use program::run_program;
 pub use requests::{Labels, Request};
-pub use row::{MadeFuture, Row};
 pub use scripted::Scripted;
-pub use verb::Verb;
 pub use words::{Lines, Words, after_hold, split_at_first};

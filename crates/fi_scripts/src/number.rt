@@ -1,9 +1,25 @@
 //! Numbers of scripts.
-ghost use Rattle.std.specs.Prelude.{◌≡◌, ◌≢◌, ℕ, ◌≤◌, List, Option, MatchOption, option_copied};
+ghost use Rattle.std.specs.Prelude.{◌≡◌, ◌≢◌, ℕ, ◌≤◌, List, Option, Some, MatchOption, option_copied};
 ghost use Rattle.std.specs.Fmt.{decimal};
 ghost use Rattle.fi_scripts.specs.Cuts.{IsCut};
+ghost use Rattle.fi_scripts.specs.Lines.{numerals, Fit};
+ghost use Rattle.fi_scripts.specs.Spelled.{IsNoNumerals};
 
 use crate::words::after_word;
+use fi_run::Numbers;
+
+/// The numbers, one or two with a space between them, that a text spells, if it spells such.
+#[inline(always)]
+pub fn parse_numbers(text: &[u8]) -> Option<Numbers>
+    ensures { MatchOption result (IsNoNumerals text.now)
+        (λ numbers. Fit numbers × (Some text.now ≡ numerals numbers)) }
+{
+    let (first, rest) = first_number(text)?;
+    match rest {
+        None => Some(Numbers::One(first)),
+        Some(second) => Some(Numbers::Two(first, parse_number(second)?)),
+    }
+}
 
 /// The number whose plain decimal numeral the word is, if it is one's of 64 bits.
 #[inline(always)]

@@ -8,10 +8,9 @@ ghost use Rattle.fi_scripts.specs.Spelled.{IsLabelOf};
 use crate::fault::ScriptFault;
 use crate::label::Label;
 use crate::labelled::Labelled;
-use crate::row::{MadeFuture, Row};
 use crate::scripted::Scripted;
 use crate::words::{Words, after_hold};
-use fi_run::Answer;
+use fi_run::{Answer, MadeFuture, Row};
 
 /// The futures whose labels are in use, by their labels.
 pub type Labels = Labelled<MadeFuture>;
@@ -29,8 +28,8 @@ impl Labelled<MadeFuture> {
     /// call asks for the wakers alone.
     #[inline(always)]
     pub fn read<P: Scripted>(&self, line: &[u8]) -> Option<(bool, Option<Request<P::Call>>)>
-        ensures { MatchOption result (IsBad P.Scripted.language.call_of (labels_of self.now) line.now)
-            (λ asked. Asks P.Scripted.language.call_of (labels_of self.now) line.now asked.0 asked.1) }
+        ensures { MatchOption result (IsBad P.ScriptLines.call_of (labels_of self.now) line.now)
+            (λ asked. Asks P.ScriptLines.call_of (labels_of self.now) line.now asked.0 asked.1) }
     {
         if line == b"wakes".as_slice() {
             return Some((false, None));
@@ -44,8 +43,8 @@ impl Labelled<MadeFuture> {
     /// The call that a line stands for.
     #[inline(always)]
     fn read_call<P: Scripted>(&self, line: &[u8]) -> Option<Request<P::Call>>
-        ensures { MatchOption result (IsNoCall P.Scripted.language.call_of (labels_of self.now) line.now)
-            (Requests P.Scripted.language.call_of (labels_of self.now) line.now) }
+        ensures { MatchOption result (IsNoCall P.ScriptLines.call_of (labels_of self.now) line.now)
+            (Requests P.ScriptLines.call_of (labels_of self.now) line.now) }
     {
         let words = Words::read(line)?;
         let row = self.row(words)?;

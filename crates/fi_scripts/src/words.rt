@@ -5,8 +5,8 @@ ghost use Rattle.fi_scripts.specs.Lines.{joined};
 ghost use Rattle.fi_scripts.specs.Spelled.{IsSpelled, IsNotSpelled};
 
 use crate::label::Label;
-use crate::numbers::Numbers;
-use crate::verb::Verb;
+use crate::number::parse_numbers;
+use fi_run::{Numbers, Verb};
 use memchr::memchr;
 
 /// What stands before the first separator, and what stands after it, if there is one.
@@ -109,7 +109,7 @@ impl Words {
             return Some(Words {
                 verb,
                 label: None,
-                numbers: Numbers::parse(rest)?,
+                numbers: parse_numbers(rest)?,
             });
         };
         let Some(numerals) = after else {
@@ -122,7 +122,7 @@ impl Words {
         Some(Words {
             verb,
             label: Some(label),
-            numbers: Numbers::parse(numerals)?,
+            numbers: parse_numbers(numerals)?,
         })
     }
 }

@@ -10,8 +10,8 @@ use Rattle.fi_channels.specs.Oneshot.{Giving, OneshotMachine}
 use Rattle.fi_channels.specs.Polled.{Answered}
 use Rattle.fi_channels.specs.StateBroadcast as state
 use Rattle.fi_channels.specs.StateBroadcast.{StateMachine}
-use Rattle.fi_channels.specs.declared.channel_errors.TryReceiveError.TheVariants as not_received
-use Rattle.fi_channels.specs.declared.channel_errors.TryReceiveError.{TryReceiveError}
+use Rattle.fi_channels.specs.declared.channel.errors.TryReceiveError.TheVariants as not_received
+use Rattle.fi_channels.specs.declared.channel.errors.TryReceiveError.{TryReceiveError}
 use Rattle.fi_parts.specs.Machine.{phase_at}
 use Rattle.fi_parts.specs.declared.errors.Fault.{Fault}
 use Rattle.fi_sync.specs.Waiting.{InSomeHold, PollsOrRefuses}

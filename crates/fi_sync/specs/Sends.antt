@@ -3,8 +3,8 @@ use Rattle.std.specs.Prelude.{◌≡◌, ℕ, Bool, true, false, Option, None, R
 use Rattle.futures.specs.declared.task.Poll.{Poll}
 use Rattle.fi_channels.specs.ChannelWords.{displaced_by_send}
 use Rattle.fi_channels.specs.Polled.{unused_after}
-use Rattle.fi_channels.specs.declared.channel_errors.SendFault.{SendFault}
-use Rattle.fi_channels.specs.declared.channel_errors.SendFault.TheVariants as send_fault
+use Rattle.fi_channels.specs.declared.channel.errors.SendFault.{SendFault}
+use Rattle.fi_channels.specs.declared.channel.errors.SendFault.TheVariants as send_fault
 use Rattle.fi_parts.specs.declared.phase.Leftover.{Leftover}
 use Rattle.fi_sync.specs.Waiting.{IsLeftBy}
 

@@ -6,7 +6,7 @@ use Rattle.fi_locks.specs.Timer.{TimerMachine, can_be_polled, expiry_after, Make
 use Rattle.fi_parts.specs.Deadlines.{IsNextExpiry}
 use Rattle.fi_parts.specs.declared.errors.Fault.{Fault}
 use Rattle.fi_sync.specs.Waiting.{PollsAt, WouldWait}
-use Rattle.fi_sync.specs.declared.timed.Runner.{Runner}
+use Rattle.fi_sync.specs.declared.timer.timed.Runner.{Runner}
 
 -- A poll is the timer's at some moment; the timer refuses none. That the moment is the clock's is not said.
 abbrev pub PollsTimed : {S W : Type 0} → (S → TimerMachine W) → TimerMachine W → ℕ → W → Poll (Result (Unit {0}) Fault) → S → Type 0

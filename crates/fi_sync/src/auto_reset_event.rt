@@ -186,8 +186,8 @@ impl HasOutbox for MutexState<(), PollWaker> {
         MutexState::next_wake(self)
     }
 
-    fn wake_count(&self) -> usize {
-        MutexState::wake_count(self)
+    fn wake_count(&self) -> u128 {
+        MutexState::wake_count(self) as u128
     }
 }
 

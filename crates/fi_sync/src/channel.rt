@@ -8,8 +8,10 @@ ghost use Rattle.fi_channels.specs.ChannelErrors.{value_in, is_full, is_memory};
 ghost use Rattle.fi_sync.specs.Received.{PollsReceive, ReceivesAtOnce};
 ghost use Rattle.fi_sync.specs.Waiting.{InSomeHold, IsNew, WaitedFor};
 
+pub mod stream;
+
 use crate::blocking::{Blocking, wait_for};
-use crate::channel_stream::ChannelStream;
+use crate::channel::stream::ChannelStream;
 use crate::monitor::Monitor;
 use crate::receive_future::ChannelReceiveFuture;
 use crate::send_future::ChannelSendFuture;
@@ -284,7 +286,7 @@ impl<T: Drop, B: RingBuf<Item = T>> HasOutbox for ChannelState<T, B, PollWaker> 
         ChannelState::next_wake(self)
     }
 
-    fn wake_count(&self) -> usize {
-        ChannelState::wake_count(self)
+    fn wake_count(&self) -> u128 {
+        ChannelState::wake_count(self) as u128
     }
 }

@@ -6,8 +6,10 @@ ghost use Rattle.fi_channels.specs.Event.{EventMachine, can_be_polled, is_set, P
 ghost use Rattle.fi_parts.specs.declared.errors.Fault.{Fault};
 ghost use Rattle.fi_sync.specs.Waiting.{InSomeHold, IsNew, PollsAt, WaitedFor};
 
+pub mod future;
+
 use crate::blocking::{Blocking, wait_for};
-use crate::event_future::{OwnedWaitForEventFuture, WaitForEventFuture};
+use crate::event::future::{OwnedWaitForEventFuture, WaitForEventFuture};
 use crate::monitor::{HasMonitor, Monitor};
 use crate::slot_future::SlotFuture;
 use crate::wakes::{HasOutbox, PollWaker};
@@ -154,7 +156,7 @@ impl HasOutbox for EventState<PollWaker> {
         EventState::next_wake(self)
     }
 
-    fn wake_count(&self) -> usize {
-        EventState::wake_count(self)
+    fn wake_count(&self) -> u128 {
+        EventState::wake_count(self) as u128
     }
 }

@@ -13,24 +13,16 @@
 mod auto_reset_event;
 mod blocking;
 mod channel;
-mod channel_stream;
 mod claim;
-mod counted_mutex;
-mod counted_semaphore;
 mod event;
-mod event_future;
 mod monitor;
 mod mutex;
 mod one_value;
 mod receive_future;
 mod semaphore;
-mod semaphore_future;
-mod semaphore_releaser;
 mod send_future;
-mod shared_semaphore;
 mod slot_future;
 mod state_broadcast;
-mod timed;
 mod timer;
 mod wakes;
 
@@ -38,32 +30,32 @@ pub use auto_reset_event::{
     AutoResetEvent, AutoResetWait, OwnedWaitForAutoResetEventFuture, WaitForAutoResetEventFuture,
 };
 pub use blocking::{Blocking, wait_for};
+pub use channel::stream::ChannelStream;
 pub use channel::{Channel, GenericChannel, UnbufferedChannel};
-pub use channel_stream::ChannelStream;
 pub use claim::{Cancel, Claim, Fate};
-pub use counted_mutex::{CountedMutex, Locked};
-pub use counted_semaphore::CountedSemaphore;
 pub use event::ManualResetEvent;
-pub use event_future::{OwnedWaitForEventFuture, WaitForEventFuture};
+pub use event::future::{OwnedWaitForEventFuture, WaitForEventFuture};
 pub use fi_channels::{ChannelReceive, ChannelSend, ChannelStreaming, EventWait};
 pub use fi_locks::{Grant, MutexLock, SemaphoreAcquire, Tally};
 pub use fi_parts::FutureKind;
 pub use monitor::{HasMonitor, Monitor};
+pub use mutex::counted::{CountedMutex, Locked};
 pub use mutex::{
     Mutex, MutexGuard, MutexGuardOf, MutexLockFuture, MutexLockFutureOf, OwnedMutexGuard,
     OwnedMutexLockFuture,
 };
 pub use one_value::{OneValueChannel, OneshotBroadcastChannel, OneshotChannel};
 pub use receive_future::ChannelReceiveFuture;
-pub use semaphore::{Semaphore, SemaphoreAcquireFuture, SemaphoreReleaser};
-pub use semaphore_future::SemaphoreAcquireFutureOf;
-pub use semaphore_releaser::SemaphoreReleaserOf;
-pub use send_future::ChannelSendFuture;
-pub use shared_semaphore::{
+pub use semaphore::counted::CountedSemaphore;
+pub use semaphore::future::SemaphoreAcquireFutureOf;
+pub use semaphore::releaser::SemaphoreReleaserOf;
+pub use semaphore::shared::{
     SharedSemaphore, SharedSemaphoreAcquireFuture, SharedSemaphoreReleaser,
 };
+pub use semaphore::{Semaphore, SemaphoreAcquireFuture, SemaphoreReleaser};
+pub use send_future::ChannelSendFuture;
 pub use slot_future::{PollOutput, PollSlot, SlotFuture, SlotPolled};
 pub use state_broadcast::{StateBroadcastChannel, StateReceiveFuture};
-pub use timed::{Timed, TimedWait};
+pub use timer::timed::{Timed, TimedWait};
 pub use timer::{OwnedTimerFuture, TimerFuture, TimerService};
 pub use wakes::{Guarded, HasOutbox, Owed, PollWaker};

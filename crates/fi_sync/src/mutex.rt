@@ -12,9 +12,11 @@ ghost use Rattle.fi_sync.specs.Locked.{IsLockAnswer, PollsLock};
 ghost use Rattle.fi_sync.specs.Waiting.{InSomeHold, IsGiven, IsNew, WaitedFor, is_final, polled};
 ghost use Rattle.fi_sync.specs.Blanks.{IsLockBlank};
 
+pub mod counted;
+
 use crate::blocking::{Blocking, wait_for};
-use crate::counted_mutex::{CountedMutex, Locked};
 use crate::monitor::{HasMonitor, Monitor};
+use crate::mutex::counted::{CountedMutex, Locked};
 use crate::slot_future::SlotFuture;
 use crate::wakes::HasOutbox;
 use fi_locks::{Grant, MutexLock};

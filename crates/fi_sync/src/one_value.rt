@@ -168,7 +168,7 @@ impl<T: Drop, G: GivesValue<T>> HasOutbox for OneValueState<T, PollWaker, G> {
         OneValueState::next_wake(self)
     }
 
-    fn wake_count(&self) -> usize {
-        OneValueState::wake_count(self)
+    fn wake_count(&self) -> u128 {
+        OneValueState::wake_count(self) as u128
     }
 }

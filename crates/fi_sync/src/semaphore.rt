@@ -8,11 +8,16 @@ ghost use Rattle.fi_sync.specs.Waiting.{InSomeHold, IsNew, WaitedFor};
 ghost use Rattle.fi_sync.specs.Blanks.{IsPermitBlank};
 ghost use Rattle.fi_sync.specs.Closable.{Closable, WhileOpen, TriesPermits, Closes, free_at};
 
+pub mod counted;
+pub mod future;
+pub mod releaser;
+pub mod shared;
+
 use crate::blocking::{Blocking, wait_for};
-use crate::counted_semaphore::CountedSemaphore;
 use crate::monitor::Monitor;
-use crate::semaphore_future::SemaphoreAcquireFutureOf;
-use crate::semaphore_releaser::SemaphoreReleaserOf;
+use crate::semaphore::counted::CountedSemaphore;
+use crate::semaphore::future::SemaphoreAcquireFutureOf;
+use crate::semaphore::releaser::SemaphoreReleaserOf;
 use fi_parts::{CloseStatus, Fault};
 use std::alloc::Global;
 use std::fmt;

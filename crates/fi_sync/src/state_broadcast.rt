@@ -158,7 +158,7 @@ impl<T: Clone> HasOutbox for StateBroadcastState<T, PollWaker> {
         StateBroadcastState::next_wake(self)
     }
 
-    fn wake_count(&self) -> usize {
-        StateBroadcastState::wake_count(self)
+    fn wake_count(&self) -> u128 {
+        StateBroadcastState::wake_count(self) as u128
     }
 }

@@ -4,11 +4,13 @@ ghost use Rattle.std.specs.Prelude.{◌≡◌, IfOk, IfErr};
 ghost use Rattle.fi_parts.specs.declared.errors.Fault.{Fault};
 ghost use Rattle.fi_sync.specs.Waiting.{IsNew};
 
+pub mod timed;
+
 use crate::blocking::{Blocking, wait_for};
 use crate::event::ManualResetEvent;
 use crate::monitor::{HasMonitor, Monitor};
 use crate::slot_future::SlotFuture;
-use crate::timed::{Sleeper, Timed, TimedWait};
+use crate::timer::timed::{Sleeper, Timed, TimedWait};
 use fi_parts::memory::{share, start_thread};
 use fi_parts::{Clock, Fault, Refused};
 use futures::Future;

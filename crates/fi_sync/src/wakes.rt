@@ -36,8 +36,8 @@ pub trait HasOutbox {
         ensures taken { TakesFirst (wakers self.old) result (wakers self.new) }
         ensures step { wakes self.old result self.new };
 
-    /// How many wakers are named to be woken.
-    fn wake_count(&self) -> usize
+    /// How many wakers are named to be woken. (A state with two outboxes may name more than a `usize` counts.)
+    fn wake_count(&self) -> u128
         ensures { result ≡ length (wakers self.now) };
 }
 

@@ -1,5 +1,5 @@
--- A poll or a cancel opens no closed channel, and puts nothing into a cleared one.
-use Rattle.std.specs.Prelude.{◌≡◌, ℕ, suc, Bool, true, false, Option, Some, None, Result, Ok, Err, List, [], ◌∷◌, length, refl}
+-- A poll or a cancel neither opens nor closes a channel, and puts nothing into a cleared one.
+use Rattle.std.specs.Prelude.{◌≡◌, ℕ, suc, Bool, true, false, not, Option, Some, None, IfSome, IfNone, Result, Ok, Err, List, [], ◌∷◌, length, refl}
 use Rattle.std.proofs.Common.{sym, ap, subst, ◌∙◌, arith}
 use Rattle.std.proofs.lemmas.Bool.{both_ways}
 use Rattle.futures.specs.declared.task.Poll.{Poll}
@@ -7,32 +7,34 @@ use Rattle.futures.specs.declared.task.Poll.TheVariants.{Ready, Pending}
 use Rattle.fi_parts.specs.Buffer.{Bounded}
 use Rattle.fi_parts.specs.Machine.{phase_at}
 use Rattle.fi_parts.specs.declared.errors.Fault.{Fault}
+use Rattle.fi_parts.specs.declared.errors.Fault.TheVariants.{NoSlot}
 use Rattle.fi_parts.specs.declared.phase.Phase.{Phase}
 use Rattle.fi_parts.specs.declared.phase.Phase.TheVariants.{Fresh, Registered, Told, Complete, Ended}
 use Rattle.fi_parts.proofs.PairsWithin.{none_some, some_same}
 use Rattle.fi_channels.specs.Channel as channel
 use Rattle.fi_channels.specs.Channel.{FreshSends, SendsAs, PollsSend, TakesNext, ReceivesAs, StreamsAs, PollsReceive}
 use Rattle.fi_channels.specs.Channel.{PollsNext, CancelsReceiveAs, CancelsReceive}
-use Rattle.fi_channels.specs.ChannelWords.{ChannelMachine, Buffered, next_value, next_of, with_buffer, send_phase}
-use Rattle.fi_channels.specs.ChannelWords.{receive_phase, has_room, value_of}
+use Rattle.fi_channels.specs.ChannelWords.{ChannelMachine, Buffered, Stores, next_value, next_of, with_buffer, send_phase}
+use Rattle.fi_channels.specs.ChannelWords.{receive_phase, has_room, value_of, can_stream, kind_of}
 use Rattle.fi_channels.specs.Polled.{Answered}
-use Rattle.fi_channels.specs.declared.channel_errors.SendFault.{SendFault}
-use Rattle.fi_channels.specs.declared.channel_errors.SendFault.TheVariants as send_fault
-use Rattle.fi_channels.specs.declared.content.Content.{Content}
-use Rattle.fi_channels.specs.declared.content.Content.TheVariants.{Empty, Full, Spent}
+use Rattle.fi_channels.specs.declared.channel.errors.SendFault.{SendFault}
+use Rattle.fi_channels.specs.declared.channel.errors.SendFault.TheVariants as send_fault
+use Rattle.fi_channels.specs.declared.oneshot.content.Content.{Content}
+use Rattle.fi_channels.specs.declared.oneshot.content.Content.TheVariants.{Empty, Full, Spent}
 use Rattle.fi_channels.specs.Oneshot as oneshot
 use Rattle.fi_channels.specs.Oneshot.{OneshotMachine, Giving, left_by, has_closed}
 use Rattle.fi_channels.specs.StateBroadcast as broadcast
 use Rattle.fi_channels.specs.StateBroadcast.{StateMachine, Newest, newer_at}
-use Rattle.fi_sync.specs.Streams.{Streamed}
+use Rattle.fi_sync.specs.Streams.{Streamed, PollsStream}
+use Rattle.fi_sync.specs.Waiting.{PollsWhere}
 use Rattle.futures_intrusive.specs.Ends.{Closing, StaysClosed}
 use Rattle.futures_intrusive.specs.Kinds.{closing_channel, closing_one_value, closing_state_broadcast}
 
--- What changes nothing keeps a channel closed, and so does a poll or a cancel where no future lives.
+-- What changes nothing neither opens nor closes a channel, and so does a poll or a cancel where no future lives.
 module _ {S : Type 0} (closing : Closing S) (old new : S) where
   pub same : new ≡ old → StaysClosed closing old new
   same is = record {
-    closed = λ was. subst closing.IsClosed (sym is) was;
+    closed = ap closing.is_closed is;
     cleared = λ shut was. subst closing.IsCleared (sym is) was;
   }
 
@@ -47,21 +49,22 @@ module _ {S : Type 0} (closing : Closing S) (old new : S) where
 module _ {T W : Type 0} (old new : ChannelMachine T W) where
   own_same : new.own ≡ old.own → StaysClosed closing_channel old new
   own_same is = record {
-    closed = λ was. ap (λ (own : Buffered T). own.is_open) is ∙ was;
+    closed = ap (λ (own : Buffered T). not own.is_open) is;
     cleared = λ shut was. ap (λ (own : Buffered T). own.buffer.items) is ∙ was;
   }
 
-  was_open : old.own.is_open ≡ true → StaysClosed closing_channel old new
-  was_open is = record {
-    closed = λ shut. absurd (both_ways old.own.is_open shut is);
-    cleared = λ shut was. absurd (both_ways old.own.is_open shut is);
+  was_open : (value : T) (own : Buffered T) → old.own.is_open ≡ true → Stores old.own value own → new.own ≡ own
+      → StaysClosed closing_channel old new
+  was_open value own is stores stored = record {
+    closed = ap (λ (own : Buffered T). not own.is_open) (stored ∙ stores.4);
+    cleared = λ shut was. absurd (both_ways (not old.own.is_open) (ap not is) shut);
   }
 
   fresh_sends : (is_open room : Bool) (value : Option T) (name : ℕ) (waker : W) (answer : Poll (Result (Unit {0}) (SendFault T)))
       → old.own.is_open ≡ is_open → FreshSends is_open room value old name waker answer new → StaysClosed closing_channel old new
   fresh_sends is_open room None name waker answer is did = absurd did
   fresh_sends false room (Some value) name waker answer is did = own_same did.1.0
-  fresh_sends true true (Some value) name waker answer is did = was_open is
+  fresh_sends true true (Some value) name waker answer is did = was_open value did.1 is did.2 did.3.0
   fresh_sends true false (Some value) name waker answer is did = own_same did.1.0
 
   sends_as : (phase : Option (Phase W)) (name : ℕ) (waker : W) (answer : Poll (Result (Unit {0}) (SendFault T)))
@@ -94,7 +97,7 @@ module _ {T W : Type 0} (old new : ChannelMachine T W) where
   taken : (next : T × Bounded T) → next_of old ≡ Some next → new.own ≡ with_buffer old.own next.1
       → StaysClosed closing_channel old new
   taken next is own = record {
-    closed = λ was. ap (λ (own : Buffered T). own.is_open) own ∙ was;
+    closed = ap (λ (own : Buffered T). not own.is_open) own;
     cleared = λ shut was. ap (λ (own : Buffered T). own.buffer.items) own ∙ none_taken old.own.buffer.items _ next refl was is;
   }
 
@@ -123,6 +126,17 @@ module _ {T W : Type 0} (old new : ChannelMachine T W) where
   streamed name waker (Ready (Some (Ok item))) did = streams_as (receive_phase old name) name waker _ did
   streamed name waker (Ready (Some (Err fault))) did = absurd did
 
+  pub slot_polls : {B : Type 0} (P : Type 0) (polled : Option (Poll (Option (Result T Fault)) × B)) (name : ℕ) (waker : W)
+      → IfSome polled (λ polled. PollsStream old name waker polled.0 new) → IfNone polled (P × (new ≡ old))
+      → StaysClosed closing_channel old new
+  slot_polls P None name waker did lacks = same closing_channel old new lacks.1
+  slot_polls P (Some polled) name waker did lacks = at (can_stream (kind_of old name) (receive_phase old name)) did
+    where
+      at : (can : Bool) → PollsWhere can (Streamed (PollsNext old name waker)) (Some (Err NoSlot)) old polled.0 new
+          → StaysClosed closing_channel old new
+      at true did = streamed name waker polled.0 did
+      at false did = same closing_channel old new did.1
+
   cancels_as : (phase : Option (Phase W)) (name : ℕ) → CancelsReceiveAs phase old name new → StaysClosed closing_channel old new
   cancels_as (Some Told) name did = own_same did.0
   cancels_as phase name did = own_same did.0
@@ -144,17 +158,17 @@ left_closed false value = refl
 
 module _ {T W : Type 0} (old new : OneshotMachine T W) where
   content_same : new.own ≡ old.own → StaysClosed closing_one_value old new
-  content_same is = record { closed = λ was. ap has_closed is ∙ was; cleared = λ shut was. was }
+  content_same is = record { closed = ap has_closed is; cleared = λ shut was. was }
 
-  now_closed : has_closed new.own ≡ true → StaysClosed closing_one_value old new
-  now_closed is = record { closed = λ was. is; cleared = λ shut was. was }
+  both_closed : has_closed old.own ≡ true → has_closed new.own ≡ true → StaysClosed closing_one_value old new
+  both_closed was is = record { closed = is ∙ sym was; cleared = λ shut was. was }
 
   fresh_polls : (giving : Giving T) (content : Content T) (name : ℕ) (waker : W) (answer : Poll (Option T)) → old.own ≡ content
       → oneshot.FreshPolls giving content old name waker answer new → StaysClosed closing_one_value old new
   fresh_polls giving Empty name waker answer is did = content_same (did.1.0 ∙ sym is)
   fresh_polls giving (Full value) name waker answer is did =
-      now_closed (ap has_closed did.3.0 ∙ left_closed giving.keeps value)
-  fresh_polls giving Spent name waker answer is did = now_closed (ap has_closed did.1.0)
+      both_closed (ap has_closed is) (ap has_closed did.3.0 ∙ left_closed giving.keeps value)
+  fresh_polls giving Spent name waker answer is did = both_closed (ap has_closed is) (ap has_closed did.1.0)
 
   polls_as : (giving : Giving T) (phase : Option (Phase W)) (name : ℕ) (waker : W) (answer : Poll (Option T))
       → oneshot.PollsAs giving phase old name waker answer new → StaysClosed closing_one_value old new
@@ -178,7 +192,7 @@ module _ {T W : Type 0} (old new : OneshotMachine T W) where
 
 module _ {T W : Type 0} (old new : StateMachine T W) where
   newest_same : new.own ≡ old.own → StaysClosed closing_state_broadcast old new
-  newest_same is = record { closed = λ was. ap (λ (own : Newest T). own.is_open) is ∙ was; cleared = λ shut was. was }
+  newest_same is = record { closed = ap (λ (own : Newest T). not own.is_open) is; cleared = λ shut was. was }
 
   fresh_waits : (is_open : Bool) (name : ℕ) (waker : W) (answer : Poll (Option (ℕ × T)))
       → broadcast.FreshWaits is_open old name waker answer new → StaysClosed closing_state_broadcast old new

@@ -2,9 +2,9 @@
 ghost use Rattle.std.specs.Prelude.{◌≡◌, ◌==◌, not, length, IfOk, IfErr, OnErr};
 ghost use Rattle.fi_channels.specs.Channel.{MakesSend, MakesReceive, TriesSend, TriesReceive, Closes};
 ghost use Rattle.fi_channels.specs.ChannelWords.{has_room};
-ghost use Rattle.fi_channels.specs.declared.channel_fields.ReceiveKind.TheVariants.{Single, Stream};
+ghost use Rattle.fi_channels.specs.declared.channel.fields.ReceiveKind.TheVariants.{Single, Stream};
 ghost use Rattle.fi_parts.specs.declared.errors.Fault.{Fault};
-ghost use Rattle.futures_intrusive.specs.Ends.{OnState};
+ghost use Rattle.futures_intrusive.specs.Ends.{OnState, ClosesBy};
 
 use crate::counted_ends::{
     ClosesByEnds, CountedEnds, ManyReceivers, ManySenders, ReceivesClosed, SendsClosed,
@@ -44,6 +44,10 @@ impl<T: Drop, B: RingBuf<Item = T>> ClosesByEnds for ChannelState<T, B, PollWake
 
     fn is_closed(&self) -> bool {
         ChannelState::is_closed(self)
+    }
+
+    fn own_wake_count(&self) -> usize {
+        ChannelState::wake_count(self)
     }
 
     fn close_after_senders(&mut self) {
@@ -174,9 +178,11 @@ impl<T: Drop, B: RingBuf<Item = T>> CountedEnds<ChannelState<T, B, PollWaker>> {
 
     /// Closes the channel, and names all who wait. `AlreadyClosed` if it was closed; then nothing has changed.
     pub fn close(&mut self) -> CloseStatus
-        ensures { OnState (λ old new. Closes old result new) self.old self.new }
+        ensures { ClosesBy (λ old new. Closes old result new) self.old self.new }
     {
-        self.state.close()
+        let status = self.state.close();
+        self.closed.set();
+        status
     }
 
     /// Makes a send of this value. Refused, with the value, only for want of memory; then nothing has changed.

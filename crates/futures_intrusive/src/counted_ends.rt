@@ -1,15 +1,17 @@
 //! What stands behind the lock of a channel's shared ends: its state, beside the counts of senders and receivers.
-ghost use Rattle.std.specs.Prelude.{◌≡◌, ℕ, true, Option, Result};
-ghost use Rattle.fi_channels.specs.declared.channel_errors.SendFault.{SendFault};
+ghost use Rattle.std.specs.Prelude.{◌≡◌, ◌++◌, ℕ, true, Option, Result, length};
+ghost use Rattle.fi_channels.specs.declared.channel.errors.SendFault.{SendFault};
 ghost use Rattle.fi_parts.specs.declared.errors.Fault.{Fault};
 ghost use Rattle.futures.specs.declared.task.Poll.{Poll};
 ghost use Rattle.futures.specs.declared.task.waker.Waker.{Waker};
-ghost use Rattle.futures_intrusive.specs.Ends.{Counted, Closing, KeepsEnds, StaysClosed, OnState, two_ends};
+ghost use Rattle.fi_parts.specs.Pairs.{wakers_of};
+ghost use Rattle.futures_intrusive.specs.Ends.{Counted, Closing, KeepsEnds, StaysClosed, StaysCleared, OnState, WakesNext, two_ends};
 ghost use Rattle.futures_intrusive.specs.Ends.{AddsSender, AddsReceiver, DropsSender, DropsReceiver};
 
-use fi_channels::{ChannelReceiveAccess, ChannelSendAccess, EndCount, Received, Sent};
+use fi_channels::{ChannelReceiveAccess, ChannelSendAccess, EndCount, EventState, Received, Sent};
 use fi_parts::{Fault, Slot};
 use fi_sync::{HasOutbox, PollWaker};
+use std::alloc::Global;
 use std::fmt;
 use std::marker::Model;
 
@@ -29,28 +31,31 @@ pub trait ClosesByEnds: HasOutbox {
 
     /// Returns `true` if the channel is closed.
     fn is_closed(&self) -> bool
-        ensures closed { result ≡ true → closing.IsClosed self.now }
-        ensures open { closing.IsClosed self.now → result ≡ true };
+        ensures { result ≡ closing.is_closed self.now };
+
+    /// How many wakers are named to be woken. (Those of the event that is beside the state are added to them.)
+    fn own_wake_count(&self) -> usize
+        ensures { result ≡ length (Self.wakers self.now) };
 
     /// Closes the channel, whose last sender was dropped.
     fn close_after_senders(&mut self)
         ensures closes { closes self.old self.new }
-        ensures closed { closing.IsClosed self.new }
-        ensures stays { StaysClosed closing self.old self.new };
+        ensures closed { closing.is_closed self.new ≡ true }
+        ensures stays { StaysCleared closing self.old self.new };
 
     /// Closes the channel, whose last receiver was dropped, and clears it if its kind does.
     fn close_after_receivers(&mut self) -> Self::Cleared
         ensures clears { clears self.old result self.new }
-        ensures closed { closing.IsClosed self.new }
+        ensures closed { closing.is_closed self.new ≡ true }
         ensures cleared { closing.IsCleared self.new }
         ensures no_send_waits { closing.NoSendWaits self.new };
 
-    /// A wake that is taken out opens no closed channel.
+    /// A wake that is taken out neither opens nor closes the channel.
     ghost wakes_stay_closed: { (old new : Self) (answer : Option (Option Waker)) → Self.wakes old answer new
         → StaysClosed Self.closing old new };
 }
 
-/// A channel whose sends, polled or cancelled, open no closed channel.
+/// A channel whose sends, polled or cancelled, neither open nor close it.
 pub trait SendsClosed: ChannelSendAccess<Waker = PollWaker> + ClosesByEnds {
     ghost sends_stay_closed: { (old new : Self) (name : ℕ) (waker : Option Waker)
         (answer : Poll (Result (Unit {0}) (SendFault Self.Item)))
@@ -60,7 +65,7 @@ pub trait SendsClosed: ChannelSendAccess<Waker = PollWaker> + ClosesByEnds {
         → Self.withdraws old name left new → StaysClosed Self.closing old new };
 }
 
-/// A channel whose receives, polled or cancelled, open no closed channel.
+/// A channel whose receives, polled or cancelled, neither open nor close it.
 pub trait ReceivesClosed: ChannelReceiveAccess<Waker = PollWaker> + ClosesByEnds {
     ghost receives_stay_closed: { (old new : Self) (name : ℕ) (waker : Option Waker)
         (answer : Poll (Result (Option Self.Item) Fault))
@@ -76,16 +81,17 @@ pub trait ManySenders: ClosesByEnds {}
 /// A channel whose receivers can be cloned.
 pub trait ManyReceivers: ClosesByEnds {}
 
-/// A channel's state, and how many senders and receivers it has.
+/// A channel's state, how many senders and receivers it has, and the event that is set once it is closed.
 ///
-/// In every value of this type a channel without senders is closed, and one without receivers is closed and has nothing buffered.
-/// Of adds and drops only a drop that makes a count 0 closes the channel. They take constant time but that one, which names all
-/// who wait.
+/// In every value of this type a channel without senders is closed, one without receivers is closed and has nothing buffered, and
+/// the event is set exactly if the channel is closed. Of adds and drops only a drop that makes a count 0 closes the channel. They
+/// take constant time but that one, which names all who wait.
 #[derive(Drop)]
 pub struct CountedEnds<S: ClosesByEnds> {
     pub(crate) state: S,
     senders: EndCount,
     receivers: EndCount,
+    pub(crate) closed: EventState<PollWaker>,
 }
 
 impl<S: ClosesByEnds> fmt::Debug for CountedEnds<S> {
@@ -95,27 +101,31 @@ impl<S: ClosesByEnds> fmt::Debug for CountedEnds<S> {
 }
 
 impl<S: ClosesByEnds> Model for CountedEnds<S> {
+    ghost use Rattle.std.specs.Coded.{coded_option};
+    ghost use Rattle.futures.specs.contracts.task.waker.Waker as waker;
     ghost use Rattle.futures_intrusive.specs.Ends.{Counted, counted_code, KeepsEnds};
 
     ghost Value = { Counted S };
 
-    ghost coded = { counted_code S.code };
+    ghost coded = { counted_code S.code (coded_option waker.the_row.coded) };
 
-    ghost view = { λ ends. record { state = ends.state; senders = ends.senders; receivers = ends.receivers } };
+    ghost view = { λ ends. record { state = ends.state; senders = ends.senders; receivers = ends.receivers; closed = ends.closed } };
 
     ghost invariant = { λ ends. KeepsEnds S.closing
-        (record { state = ends.state; senders = ends.senders; receivers = ends.receivers }) };
+        (record { state = ends.state; senders = ends.senders; receivers = ends.receivers; closed = ends.closed }) };
 }
 
 impl<S: ClosesByEnds> CountedEnds<S> {
-    /// A channel with one sender and one receiver.
-    pub fn new(state: S) -> Self
-        ensures { result ≡ two_ends state }
+    /// A channel with one sender and one receiver. It takes no memory yet.
+    pub fn new(alloc: Global, state: S) -> Self
+        ensures { result ≡ two_ends S.closing state }
     {
+        let closed = EventState::new(alloc, state.is_closed());
         CountedEnds {
             state,
             senders: EndCount::new(),
             receivers: EndCount::new(),
+            closed,
         }
     }
 
@@ -137,8 +147,7 @@ impl<S: ClosesByEnds> CountedEnds<S> {
 
     /// Returns `true` if the channel is closed.
     pub fn is_closed(&self) -> bool
-        ensures closed { result ≡ true → S.closing.IsClosed self.now.state }
-        ensures open { S.closing.IsClosed self.now.state → result ≡ true }
+        ensures { result ≡ S.closing.is_closed self.now.state }
     {
         self.state.is_closed()
     }
@@ -149,6 +158,7 @@ impl<S: ClosesByEnds> CountedEnds<S> {
     {
         if self.senders.drop_end() {
             self.state.close_after_senders();
+            self.closed.set();
         }
     }
 
@@ -159,7 +169,9 @@ impl<S: ClosesByEnds> CountedEnds<S> {
         ensures no_send_waits { self.old.receivers ≡ 1 → S.closing.NoSendWaits self.new.state }
     {
         if self.receivers.drop_end() {
-            return Some(self.state.close_after_receivers());
+            let cleared = self.state.close_after_receivers();
+            self.closed.set();
+            return Some(cleared);
         }
         None
     }
@@ -184,16 +196,19 @@ impl<S: ManyReceivers> CountedEnds<S> {
 }
 
 impl<S: ClosesByEnds> HasOutbox for CountedEnds<S> {
-    ghost wakers = { λ ends. S.wakers ends.state };
+    ghost wakers = { λ ends. S.wakers ends.state ++ wakers_of ends.closed.waiting.out };
 
-    ghost wakes = { λ old answer new. OnState (λ before after. S.wakes before answer after) old new };
+    ghost wakes = { WakesNext S.wakes };
 
     fn next_wake(&mut self) -> Option<PollWaker> {
-        self.state.next_wake()
+        match self.state.next_wake() {
+            Some(waker) => Some(waker),
+            None => self.closed.next_wake(),
+        }
     }
 
-    fn wake_count(&self) -> usize {
-        self.state.wake_count()
+    fn wake_count(&self) -> u128 {
+        self.state.own_wake_count() as u128 + self.closed.wake_count() as u128
     }
 }
 

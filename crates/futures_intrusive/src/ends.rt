@@ -241,7 +241,7 @@ pub(crate) fn two_ends<S: ClosesByEnds + Drop, R: Wait + Drop>(
     ensures same { IfOk result (λ ends. ends.0 ≡ ends.1) }
     ensures fault { IfErr result (λ fault. fault ≡ Fault.NoMemory) }
 {
-    let first = shared(alloc, Monitor::new(rt, CountedEnds::new(state)))?;
+    let first = shared(alloc, Monitor::new(rt, CountedEnds::new(alloc, state)))?;
     let second = share(&first)?;
     let sender = End {
         channel: first,

@@ -16,6 +16,7 @@ mod blocking_iter;
 pub mod buffer;
 pub mod channel;
 mod channel_ends;
+mod closed;
 mod counted_channel;
 mod counted_ends;
 mod ends;

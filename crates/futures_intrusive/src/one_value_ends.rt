@@ -5,7 +5,7 @@ ghost use Rattle.fi_parts.specs.declared.errors.Fault.{Fault};
 ghost use Rattle.fi_channels.specs.Oneshot.{Makes, Sends, TriesReceive};
 ghost use Rattle.fi_sync.specs.Received.{PollsOneValue, TakesAtOnce};
 ghost use Rattle.fi_sync.specs.Waiting.{InSomeHold, IsNew, WaitedFor};
-ghost use Rattle.futures_intrusive.specs.Ends.{OnState};
+ghost use Rattle.futures_intrusive.specs.Ends.{OnState, ClosesBy};
 
 use crate::channel_ends::ChannelReceiveFuture;
 use crate::counted_ends::{ClosesByEnds, CountedEnds, ManyReceivers, ReceivesClosed};
@@ -194,6 +194,10 @@ impl<T: Drop, G: GivesValue<T>> ClosesByEnds for OneValueState<T, PollWaker, G> 
         OneValueState::is_closed(self)
     }
 
+    fn own_wake_count(&self) -> usize {
+        OneValueState::wake_count(self)
+    }
+
     fn close_after_senders(&mut self) {
         self.close();
     }
@@ -217,9 +221,11 @@ impl<T: Drop, G: GivesValue<T>> ReceivesClosed for OneValueState<T, PollWaker, G
 impl<T: Drop, G: GivesValue<T>> CountedEnds<OneValueState<T, PollWaker, G>> {
     /// Sends the one value. Refused, with the value, if the channel takes none any more; then nothing has changed.
     pub fn send(&mut self, value: T) -> Result<(), ChannelSendError<T>>
-        ensures { OnState (λ old new. Sends old value result new) self.old self.new }
+        ensures { ClosesBy (λ old new. Sends old value result new) self.old self.new }
     {
-        self.state.send(value)
+        let sent = self.state.send(value);
+        self.closed.set();
+        sent
     }
 
     /// Receives at once: the value, or None if none will come. Refused with `Empty` or `NoMemory`; then nothing has changed.

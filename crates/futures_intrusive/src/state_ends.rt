@@ -154,6 +154,10 @@ impl<T: Clone + Drop> ClosesByEnds for StateBroadcastState<T, PollWaker> {
         StateBroadcastState::is_closed(self)
     }
 
+    fn own_wake_count(&self) -> usize {
+        StateBroadcastState::wake_count(self)
+    }
+
     fn close_after_senders(&mut self) {
         self.close();
     }

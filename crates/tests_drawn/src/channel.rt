@@ -4,7 +4,7 @@ use crate::waiters::{PlainWaiters, Stage};
 use fi_channels::ChannelState;
 use fi_parts::buffer::{ArrayBuf, FixedHeapBuf, GrowingHeapBuf, RingBuf};
 use fi_parts::{Fault, Slot};
-use fi_run::{Answer, ChannelCall};
+use fi_run::{Answer, ChannelCall, ScriptBuffer};
 use std::alloc::Global;
 use std::test::Fail;
 
@@ -233,7 +233,7 @@ impl<B: RingBuf<Item = u64>> Reference<ChannelState<u64, B, u64>> for PlainChann
     }
 }
 
-fn agrees<B: RingBuf<Item = u64>>(
+fn agrees<B: RingBuf<Item = u64> + ScriptBuffer>(
     alloc: Global,
     capacity: usize,
     has_streams: bool,
@@ -251,7 +251,7 @@ fn agrees<B: RingBuf<Item = u64>>(
     agree::<ChannelState<u64, B, u64>, PlainChannel>(alloc, capacity, reference, lines)
 }
 
-fn agrees_with_each_capacity<B: RingBuf<Item = u64>>(
+fn agrees_with_each_capacity<B: RingBuf<Item = u64> + ScriptBuffer>(
     alloc: Global,
     has_streams: bool,
 ) -> Result<bool, Fail> {

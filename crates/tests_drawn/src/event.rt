@@ -2,7 +2,6 @@
 use crate::cases::{Lines, POLLS, Reference, agree};
 use crate::waiters::{ALL, PlainWaiters, Stage};
 use fi_channels::EventState;
-use fi_parts::Fault;
 use fi_run::{Answer, EventCall};
 use std::test::Fail;
 
@@ -12,28 +11,14 @@ struct PlainEvent {
     waits: PlainWaiters,
 }
 
-impl PlainEvent {
-    fn poll(&mut self, name: usize) -> Answer<u64, u64> {
-        match self.waits.stage(name) {
-            Stage::Waiting => Answer::Pending,
-            Stage::Unpolled if !self.is_set => {
-                self.waits.wait(name);
-                Answer::Pending
-            }
-            Stage::Unpolled | Stage::Told => {
-                self.waits.leave(name, Stage::Over);
-                Answer::Ready
-            }
-            _ => Answer::Refused(Fault::NoSlot),
-        }
-    }
-}
-
 impl Reference<EventState<u64>> for PlainEvent {
     fn answer(&mut self, call: EventCall<u64>) -> Answer<u64, u64> {
         match call {
             EventCall::Wait => self.waits.make(&ALL),
-            EventCall::Poll(slot, _) => self.poll(slot.0),
+            EventCall::Poll(slot, _) => {
+                let answer = self.waits.poll(slot.0, !self.is_set);
+                answer.unwrap_or(Answer::Ready)
+            }
             EventCall::Cancel(slot) => self.waits.cancel(slot.0),
             EventCall::Set => {
                 self.is_set = true;

@@ -3,7 +3,7 @@ use crate::cases::{Lines, POLLS, Reference, agree};
 use crate::waiters::{ALL, PlainWaiters, Stage};
 use fi_channels::{ClonesValue, GivesValue, OneValueState, TakesValue};
 use fi_parts::Fault;
-use fi_run::{Answer, OneshotCall};
+use fi_run::{Answer, OneshotCall, ScriptGiving};
 use std::alloc::Global;
 use std::test::Fail;
 
@@ -43,17 +43,9 @@ impl PlainOneValue {
     }
 
     fn poll(&mut self, name: usize) -> Answer<u64, u64> {
-        match self.receives.stage(name) {
-            Stage::Waiting => Answer::Pending,
-            Stage::Unpolled if self.content == Content::Empty => {
-                self.receives.wait(name);
-                Answer::Pending
-            }
-            Stage::Unpolled => {
-                self.receives.leave(name, Stage::Over);
-                self.give()
-            }
-            _ => Answer::Refused(Fault::NoSlot),
+        match self.receives.poll(name, self.content == Content::Empty) {
+            Some(answer) => answer,
+            None => self.give(),
         }
     }
 
@@ -91,7 +83,10 @@ impl<G: GivesValue<u64>> Reference<OneValueState<u64, u64, G>> for PlainOneValue
     }
 }
 
-fn agrees<G: GivesValue<u64>>(alloc: Global, keeps_value: bool) -> Result<bool, Fail> {
+fn agrees<G: GivesValue<u64> + ScriptGiving>(
+    alloc: Global,
+    keeps_value: bool,
+) -> Result<bool, Fail> {
     let lines = Lines {
         makings: "receive a; receive b; receive c; receive d",
         polls: POLLS,

@@ -81,21 +81,6 @@ impl PlainPool {
             self.waits.name_all(&ALL, Stage::Told);
         }
     }
-
-    fn poll(&mut self, name: usize) -> Answer<u64, u64> {
-        match self.waits.stage(name) {
-            Stage::Waiting => Answer::Pending,
-            Stage::Unpolled if !self.is_drained => {
-                self.waits.wait(name);
-                Answer::Pending
-            }
-            Stage::Unpolled | Stage::Told => {
-                self.waits.leave(name, Stage::Over);
-                Answer::Ready
-            }
-            _ => Answer::Refused(Fault::NoSlot),
-        }
-    }
 }
 
 impl Reference<PoolState<u64>> for PlainPool {
@@ -106,7 +91,10 @@ impl Reference<PoolState<u64>> for PlainPool {
             PoolCall::Finish => self.finish(),
             PoolCall::Shutdown => self.shutdown(),
             PoolCall::Wait => self.waits.make(&ALL),
-            PoolCall::Poll(slot, _) => self.poll(slot.0),
+            PoolCall::Poll(slot, _) => {
+                let answer = self.waits.poll(slot.0, !self.is_drained);
+                answer.unwrap_or(Answer::Ready)
+            }
             PoolCall::Cancel(slot) => self.waits.cancel(slot.0),
             PoolCall::NextWake => self.waits.next_wake(),
         }

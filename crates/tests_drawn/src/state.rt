@@ -36,17 +36,10 @@ impl PlainState {
 
     fn poll(&mut self, name: usize) -> Answer<u64, u64> {
         let newer = self.newer(seen(name));
-        match (self.receives.stage(name), newer) {
-            (Stage::Waiting, _) => Answer::Pending,
-            (Stage::Unpolled, None) if !self.is_closed => {
-                self.receives.wait(name);
-                Answer::Pending
-            }
-            (Stage::Unpolled, newer) => {
-                self.receives.leave(name, Stage::Over);
-                newer.unwrap_or(Answer::Nothing)
-            }
-            _ => Answer::Refused(Fault::NoSlot),
+        let waits = newer.is_none() && !self.is_closed;
+        match self.receives.poll(name, waits) {
+            Some(answer) => answer,
+            None => newer.unwrap_or(Answer::Nothing),
         }
     }
 

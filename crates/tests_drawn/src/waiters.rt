@@ -100,6 +100,22 @@ impl PlainWaiters {
         Answer::Refused(Fault::TooManyEnds)
     }
 
+    // What a poll is answered, unless it ends its future: one that was not polled yet waits then, or doesn't.
+    pub(crate) fn poll(&mut self, name: usize, waits: bool) -> Option<Answer<u64, u64>> {
+        match self.stage(name) {
+            Stage::Waiting => Some(Answer::Pending),
+            Stage::Unpolled if waits => {
+                self.wait(name);
+                Some(Answer::Pending)
+            }
+            Stage::Unpolled | Stage::Told => {
+                self.leave(name, Stage::Over);
+                None
+            }
+            _ => Some(Answer::Refused(Fault::NoSlot)),
+        }
+    }
+
     // It waits, before all of a greater rank.
     pub(crate) fn wait_at(&mut self, name: usize, rank: u64) {
         self.leave(name, Stage::Waiting);

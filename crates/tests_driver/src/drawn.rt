@@ -8,13 +8,11 @@ use crate::tasks::Tasks;
 use crate::{Flavour, Line, Opened, Play, Played, agrees, take_wakers};
 use fi_parts::Fault;
 use fi_run::{Answer, Primitive};
-use std::alloc::AllocGlobal;
+use fi_scripts::Scripted;
+use std::alloc::{AllocGlobal, Global};
 use std::random::RandomSource;
 use std::sync::Wait;
-
-pub mod channel;
-pub mod one_value;
-pub mod state;
+use tests_rows::calls::Reader;
 
 /// Draws numbers: the same ones in each run.
 #[derive(Clone, Copy, Drop)]
@@ -36,19 +34,55 @@ impl Draws {
     }
 }
 
-/// What lists are drawn from: the makings of four futures, which begin each list, and what each call after them is one of.
+/// What lists are drawn from, as lines apart by `; `: the makings of four futures, which begin each list, and what each call after them
+/// is one of.
 #[derive(Clone, Copy)]
-pub struct Calls<'a, C> {
-    pub makings: &'a [C],
-    pub choices: &'a [C],
+pub struct Lines {
+    pub makings: &'static str,
+    pub choices: &'static str,
 }
 
-impl<C: Copy> Calls<'_, C> {
+// The calls on two sends, and on two receives or streams.
+const ON_CHANNEL: &str =
+    "poll a 1; poll b 2; poll c 3; poll d 4; cancel a; cancel b; cancel c; cancel d; try-send 5; try-receive; close";
+
+/// Two sends and two receives of a channel.
+pub const RECEIVES: Lines = Lines {
+    makings: "send a 1; send b 2; receive c; receive d",
+    choices: ON_CHANNEL,
+};
+
+/// Two sends and two streams of a channel.
+pub const STREAMS: Lines = Lines {
+    makings: "send a 1; send b 2; stream c; stream d",
+    choices: ON_CHANNEL,
+};
+
+/// The calls of these lines.
+#[derive(Drop)]
+struct Calls<C> {
+    makings: Vec<C>,
+    choices: Vec<C>,
+}
+
+// The calls of these lines. None if one is bad, or memory is missing.
+fn calls_of<P: Scripted>(alloc: Global, opening: P::Opening, lines: Lines) -> Option<Calls<P::Call>>
+where
+    P::Call: Copy,
+{
+    let mut reader = Reader::<P>::open(alloc, opening)?;
+    Some(Calls {
+        makings: reader.calls(lines.makings)?,
+        choices: reader.choices(lines.choices)?,
+    })
+}
+
+impl<C: Copy> Calls<C> {
     // The call at this place of a list.
     fn at(&self, place: usize, draws: &mut Draws) -> Option<C> {
         match self.makings.get(place) {
             Some(making) => Some(*making),
-            None => draws.choose(self.choices),
+            None => draws.choose(self.choices.as_slice()),
         }
     }
 }
@@ -57,7 +91,7 @@ impl<C: Copy> Calls<'_, C> {
 #[derive(Drop)]
 struct Drawn<'a, P, C> {
     state: &'a mut P,
-    calls: Calls<'a, C>,
+    calls: &'a Calls<C>,
     draws: Draws,
     // How many calls are drawn.
     count: usize,
@@ -140,7 +174,7 @@ fn play_list<R, P, F>(
     tasks: &mut Tasks,
     flavour: &F,
     opening: P::Opening,
-    calls: Calls<P::Call>,
+    calls: &Calls<P::Call>,
     draws: Draws,
     count: usize,
 ) -> Played
@@ -162,29 +196,31 @@ where
     flavour.play(rt, tasks, &mut drawn)
 }
 
-/// Draws so many lists of so many calls, and plays each on a type and on the plain state.
-pub fn play_lists<R, P, F>(
+/// Draws two thousand lists of so many calls of these lines, and plays each on a type and on the plain state.
+pub fn play_lines<R, P, F>(
     rt: &R,
     flavour: &F,
     opening: P::Opening,
-    calls: Calls<P::Call>,
-    lists: u64,
+    lines: Lines,
     count: usize,
 ) -> Lists
 where
     R: Wait + RandomSource + AllocGlobal,
-    P: Primitive<Answer = Answer<u64, u64>> + Drop,
+    P: Scripted,
     P::Opening: Copy,
     P::Call: Copy,
     F: Flavour<R, Call = P::Call>,
 {
+    let Some(calls) = calls_of::<P>(rt.alloc(), opening, lines) else {
+        return Lists::NoMemory;
+    };
     let Some(mut tasks) = Tasks::new(rt) else {
         return Lists::NoMemory;
     };
     let mut draws = Draws(1);
     let mut tried = 0u64;
-    for number in 0..lists {
-        match play_list::<R, P, F>(rt, &mut tasks, flavour, opening, calls, draws, count) {
+    for number in 0..2_000u64 {
+        match play_list::<R, P, F>(rt, &mut tasks, flavour, opening, &calls, draws, count) {
             Played::AsListed => tried = tried.wrapping_add(1),
             Played::DiffersAt(place) => return Lists::DifferAt(number, place),
             Played::LeftOut => (),

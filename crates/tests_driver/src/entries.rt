@@ -6,8 +6,8 @@
 use crate::drawn::is_left_out;
 use crate::{Line, take_wakers};
 use fi_parts::{Fault, Slot};
-use fi_run::Answer;
-use fi_scripts::{Labels, Row, Scripted, Verb};
+use fi_run::{Answer, Row, Verb};
+use fi_scripts::{Labels, Scripted};
 use std::alloc::{AllocGlobal, Global};
 use tests_rows::call_of;
 

@@ -1,5 +1,6 @@
 //! Ends that are owned and counted: the last of a side closes the channel, and wakes those who wait.
 
+mod closed;
 mod counts;
 mod debug;
 mod iterates;

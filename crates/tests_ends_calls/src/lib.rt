@@ -10,6 +10,7 @@ use fi_channels::{TryReceiveError, TrySendError};
 use fi_parts::{ChannelSendError, CloseStatus, Fault, NoRoom, StateId};
 use futures::Stream;
 
+pub mod closed;
 pub mod many;
 pub mod one_value;
 pub mod states;
@@ -25,6 +26,13 @@ pub trait ClonedEnd: Drop {
 /// An end that says whether its channel is closed.
 pub trait SaysClosed: Drop {
     fn is_closed(&self) -> bool;
+}
+
+/// An end at which a task waits until its channel is closed.
+pub trait AwaitsClose: Drop {
+    type Closed: Drop;
+
+    fn closed(&self) -> Result<Self::Closed, Fault>;
 }
 
 /// An end that tells how many there are.

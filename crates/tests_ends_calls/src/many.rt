@@ -1,9 +1,10 @@
 //! The ends of the channel of many values.
 ghost use Rattle.std.specs.Prelude.{◌≡◌};
 
+use crate::closed::Closed;
 use crate::{
-    ClonedEnd, CountsEnds, Made, ReceivingEnd, SendingEnd, StreamingEnd, TriesToReceive,
-    TriesToSend,
+    AwaitsClose, ClonedEnd, CountsEnds, Made, ReceivingEnd, SendingEnd, StreamingEnd,
+    TriesToReceive, TriesToSend,
 };
 use fi_channels::{SendFault, TryReceiveError, TrySendError};
 use fi_parts::buffer::{GrowingHeapBuf, RingBuf};
@@ -105,6 +106,16 @@ impl<T: Drop, B: RingBuf<Item = T>, R: Wait + Drop> CountsEnds for Sender<T, B, 
 impl<T: Drop, B: RingBuf<Item = T>, R: Wait + Drop> CountsEnds for Receiver<T, B, R> {
     fn counts(&self) -> (usize, usize) {
         (self.end.sender_count(), self.end.receiver_count())
+    }
+}
+
+impl<T: Drop, B: RingBuf<Item = T>, R: Wait + Drop> AwaitsClose for Sender<T, B, R> {
+    type Closed = Closed<SharedChannelState<T, B>, R>;
+
+    fn closed(&self) -> Result<Closed<SharedChannelState<T, B>, R>, Fault> {
+        Ok(Closed {
+            future: self.end.closed()?,
+        })
     }
 }
 

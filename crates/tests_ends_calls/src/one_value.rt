@@ -1,7 +1,8 @@
 //! The ends of the channels of one value.
 ghost use Rattle.std.specs.Prelude.{◌≡◌};
 
-use crate::{ClonedEnd, Made, ReceivesOne, SaysClosed, SendsAtOnce};
+use crate::closed::Closed;
+use crate::{AwaitsClose, ClonedEnd, Made, ReceivesOne, SaysClosed, SendsAtOnce};
 use fi_channels::{ClonesValue, GivesValue, OneValueState, TakesValue};
 use fi_parts::{ChannelSendError, Fault};
 use fi_sync::PollWaker;
@@ -67,6 +68,16 @@ impl<T: Drop, G: GivesValue<T>, R: Wait + Drop> SaysClosed for Sender<T, G, R> {
 impl<T: Drop, G: GivesValue<T>, R: Wait + Drop> SaysClosed for Receiver<T, G, R> {
     fn is_closed(&self) -> bool {
         self.end.is_closed()
+    }
+}
+
+impl<T: Drop, G: GivesValue<T>, R: Wait + Drop> AwaitsClose for Sender<T, G, R> {
+    type Closed = Closed<OneValueState<T, PollWaker, G>, R>;
+
+    fn closed(&self) -> Result<Closed<OneValueState<T, PollWaker, G>, R>, Fault> {
+        Ok(Closed {
+            future: self.end.closed()?,
+        })
     }
 }
 

@@ -1,12 +1,14 @@
 //! The ends of the state broadcast.
 ghost use Rattle.std.specs.Prelude.{◌≡◌};
 
+use crate::closed::Closed;
 use crate::{
-    ClonedEnd, CountsEnds, Made, ReadsStates, ReceivesStates, SaysClosed, SendsAtOnce,
+    AwaitsClose, ClonedEnd, CountsEnds, Made, ReadsStates, ReceivesStates, SaysClosed, SendsAtOnce,
     StreamsStates,
 };
+use fi_channels::StateBroadcastState;
 use fi_parts::{ChannelSendError, Fault, StateId};
-use fi_sync::Blocking;
+use fi_sync::{Blocking, PollWaker};
 use futures::task::{Context, Poll};
 use futures::{Future, Stream};
 use futures_intrusive::channel::shared::{
@@ -108,6 +110,16 @@ impl<T: Clone + Drop, R: Wait + Drop> CountsEnds for Sender<T, R> {
 impl<T: Clone + Drop, R: Wait + Drop> CountsEnds for Receiver<T, R> {
     fn counts(&self) -> (usize, usize) {
         (self.end.sender_count(), self.end.receiver_count())
+    }
+}
+
+impl<T: Clone + Drop, R: Wait + Drop> AwaitsClose for Sender<T, R> {
+    type Closed = Closed<StateBroadcastState<T, PollWaker>, R>;
+
+    fn closed(&self) -> Result<Closed<StateBroadcastState<T, PollWaker>, R>, Fault> {
+        Ok(Closed {
+            future: self.end.closed()?,
+        })
     }
 }
 

@@ -5,6 +5,7 @@ use fi_channels::{
 };
 use fi_locks::{MutexState, SemaphoreState, TimerState};
 use fi_parts::buffer::{ArrayBuf, FixedHeapBuf, GrowingHeapBuf, RingBuf};
+use fi_run::ScriptBuffer;
 use std::alloc::AllocGlobal;
 use std::random::RandomSource;
 use std::sync::Wait;
@@ -46,7 +47,7 @@ fn state_broadcast_rows(rt: HostRuntime) {
 }
 
 // The rows of a channel over an array of this capacity, over a buffer of this kind.
-fn over<R, B: RingBuf<Item = u64>>(rt: &R, capacity: usize, first: &str) -> Rows
+fn over<R, B: RingBuf<Item = u64> + ScriptBuffer>(rt: &R, capacity: usize, first: &str) -> Rows
 where
     R: Wait + Copy + Drop + RandomSource + AllocGlobal,
 {

@@ -16,8 +16,6 @@ mod hoard;
 #[cfg(test)]
 mod journals;
 #[cfg(test)]
-mod local;
-#[cfg(test)]
 mod locks;
 #[cfg(test)]
 mod polls;

@@ -1,8 +1,10 @@
 //! The calls of primitives that take memory, on plain states and on what threads share.
-use fi_channels::{EventState, OneshotBroadcastState, OneshotState, StateBroadcastState};
+use fi_channels::{
+    ChannelState, EventState, OneshotBroadcastState, OneshotState, StateBroadcastState,
+};
 use fi_locks::{MutexState, SemaphoreState, TimerState};
 use fi_parts::buffer::{ArrayBuf, FixedHeapBuf, GrowingHeapBuf, RingBuf};
-use fi_run::SemaphoreCall;
+use fi_run::{ScriptBuffer, SemaphoreCall};
 use std::alloc::AllocGlobal;
 use std::random::RandomSource;
 use std::sync::Wait;
@@ -12,7 +14,7 @@ use tests_driver::channel::ChannelOver;
 use tests_driver::event::Event;
 use tests_driver::mutex::MutexOf;
 use tests_driver::one_value::{BROADCAST, ONESHOT};
-use tests_driver::refusals::cases::{Case, GROWS, MAKINGS, tries_on_channel};
+use tests_driver::refusals::cases::{GROWS, MAKINGS, ONE_VALUE, STATES};
 use tests_driver::refusals::scene::Tried;
 use tests_driver::refusals::scene_rows::{SceneRow, tries_of_rows};
 use tests_driver::semaphore::{ByOwners, ByReference, Opening};
@@ -34,12 +36,6 @@ fn makings_of_an_event(rt: HostRuntime) -> Result<(), Fail> {
     assert!(rt; tried.is_right(1), "{tried:?}");
     Ok(())
 }
-
-// Of a channel of one value, once the value was sent, and while none was: a refusal leaves the channel open.
-const ONE_VALUE: [SceneRow; 2] = [
-    "receive a; receive b; receive c; receive d; poll a 1; send 5; receive e -> no-memory; poll e 2; poll a 3",
-    "receive a; receive b; receive c; receive d; poll a 1; receive e -> no-memory; poll e 2; send 5; poll a 3; poll e 4",
-];
 
 #[test]
 fn makings_of_channels_of_one_value(rt: HostRuntime) -> Result<(), Fail> {
@@ -63,14 +59,6 @@ fn makings_of_channels_of_one_value(rt: HostRuntime) -> Result<(), Fail> {
     Ok(())
 }
 
-// Once a state was sent, and while none was.
-const STATE: [SceneRow; 2] = [
-    "receive a 0; receive b 0; receive c 0; receive d 0; poll a 1; send 5; receive e 1 -> no-memory; \
-        poll e 2; poll a 3; send 6; poll e 4",
-    "receive a 0; receive b 0; receive c 0; receive d 0; poll a 1; receive e 0 -> no-memory; \
-        poll e 2; send 6; poll a 3; poll e 4",
-];
-
 #[test]
 fn makings_of_a_state_broadcast(rt: HostRuntime) -> Result<(), Fail> {
     let mut hoard = Hoard::new(rt.alloc())?;
@@ -79,7 +67,7 @@ fn makings_of_a_state_broadcast(rt: HostRuntime) -> Result<(), Fail> {
         &mut hoard,
         &StateBroadcast,
         (),
-        &STATE,
+        &STATES,
     );
     assert!(rt; tried.is_right(1), "{tried:?}");
     Ok(())
@@ -161,14 +149,14 @@ fn makings_of_a_timer(rt: HostRuntime) -> Result<(), Fail> {
     Ok(())
 }
 
-// The calls of these cases on a channel of this capacity over this buffer.
-fn tries_over<R, B>(rt: &R, hoard: &mut Hoard, capacity: usize, cases: &[Case]) -> Tried
+// The calls of these rows on a channel of this capacity over this buffer.
+fn tries_over<R, B>(rt: &R, hoard: &mut Hoard, capacity: usize, rows: &[SceneRow]) -> Tried
 where
     R: Wait + Copy + Drop + RandomSource + AllocGlobal,
-    B: RingBuf<Item = u64> + Drop,
+    B: RingBuf<Item = u64> + ScriptBuffer + Drop,
 {
     let channel = &ChannelOver::<B>::new(capacity);
-    tries_on_channel::<R, B, _>(rt, hoard, channel, capacity, cases)
+    tries_of_rows::<R, ChannelState<u64, B, u64>, _>(rt, hoard, channel, capacity, rows)
 }
 
 #[test]

@@ -6,7 +6,7 @@ use fi_channels::{
 use fi_locks::{MutexState, SemaphoreState, TimerState};
 use fi_parts::Fault;
 use fi_parts::buffer::ArrayBuf;
-use fi_run::{Answer, EventCall, Journal, PoolState, ScriptLines, run};
+use fi_run::{Answer, EventCall, Journal, PoolState, run};
 use fi_scripts::{Labels, Scripted};
 use std::alloc::{AllocGlobal, Global};
 use tests_rows::{Row, call_of, histories, recorded_script_of};
@@ -47,7 +47,7 @@ where
 }
 
 /// The script of the recorded history of a row's calls. None if memory is missing, or it can't be written.
-pub(crate) fn history_of<P: Scripted + ScriptLines>(
+pub(crate) fn history_of<P: Scripted>(
     alloc: Global,
     opening: P::Opening,
     row: &str,
@@ -68,7 +68,7 @@ where
 }
 
 // Whether the history of the row's calls is written as the row's script, but for the lines of calls that found no future.
-fn is_written<P: Scripted + ScriptLines>(alloc: Global, opening: P::Opening, row: Row) -> bool
+fn is_written<P: Scripted>(alloc: Global, opening: P::Opening, row: Row) -> bool
 where
     P::Opening: Copy,
     P::Call: Copy,

@@ -6,7 +6,7 @@ use fi_channels::{
 };
 use fi_locks::{MutexState, SemaphoreState, TimerState};
 use fi_parts::buffer::{ArrayBuf, FixedHeapBuf, GrowingHeapBuf};
-use fi_run::{PoolState, Primitive, ScriptLines};
+use fi_run::{PoolState, Primitive};
 use fi_scripts::{ScriptFault, Scripted, run_script};
 use std::alloc::{AllocGlobal, Global};
 use std::process::Abort;
@@ -44,11 +44,7 @@ fn is_answered(alloc: Global, script: &str, wanted: &str) -> bool {
 
 // Whether the answers are those that the row lists, also for the script of its history. None if memory is missing, or the history can't be
 // written.
-fn is_right<P: Scripted + ScriptLines>(
-    alloc: Global,
-    opening: P::Opening,
-    row: &str,
-) -> Option<bool>
+fn is_right<P: Scripted>(alloc: Global, opening: P::Opening, row: &str) -> Option<bool>
 where
     P::Opening: Copy,
     P::Call: Copy,
@@ -64,7 +60,7 @@ where
 }
 
 // The first of these rows that is not right.
-fn first_wrong<P: Scripted + ScriptLines>(alloc: Global, rows: &[Row]) -> Option<&'static str>
+fn first_wrong<P: Scripted>(alloc: Global, rows: &[Row]) -> Option<&'static str>
 where
     P::Opening: Copy,
     P::Call: Copy,
@@ -160,7 +156,7 @@ fn capacity_of(row: &str) -> Option<usize> {
 }
 
 // The first of the rows over an array of this length that is not right over a buffer of this kind, which that of `P` is.
-fn first_wrong_over<P: Scripted + ScriptLines>(
+fn first_wrong_over<P: Scripted>(
     alloc: Global,
     kind: &str,
     capacity: usize,
@@ -215,7 +211,7 @@ fn channel_rows_over_an_array_of_five(rt: HostRuntime) {
 }
 
 // The first of the rows that is not right over a heap buffer of this kind.
-fn first_wrong_heap<P: Scripted + ScriptLines + Primitive<Opening = usize>>(
+fn first_wrong_heap<P: Scripted + Primitive<Opening = usize>>(
     alloc: Global,
     kind: &str,
 ) -> Option<&'static str>

@@ -27,8 +27,8 @@ impl HasOutbox for Named {
         Some(self.wakers.remove(0))
     }
 
-    fn wake_count(&self) -> usize {
-        self.wakers.len()
+    fn wake_count(&self) -> u128 {
+        self.wakers.len() as u128
     }
 }
 

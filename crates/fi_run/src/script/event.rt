@@ -1,44 +1,54 @@
 //! Script lines of the event. A wait's letter is `w`.
+use super::row::{Numbers, Row};
+use super::verb::Verb;
 use super::{ScriptError, ScriptFutures, ScriptLines};
-use crate::answer::Answer;
 use crate::event::EventCall;
 use fi_channels::EventState;
 use fi_parts::{Refused, Slot, Stage};
-use std::alloc::AllocError;
 
 impl ScriptLines for EventState<u64> {
+    ghost use Rattle.std.specs.Prelude.{refl};
+    ghost use Rattle.fi_run.specs.Rows.{event_call};
+    ghost use Rattle.fi_run.specs.Hidden.{event_hides};
+
+    ghost call_of = { event_call };
+
+    ghost says_woken = { λ waker. refl };
+
+    ghost hides = { event_hides };
+
     fn write_opening(script: &mut String, opening: &bool) -> Result<(), ScriptError> {
         script.push_str(if *opening { "event set" } else { "event reset" })?;
         Ok(())
     }
 
-    fn write_call(
-        script: &mut String,
-        call: &EventCall<u64>,
-        answer: &Answer<u64, u64>,
-    ) -> Result<(), AllocError> {
-        match (*call, *answer) {
-            (EventCall::Wait, Answer::Made(Slot(wait))) => write!(script, "wait w{wait}"),
-            (EventCall::Poll(Slot(wait), waker), _) => write!(script, "poll w{wait} {waker}"),
-            (EventCall::Cancel(Slot(wait)), _) => write!(script, "cancel w{wait}"),
-            (EventCall::Set, _) => script.push_str("set"),
-            (EventCall::Reset, _) => script.push_str("reset"),
-            (EventCall::IsSet, _) => script.push_str("is-set"),
-            (EventCall::Wait | EventCall::NextWake, _) => Ok(()),
+    fn call(row: Row) -> Option<EventCall<u64>> {
+        match row {
+            Row::Make(Verb::Wait, Numbers::Absent) => Some(EventCall::Wait),
+            Row::Poll(future, Numbers::One(waker)) => Some(EventCall::Poll(future.slot, waker)),
+            Row::Cancel(future, Numbers::Absent) => Some(EventCall::Cancel(future.slot)),
+            Row::Plain(Verb::Set, Numbers::Absent) => Some(EventCall::Set),
+            Row::Plain(Verb::Reset, Numbers::Absent) => Some(EventCall::Reset),
+            Row::Plain(Verb::IsSet, Numbers::Absent) => Some(EventCall::IsSet),
+            _ => None,
+        }
+    }
+
+    fn row(call: &EventCall<u64>) -> Option<Row> {
+        match *call {
+            EventCall::Wait => Some(Row::Make(Verb::Wait, Numbers::Absent)),
+            EventCall::Poll(slot, waker) => Some(Row::poll(Verb::Wait, slot, waker)),
+            EventCall::Cancel(slot) => Some(Row::cancel(Verb::Wait, slot)),
+            EventCall::Set => Some(Row::Plain(Verb::Set, Numbers::Absent)),
+            EventCall::Reset => Some(Row::Plain(Verb::Reset, Numbers::Absent)),
+            EventCall::IsSet => Some(Row::Plain(Verb::IsSet, Numbers::Absent)),
+            EventCall::NextWake => None,
         }
     }
 }
 
 impl ScriptFutures for EventState<u64> {
     const LETTERS: &'static str = "w";
-
-    fn future_of(call: &EventCall<u64>, answer: &Answer<u64, u64>) -> Option<(char, Slot)> {
-        match (*call, *answer) {
-            (EventCall::Wait, Answer::Made(slot))
-            | (EventCall::Poll(slot, _) | EventCall::Cancel(slot), _) => Some(('w', slot)),
-            _ => None,
-        }
-    }
 
     fn stage_of(&self, _letter: char, slot: Slot) -> Option<Stage> {
         self.stage(slot)

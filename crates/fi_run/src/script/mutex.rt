@@ -1,12 +1,22 @@
 //! Script lines of the mutex. A future's letter is `l`.
+use super::row::{Numbers, Row};
+use super::verb::Verb;
 use super::{ScriptError, ScriptFutures, ScriptLines};
-use crate::answer::Answer;
 use crate::mutex::MutexCall;
 use fi_locks::MutexState;
 use fi_parts::{Refused, Slot, Stage};
-use std::alloc::AllocError;
 
 impl ScriptLines for MutexState<u64, u64> {
+    ghost use Rattle.std.specs.Prelude.{refl};
+    ghost use Rattle.fi_run.specs.Rows.{mutex_call};
+    ghost use Rattle.fi_run.specs.Hidden.{mutex_hides};
+
+    ghost call_of = { mutex_call };
+
+    ghost says_woken = { λ waker. refl };
+
+    ghost hides = { mutex_hides };
+
     fn write_opening(script: &mut String, opening: &(u64, bool)) -> Result<(), ScriptError> {
         let (value, is_fair) = *opening;
         let fairness = if is_fair { "fair" } else { "unfair" };
@@ -14,33 +24,33 @@ impl ScriptLines for MutexState<u64, u64> {
         Ok(())
     }
 
-    fn write_call(
-        script: &mut String,
-        call: &MutexCall<u64, u64>,
-        answer: &Answer<u64, u64>,
-    ) -> Result<(), AllocError> {
-        match (*call, *answer) {
-            (MutexCall::Lock, Answer::Made(Slot(lock))) => write!(script, "lock l{lock}"),
-            (MutexCall::Poll(Slot(lock), waker), _) => write!(script, "poll l{lock} {waker}"),
-            (MutexCall::Cancel(Slot(lock)), _) => write!(script, "cancel l{lock}"),
-            (MutexCall::TryLock, _) => script.push_str("try-lock"),
-            (MutexCall::Unlock(value), _) => write!(script, "unlock {value}"),
-            (MutexCall::IsLocked, _) => script.push_str("is-locked"),
-            (MutexCall::Lock | MutexCall::NextWake, _) => Ok(()),
+    fn call(row: Row) -> Option<MutexCall<u64, u64>> {
+        match row {
+            Row::Make(Verb::Lock, Numbers::Absent) => Some(MutexCall::Lock),
+            Row::Poll(future, Numbers::One(waker)) => Some(MutexCall::Poll(future.slot, waker)),
+            Row::Cancel(future, Numbers::Absent) => Some(MutexCall::Cancel(future.slot)),
+            Row::Plain(Verb::TryLock, Numbers::Absent) => Some(MutexCall::TryLock),
+            Row::Plain(Verb::Unlock, Numbers::One(value)) => Some(MutexCall::Unlock(value)),
+            Row::Plain(Verb::IsLocked, Numbers::Absent) => Some(MutexCall::IsLocked),
+            _ => None,
+        }
+    }
+
+    fn row(call: &MutexCall<u64, u64>) -> Option<Row> {
+        match *call {
+            MutexCall::Lock => Some(Row::Make(Verb::Lock, Numbers::Absent)),
+            MutexCall::Poll(slot, waker) => Some(Row::poll(Verb::Lock, slot, waker)),
+            MutexCall::Cancel(slot) => Some(Row::cancel(Verb::Lock, slot)),
+            MutexCall::TryLock => Some(Row::Plain(Verb::TryLock, Numbers::Absent)),
+            MutexCall::Unlock(value) => Some(Row::Plain(Verb::Unlock, Numbers::One(value))),
+            MutexCall::IsLocked => Some(Row::Plain(Verb::IsLocked, Numbers::Absent)),
+            MutexCall::NextWake => None,
         }
     }
 }
 
 impl ScriptFutures for MutexState<u64, u64> {
     const LETTERS: &'static str = "l";
-
-    fn future_of(call: &MutexCall<u64, u64>, answer: &Answer<u64, u64>) -> Option<(char, Slot)> {
-        match (*call, *answer) {
-            (MutexCall::Lock, Answer::Made(slot))
-            | (MutexCall::Poll(slot, _) | MutexCall::Cancel(slot), _) => Some(('l', slot)),
-            _ => None,
-        }
-    }
 
     fn stage_of(&self, _letter: char, slot: Slot) -> Option<Stage> {
         self.stage(slot)

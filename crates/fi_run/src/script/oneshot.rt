@@ -1,10 +1,10 @@
 //! Script lines of the two channels of one value. A receive's letter is `r`.
+use super::row::{Numbers, Row};
+use super::verb::Verb;
 use super::{ScriptError, ScriptFutures, ScriptLines};
-use crate::answer::Answer;
 use crate::oneshot::OneshotCall;
 use fi_channels::{ClonesValue, GivesValue, OneValueState, TakesValue};
 use fi_parts::{Refused, Slot, Stage};
-use std::alloc::AllocError;
 
 /// A way of giving the value whose channel has a name in scripts.
 pub trait ScriptGiving {
@@ -20,43 +20,48 @@ impl ScriptGiving for ClonesValue {
 }
 
 impl<G: GivesValue<u64> + ScriptGiving> ScriptLines for OneValueState<u64, u64, G> {
+    ghost use Rattle.std.specs.Prelude.{refl};
+    ghost use Rattle.fi_run.specs.Rows.{oneshot_call};
+    ghost use Rattle.fi_run.specs.Hidden.{oneshot_hides};
+
+    ghost call_of = { oneshot_call };
+
+    ghost says_woken = { λ waker. refl };
+
+    ghost hides = { oneshot_hides };
+
     fn write_opening(script: &mut String, _opening: &()) -> Result<(), ScriptError> {
         script.push_str(G::NAME)?;
         Ok(())
     }
 
-    fn write_call(
-        script: &mut String,
-        call: &OneshotCall<u64, u64>,
-        answer: &Answer<u64, u64>,
-    ) -> Result<(), AllocError> {
-        match (*call, *answer) {
-            (OneshotCall::Receive, Answer::Made(Slot(receive))) => {
-                write!(script, "receive r{receive}")
-            }
-            (OneshotCall::Poll(Slot(receive), waker), _) => write!(
-                script,
-                "poll r{receive} {waker}"
-            ),
-            (OneshotCall::Cancel(Slot(receive)), _) => write!(script, "cancel r{receive}"),
-            (OneshotCall::TryReceive, _) => script.push_str("try-receive"),
-            (OneshotCall::Send(value), _) => write!(script, "send {value}"),
-            (OneshotCall::Close, _) => script.push_str("close"),
-            (OneshotCall::Receive | OneshotCall::NextWake, _) => Ok(()),
+    fn call(row: Row) -> Option<OneshotCall<u64, u64>> {
+        match row {
+            Row::Make(Verb::Receive, Numbers::Absent) => Some(OneshotCall::Receive),
+            Row::Poll(future, Numbers::One(waker)) => Some(OneshotCall::Poll(future.slot, waker)),
+            Row::Cancel(future, Numbers::Absent) => Some(OneshotCall::Cancel(future.slot)),
+            Row::Plain(Verb::TryReceive, Numbers::Absent) => Some(OneshotCall::TryReceive),
+            Row::Plain(Verb::Send, Numbers::One(value)) => Some(OneshotCall::Send(value)),
+            Row::Plain(Verb::Close, Numbers::Absent) => Some(OneshotCall::Close),
+            _ => None,
+        }
+    }
+
+    fn row(call: &OneshotCall<u64, u64>) -> Option<Row> {
+        match *call {
+            OneshotCall::Receive => Some(Row::Make(Verb::Receive, Numbers::Absent)),
+            OneshotCall::Poll(slot, waker) => Some(Row::poll(Verb::Receive, slot, waker)),
+            OneshotCall::Cancel(slot) => Some(Row::cancel(Verb::Receive, slot)),
+            OneshotCall::TryReceive => Some(Row::Plain(Verb::TryReceive, Numbers::Absent)),
+            OneshotCall::Send(value) => Some(Row::Plain(Verb::Send, Numbers::One(value))),
+            OneshotCall::Close => Some(Row::Plain(Verb::Close, Numbers::Absent)),
+            OneshotCall::NextWake => None,
         }
     }
 }
 
 impl<G: GivesValue<u64> + ScriptGiving> ScriptFutures for OneValueState<u64, u64, G> {
     const LETTERS: &'static str = "r";
-
-    fn future_of(call: &OneshotCall<u64, u64>, answer: &Answer<u64, u64>) -> Option<(char, Slot)> {
-        match (*call, *answer) {
-            (OneshotCall::Receive, Answer::Made(slot))
-            | (OneshotCall::Poll(slot, _) | OneshotCall::Cancel(slot), _) => Some(('r', slot)),
-            _ => None,
-        }
-    }
 
     fn stage_of(&self, _letter: char, slot: Slot) -> Option<Stage> {
         self.stage(slot)

@@ -1,12 +1,22 @@
 //! Script lines of the worker pool. A wait's letter is `w`.
+use super::row::{Numbers, Row};
+use super::verb::Verb;
 use super::{MOST_PLACES, ScriptError, ScriptFutures, ScriptLines};
-use crate::answer::Answer;
 use crate::pool::PoolCall;
-use crate::pool_state::PoolState;
+use crate::pool::state::PoolState;
 use fi_parts::{Refused, Slot, Stage};
-use std::alloc::AllocError;
 
 impl ScriptLines for PoolState<u64> {
+    ghost use Rattle.std.specs.Prelude.{refl};
+    ghost use Rattle.fi_run.specs.Rows.{pool_call};
+    ghost use Rattle.fi_run.specs.Hidden.{pool_hides};
+
+    ghost call_of = { pool_call };
+
+    ghost says_woken = { λ waker. refl };
+
+    ghost hides = { pool_hides };
+
     fn write_opening(script: &mut String, opening: &(usize, usize)) -> Result<(), ScriptError> {
         let (limit, capacity) = *opening;
         if capacity > MOST_PLACES {
@@ -16,34 +26,35 @@ impl ScriptLines for PoolState<u64> {
         Ok(())
     }
 
-    fn write_call(
-        script: &mut String,
-        call: &PoolCall<u64>,
-        answer: &Answer<u64, u64>,
-    ) -> Result<(), AllocError> {
-        match (*call, *answer) {
-            (PoolCall::Submit(job), _) => write!(script, "submit {job}"),
-            (PoolCall::Start, _) => script.push_str("start"),
-            (PoolCall::Finish, _) => script.push_str("finish"),
-            (PoolCall::Shutdown, _) => script.push_str("shutdown"),
-            (PoolCall::Wait, Answer::Made(Slot(wait))) => write!(script, "wait w{wait}"),
-            (PoolCall::Poll(Slot(wait), waker), _) => write!(script, "poll w{wait} {waker}"),
-            (PoolCall::Cancel(Slot(wait)), _) => write!(script, "cancel w{wait}"),
-            (PoolCall::Wait | PoolCall::NextWake, _) => Ok(()),
+    fn call(row: Row) -> Option<PoolCall<u64>> {
+        match row {
+            Row::Make(Verb::Wait, Numbers::Absent) => Some(PoolCall::Wait),
+            Row::Poll(future, Numbers::One(waker)) => Some(PoolCall::Poll(future.slot, waker)),
+            Row::Cancel(future, Numbers::Absent) => Some(PoolCall::Cancel(future.slot)),
+            Row::Plain(Verb::Submit, Numbers::One(job)) => Some(PoolCall::Submit(job)),
+            Row::Plain(Verb::Start, Numbers::Absent) => Some(PoolCall::Start),
+            Row::Plain(Verb::Finish, Numbers::Absent) => Some(PoolCall::Finish),
+            Row::Plain(Verb::Shutdown, Numbers::Absent) => Some(PoolCall::Shutdown),
+            _ => None,
+        }
+    }
+
+    fn row(call: &PoolCall<u64>) -> Option<Row> {
+        match *call {
+            PoolCall::Wait => Some(Row::Make(Verb::Wait, Numbers::Absent)),
+            PoolCall::Poll(slot, waker) => Some(Row::poll(Verb::Wait, slot, waker)),
+            PoolCall::Cancel(slot) => Some(Row::cancel(Verb::Wait, slot)),
+            PoolCall::Submit(job) => Some(Row::Plain(Verb::Submit, Numbers::One(job))),
+            PoolCall::Start => Some(Row::Plain(Verb::Start, Numbers::Absent)),
+            PoolCall::Finish => Some(Row::Plain(Verb::Finish, Numbers::Absent)),
+            PoolCall::Shutdown => Some(Row::Plain(Verb::Shutdown, Numbers::Absent)),
+            PoolCall::NextWake => None,
         }
     }
 }
 
 impl ScriptFutures for PoolState<u64> {
     const LETTERS: &'static str = "w";
-
-    fn future_of(call: &PoolCall<u64>, answer: &Answer<u64, u64>) -> Option<(char, Slot)> {
-        match (*call, *answer) {
-            (PoolCall::Wait, Answer::Made(slot))
-            | (PoolCall::Poll(slot, _) | PoolCall::Cancel(slot), _) => Some(('w', slot)),
-            _ => None,
-        }
-    }
 
     fn stage_of(&self, _letter: char, slot: Slot) -> Option<Stage> {
         self.stage(slot)

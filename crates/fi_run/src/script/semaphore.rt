@@ -1,12 +1,22 @@
 //! Script lines of the semaphore. A future's letter is `a`.
+use super::row::{Numbers, Row};
+use super::verb::Verb;
 use super::{ScriptError, ScriptFutures, ScriptLines};
-use crate::answer::Answer;
 use crate::semaphore::SemaphoreCall;
 use fi_locks::SemaphoreState;
 use fi_parts::{Refused, Slot, Stage};
-use std::alloc::AllocError;
 
 impl ScriptLines for SemaphoreState<u64> {
+    ghost use Rattle.std.specs.Prelude.{refl};
+    ghost use Rattle.fi_run.specs.Rows.{semaphore_call};
+    ghost use Rattle.fi_run.specs.Hidden.{semaphore_hides};
+
+    ghost call_of = { semaphore_call };
+
+    ghost says_woken = { λ waker. refl };
+
+    ghost hides = { semaphore_hides };
+
     fn write_opening(script: &mut String, opening: &(usize, bool)) -> Result<(), ScriptError> {
         let (permits, is_fair) = *opening;
         let fairness = if is_fair { "fair" } else { "unfair" };
@@ -14,40 +24,47 @@ impl ScriptLines for SemaphoreState<u64> {
         Ok(())
     }
 
-    fn write_call(
-        script: &mut String,
-        call: &SemaphoreCall<u64>,
-        answer: &Answer<u64, u64>,
-    ) -> Result<(), AllocError> {
-        match (*call, *answer) {
-            (SemaphoreCall::Acquire(permits), Answer::Made(Slot(acquire))) => {
-                write!(script, "acquire a{acquire} {permits}")
+    fn call(row: Row) -> Option<SemaphoreCall<u64>> {
+        match row {
+            Row::Make(Verb::Acquire, Numbers::One(need)) => {
+                Some(SemaphoreCall::Acquire(need as usize))
             }
-            (SemaphoreCall::Poll(Slot(acquire), waker), _) => {
-                write!(script, "poll a{acquire} {waker}")
+            Row::Poll(future, Numbers::One(waker)) => Some(SemaphoreCall::Poll(future.slot, waker)),
+            Row::Cancel(future, Numbers::Absent) => Some(SemaphoreCall::Cancel(future.slot)),
+            Row::Plain(Verb::TryAcquire, Numbers::One(n)) => {
+                Some(SemaphoreCall::TryAcquire(n as usize))
             }
-            (SemaphoreCall::Cancel(Slot(acquire)), _) => write!(script, "cancel a{acquire}"),
-            (SemaphoreCall::TryAcquire(permits), _) => write!(script, "try-acquire {permits}"),
-            (SemaphoreCall::Release(permits), _) => write!(script, "release {permits}"),
-            (SemaphoreCall::GiveBack(permits), _) => write!(script, "give-back {permits}"),
-            (SemaphoreCall::Disarm(permits), _) => write!(script, "disarm {permits}"),
-            (SemaphoreCall::Permits, _) => script.push_str("permits"),
-            (SemaphoreCall::Held, _) => script.push_str("held"),
-            (SemaphoreCall::Acquire(_) | SemaphoreCall::NextWake, _) => Ok(()),
+            Row::Plain(Verb::Release, Numbers::One(n)) => Some(SemaphoreCall::Release(n as usize)),
+            Row::Plain(Verb::GiveBack, Numbers::One(n)) => {
+                Some(SemaphoreCall::GiveBack(n as usize))
+            }
+            Row::Plain(Verb::Disarm, Numbers::One(n)) => Some(SemaphoreCall::Disarm(n as usize)),
+            Row::Plain(Verb::Permits, Numbers::Absent) => Some(SemaphoreCall::Permits),
+            Row::Plain(Verb::Held, Numbers::Absent) => Some(SemaphoreCall::Held),
+            _ => None,
+        }
+    }
+
+    fn row(call: &SemaphoreCall<u64>) -> Option<Row> {
+        match *call {
+            SemaphoreCall::Acquire(n) => Some(Row::Make(Verb::Acquire, Numbers::One(n as u64))),
+            SemaphoreCall::Poll(slot, waker) => Some(Row::poll(Verb::Acquire, slot, waker)),
+            SemaphoreCall::Cancel(slot) => Some(Row::cancel(Verb::Acquire, slot)),
+            SemaphoreCall::TryAcquire(n) => {
+                Some(Row::Plain(Verb::TryAcquire, Numbers::One(n as u64)))
+            }
+            SemaphoreCall::Release(n) => Some(Row::Plain(Verb::Release, Numbers::One(n as u64))),
+            SemaphoreCall::GiveBack(n) => Some(Row::Plain(Verb::GiveBack, Numbers::One(n as u64))),
+            SemaphoreCall::Disarm(n) => Some(Row::Plain(Verb::Disarm, Numbers::One(n as u64))),
+            SemaphoreCall::Permits => Some(Row::Plain(Verb::Permits, Numbers::Absent)),
+            SemaphoreCall::Held => Some(Row::Plain(Verb::Held, Numbers::Absent)),
+            SemaphoreCall::NextWake => None,
         }
     }
 }
 
 impl ScriptFutures for SemaphoreState<u64> {
     const LETTERS: &'static str = "a";
-
-    fn future_of(call: &SemaphoreCall<u64>, answer: &Answer<u64, u64>) -> Option<(char, Slot)> {
-        match (*call, *answer) {
-            (SemaphoreCall::Acquire(_), Answer::Made(slot))
-            | (SemaphoreCall::Poll(slot, _) | SemaphoreCall::Cancel(slot), _) => Some(('a', slot)),
-            _ => None,
-        }
-    }
 
     fn stage_of(&self, _letter: char, slot: Slot) -> Option<Stage> {
         self.stage(slot)

@@ -1,7 +1,7 @@
 //! The value of a mutex whose owner needs no lock for it.
 
-use crate::counted_mutex::CountedMutex;
 use crate::monitor::Monitor;
+use crate::mutex::counted::CountedMutex;
 use std::sync::ledger::Ledger;
 
 impl<T, R, L: Ledger> Monitor<CountedMutex<T, L>, R> {

@@ -1,6 +1,6 @@
 //! The value of a mutex whose owner needs no lock for it: nobody else reaches the mutex then, so nobody waits to be woken.
 
-use crate::counted_mutex::CountedMutex;
+use crate::mutex::counted::CountedMutex;
 use crate::wakes::Guarded;
 use std::sync::ledger::Ledger;
 

@@ -23,6 +23,7 @@ pub use crate::channel_ends::{
     SharedChannelState, UnbufferedReceiver, UnbufferedSender, channel, generic_channel,
     unbuffered_channel,
 };
+pub use crate::closed::ChannelClosedFuture;
 pub use crate::counted_ends::{
     ClosesByEnds, CountedEnds, ManyReceivers, ManySenders, ReceivesClosed, SendsClosed,
 };

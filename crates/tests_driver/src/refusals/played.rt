@@ -104,9 +104,9 @@ where
     true
 }
 
-/// What tries of the scene's call on this type come to, with ever more memory left: each try is refused and changes nothing, until
-/// one is not.
-pub fn tries_on<R, P, F>(rt: &R, hoard: &mut Hoard, flavour: &F, scene: &Plain<P>) -> Tried
+// What tries of the scene's call on this type come to, with ever more memory left: each try is refused and changes nothing, until
+// one is not.
+fn tries_on<R, P, F>(rt: &R, hoard: &mut Hoard, flavour: &F, scene: &Plain<P>) -> Tried
 where
     R: Wait + RandomSource + AllocGlobal,
     P: Primitive<Answer = Answer<u64, u64>> + Drop,
@@ -151,7 +151,7 @@ where
     Tried::Differs(refusals)
 }
 
-/// The same on the plain state, and then on this type.
+/// What tries of the scene's call on the plain state, and then on this type, come to.
 pub fn tries_on_both<R, P, F>(rt: &R, hoard: &mut Hoard, flavour: &F, scene: &Plain<P>) -> Tried
 where
     R: Wait + RandomSource + AllocGlobal,

@@ -78,5 +78,11 @@ fn ends_of_states_show_their_names(rt: HostRuntime) {
 #[test]
 fn counted_ends_show_their_name(rt: HostRuntime) {
     let state = OneValueState::<u64, PollWaker, TakesValue>::new(rt.alloc());
-    assert!(rt; shows(rt.alloc(), &CountedEnds::new(state), "CountedEnds"));
+    assert!(rt;
+        shows(
+            rt.alloc(),
+            &CountedEnds::new(rt.alloc(), state),
+            "CountedEnds"
+        )
+    );
 }

@@ -1,23 +1,16 @@
-//! The ends of the state broadcast.
+//! The ends of the state broadcast, which have no `close`.
 
 use fi_channels::StateBroadcastState;
-use tests_driver::drawn::state::{choices, makings};
-use tests_driver::drawn::{Calls, play_lists};
+use tests_driver::drawn::{Lines, play_lines};
 use tests_ends_driver::ends::StateEnds;
+
+const LINES: Lines = Lines {
+    makings: "receive a 0; receive b 1; receive c 0; receive d 1",
+    choices: "poll a 1; poll b 2; poll c 3; poll d 4; cancel a; cancel b; cancel c; cancel d; try-receive 0; try-receive 1; send 5",
+};
 
 #[test]
 fn drawn_calls_on_state_ends(rt: HostRuntime) {
-    let calls = Calls {
-        makings: &makings(),
-        choices: &choices()[..11],
-    };
-    let tried = play_lists::<_, StateBroadcastState<u64, u64>, _>(
-        &rt,
-        &StateEnds,
-        (),
-        calls,
-        2_000,
-        3,
-    );
+    let tried = play_lines::<_, StateBroadcastState<u64, u64>, _>(&rt, &StateEnds, (), LINES, 3);
     assert!(rt; tried.are_right(), "{tried:?}");
 }

@@ -2,40 +2,28 @@
 
 use fi_channels::ChannelState;
 use fi_parts::buffer::{ArrayBuf, FixedHeapBuf, GrowingHeapBuf, RingBuf};
+use fi_run::ScriptBuffer;
 use std::alloc::AllocGlobal;
 use std::random::RandomSource;
 use std::sync::Wait;
 use tests_driver::channel::ChannelOver;
-use tests_driver::drawn::channel::{on_receives, on_streams};
-use tests_driver::drawn::{Lists, play_lists};
+use tests_driver::drawn::{Lists, RECEIVES, STREAMS, play_lines};
 
 // Two thousand lists of three calls on a channel over this buffer, of this capacity, and as many on its streams.
-fn try_buffer<R, B: RingBuf<Item = u64>>(rt: &R, capacity: usize) -> Lists
+fn try_buffer<R, B: RingBuf<Item = u64> + ScriptBuffer>(rt: &R, capacity: usize) -> Lists
 where
     R: Wait + Copy + Drop + RandomSource + AllocGlobal,
 {
     let channel = &ChannelOver::<B>::new(capacity);
-    let receives = play_lists::<R, ChannelState<u64, B, u64>, _>(
-        rt,
-        channel,
-        capacity,
-        on_receives(),
-        2_000,
-        3,
+    let receives = play_lines::<R, ChannelState<u64, B, u64>, _>(
+        rt, channel, capacity, RECEIVES, 3,
     );
-    let streams = play_lists::<R, ChannelState<u64, B, u64>, _>(
-        rt,
-        channel,
-        capacity,
-        on_streams(),
-        2_000,
-        3,
-    );
+    let streams = play_lines::<R, ChannelState<u64, B, u64>, _>(rt, channel, capacity, STREAMS, 3);
     receives.and(streams)
 }
 
 // The same with each capacity.
-fn try_capacities<R, B: RingBuf<Item = u64>>(rt: &R) -> Lists
+fn try_capacities<R, B: RingBuf<Item = u64> + ScriptBuffer>(rt: &R) -> Lists
 where
     R: Wait + Copy + Drop + RandomSource + AllocGlobal,
 {

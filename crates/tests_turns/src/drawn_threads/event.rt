@@ -1,7 +1,7 @@
 //! The event.
 
-use super::{Lines, play_lines};
 use fi_channels::EventState;
+use tests_driver::drawn::{Lines, play_lines};
 use tests_driver::event::Event;
 
 const LINES: Lines = Lines {

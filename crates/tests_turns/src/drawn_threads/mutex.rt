@@ -1,11 +1,10 @@
 //! The mutex, fair and unfair.
 
-use super::{Lines, play_lines};
 use fi_locks::MutexState;
 use std::alloc::AllocGlobal;
 use std::random::RandomSource;
 use std::sync::Wait;
-use tests_driver::drawn::Lists;
+use tests_driver::drawn::{Lines, Lists, play_lines};
 use tests_driver::mutex::MutexOf;
 
 const LINES: Lines = Lines {

@@ -1,13 +1,12 @@
 //! The semaphore of one permit, by reference and shared by its owners, fair and unfair.
 
-use super::{Lines, play_lines};
 use fi_locks::SemaphoreState;
 use fi_run::SemaphoreCall;
 use std::alloc::AllocGlobal;
 use std::random::RandomSource;
 use std::sync::Wait;
 use tests_driver::Flavour;
-use tests_driver::drawn::Lists;
+use tests_driver::drawn::{Lines, Lists, play_lines};
 use tests_driver::semaphore::{ByOwners, ByReference, Opening};
 
 const MAKINGS: &str = "acquire a 1; acquire b 2; acquire c 1; acquire d 1";

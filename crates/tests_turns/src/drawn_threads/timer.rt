@@ -1,7 +1,7 @@
 //! The timer, whose clock stands at each call's moment.
 
-use super::{Lines, play_lines};
 use fi_locks::TimerState;
+use tests_driver::drawn::{Lines, play_lines};
 use tests_driver::timer::Timer;
 
 const LINES: Lines = Lines {

@@ -26,7 +26,8 @@ loop-line-init g c = (
 pub loop-line-preserved : goal.loop-line-preserved
 loop-line-preserved g c = (
   omega (arith, c.loop-line.invariant.0, line_shortens _ _ _ c.in-Some.ensures),
-  so_far_goes_on (spoken g.P.Primitive.opens g.P.Primitive.step g.P.Primitive.outgoing g.P.Scripted.language) g.W.Write.contents
+  so_far_goes_on (spoken g.P.Primitive.opens g.P.Primitive.step g.P.Primitive.outgoing g.P.Scripted.openings g.P.ScriptLines.call_of)
+      g.W.Write.contents
       c.args.opening
       (option_copied c.args.lines.rest) c.args.output.now
       c.loop-line.number (option_copied c.loop-line.lines.rest) (labels_of c.loop-line.session.futures)
@@ -40,7 +41,7 @@ pub returns-in_err-answer_line : goal.returns-in_err-answer_line
 returns-in_err-answer_line g c = record {
   answered = search rules;
   stopped =
-      let primitive = spoken g.P.Primitive.opens g.P.Primitive.step g.P.Primitive.outgoing g.P.Scripted.language in
+      let primitive = spoken g.P.Primitive.opens g.P.Primitive.step g.P.Primitive.outgoing g.P.Scripted.openings g.P.ScriptLines.call_of in
       if_err_same c.from_residual.result _ c.in_err-answer_line.field-0.0 c.from_residual.ensures.1
       (if_stopped_more _ _ _ _ c.in_err-answer_line.field-0.0 c.in_err-answer_line.ensures.stopped
       (λ number told. rw told.0
@@ -58,7 +59,7 @@ returns-in_err-answer_line g c = record {
 pub returns : goal.returns
 returns g c = record {
   answered =
-      rest_answered (spoken g.P.Primitive.opens g.P.Primitive.step g.P.Primitive.outgoing g.P.Scripted.language)
+      rest_answered (spoken g.P.Primitive.opens g.P.Primitive.step g.P.Primitive.outgoing g.P.Scripted.openings g.P.ScriptLines.call_of)
       g.W.Write.contents c.args.opening (option_copied c.args.lines.rest) c.args.output.now
       c.loop-line.number (option_copied c.loop-line.lines.rest) (labels_of c.loop-line.session.futures)
       c.loop-line.session.primitive c.loop-line.output c.loop-line.output c.loop-line.invariant.1

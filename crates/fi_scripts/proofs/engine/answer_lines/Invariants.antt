@@ -8,7 +8,8 @@ use Rattle.fi_scripts.proofs.engine.answer_lines.Given as goal
 
 abbrev pub invariant-loop-line : goal.invariant-loop-line
 invariant-loop-line g l = (l.number + bytes_left (option_copied l.lines.rest) ≤ 2 ^ 63 + 1)
-    × IsSoFar (spoken g.P.Primitive.opens g.P.Primitive.step g.P.Primitive.outgoing g.P.Scripted.language) g.W.Write.contents
+    × IsSoFar (spoken g.P.Primitive.opens g.P.Primitive.step g.P.Primitive.outgoing g.P.Scripted.openings g.P.ScriptLines.call_of)
+    g.W.Write.contents
     l.fn.opening (option_copied l.fn.lines.rest) l.fn.output l.number (option_copied l.lines.rest)
     (labels_of l.session.futures) l.session.primitive l.output
     × (l.output.writer.ghost_name ≡ l.fn.output.writer.ghost_name)

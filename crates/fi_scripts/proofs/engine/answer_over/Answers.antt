@@ -1,7 +1,8 @@
 use Rattle.fi_run.specs.Channel.{Opens, Step}
 use Rattle.fi_run.specs.Outgoing.{two_sided_outgoing}
+use Rattle.fi_run.specs.Rows.{channel_call}
 use Rattle.fi_scripts.specs.Channels.{OpensOver}
-use Rattle.fi_scripts.specs.Tables.{channel_call, channel_openings, no_openings}
+use Rattle.fi_scripts.specs.Openings.{channel_openings, no_openings}
 use Rattle.fi_scripts.proofs.Channels.{answers_over, opens_named}
 use Rattle.fi_scripts.proofs.engine.answer_over.Goals as goal
 

@@ -2,7 +2,7 @@ use Rattle.fi_channels.proofs.ChannelStays.{claimed_receive_stays, claimed_recei
 use Rattle.fi_channels.specs.ChannelFields.{machine_of}
 use Rattle.fi_channels.proofs.ChannelLaws.{makes_receive, unchanged, kind_made, phase_made}
 use Rattle.fi_channels.proofs.Results.{either, of_made}
-use Rattle.fi_channels.specs.declared.channel_fields.ReceiveKind.TheVariants.{Stream}
+use Rattle.fi_channels.specs.declared.channel.fields.ReceiveKind.TheVariants.{Stream}
 use Rattle.fi_channels.specs.ChannelWords.{can_stream}
 use Rattle.fi_channels.proofs.channel.ChannelState.claim_stream.Goals as goal
 

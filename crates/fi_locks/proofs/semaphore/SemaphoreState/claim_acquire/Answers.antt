@@ -1,38 +1,36 @@
+use Rattle.std.proofs.Common.{Result, Ok, refl}
+use Rattle.fi_parts.specs.declared.errors.Slot.{Slot}
+use Rattle.fi_parts.specs.declared.errors.Fault.{Fault}
 use Rattle.fi_parts.proofs.Effects.{waits_are_fit}
-use Rattle.fi_parts.proofs.Machines.{claiming_stays, claimed_apart}
-use Rattle.fi_locks.specs.Semaphore.{can_be_polled}
+use Rattle.fi_parts.proofs.Machines.{claiming_stays}
+use Rattle.fi_locks.specs.Semaphore.{SemaphoreMachine, at_own, can_be_polled, Makes}
+use Rattle.fi_locks.specs.SemaphoreLaws.{make_holds, makes_pollable}
 use Rattle.fi_locks.specs.SemaphoreSoundLaws.{rules}
-use Rattle.std.proofs.Common.{subst, sym}
-use Rattle.fi_parts.proofs.Results.{either, of_made}
-use Rattle.fi_locks.specs.SemaphoreFields.{machine_of}
-use Rattle.fi_locks.specs.SemaphoreLaws.{Holds, make_holds, makes_pollable}
+use Rattle.fi_locks.proofs.SemaphoreMarks.{marks_made}
+use Rattle.fi_locks.proofs.semaphore.SemaphoreState.claim_acquire.Given.{Over}
 use Rattle.fi_locks.proofs.semaphore.SemaphoreState.claim_acquire.Goals as goal
 
-pub invariant_of-self : goal.invariant_of-self
-invariant_of-self g c =
-    let old = machine_of c.self.inside.fields in
-    let new = machine_of c.claim_acquire.new.self in (
-      either c.claim_acquire.result _ _ (Holds new) c.claim_acquire.ensures.made c.claim_acquire.ensures.refused
-          (λ slot did. make_holds old new slot.0 c.args.permits c.self.invariant.0 did)
-          (λ same. subst Holds (sym same) c.self.invariant.0),
-      c.claim_acquire.ensures.marked,
-    )
+abbrev old : (g : Over) (c : goal.After-self-1 g) → SemaphoreMachine g.row.W.Denot
+old g c = at_own c.self.inside.permits c.self.inside.waits
+
+abbrev new : (g : Over) (c : goal.After-self-1 g) → SemaphoreMachine g.row.W.Denot
+new g c = at_own (record c.self.inside.permits { asked = c.after-self-inside.result }) c.insert.new.self
+
+did : (g : Over) (c : goal.After-self-1 g) → Makes (old g c) c.args.permits c.in-Ok.slot.0 (new g c)
+did g c = rw c.after-self-inside.ensures (refl, (c.in-Ok.ensures.was_free, c.in-Ok.ensures.made))
+
+pub invariant_of-self-2 : goal.invariant_of-self-2
+invariant_of-self-2 g c = (
+  make_holds (old g c) (new g c) c.in-Ok.slot.0 c.args.permits c.self.invariant.0 (did g c),
+  marks_made (old g c) c.in-Ok.slot.0 c.self.inside.marks.promised c.self.inside.marks.untold c.insert.new.self
+      c.self.invariant.0.0 c.self.invariant.1 c.args.permits (did g c).1,
+)
 
 pub returns-clause-all_stay : goal.returns-clause-all_stay
 returns-clause-all_stay g c =
-    let old = machine_of c.self.inside.fields in
-    let new = machine_of c.claim_acquire.new.self in
-    rw (← c.self.view_is) (claiming_stays (rules old.own.is_fair) can_be_polled waits_are_fit old new c.self.invariant.0.0.waiters
-    c.claim_acquire.result (λ slot. slot.0) _ c.args.permits c.claim_acquire.ensures.made c.claim_acquire.ensures.refused)
-
-pub returns-clause-apart : goal.returns-clause-apart
-returns-clause-apart g c =
-    let old = machine_of c.self.inside.fields in
-    let new = machine_of c.claim_acquire.new.self in
-    rw (← c.self.view_is) (claimed_apart old new c.claim_acquire.result (λ slot. slot.0) _ c.args.permits
-    c.claim_acquire.ensures.made)
+    let made : Result Slot Fault = Ok c.in-Ok.slot in
+    rw (← c.self.view_is) (claiming_stays (rules c.self.inside.permits.is_fair) can_be_polled waits_are_fit (old g c) (new g c)
+    c.self.invariant.0.0.waiters made (λ slot. slot.0) _ c.args.permits (did g c) tt)
 
 pub returns-clause-pollable : goal.returns-clause-pollable
-returns-clause-pollable g c =
-    of_made c.claim_acquire.result _ _ c.claim_acquire.ensures.made
-    (λ slot did. makes_pollable _ slot.0 _ _ did)
+returns-clause-pollable g c = makes_pollable (old g c) c.in-Ok.slot.0 c.args.permits (new g c) (did g c)

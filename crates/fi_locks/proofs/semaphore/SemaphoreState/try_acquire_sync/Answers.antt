@@ -1,22 +1,15 @@
-use Rattle.fi_parts.proofs.Effects.{waits_are_fit}
-use Rattle.fi_parts.proofs.Machines.{all_stay}
-use Rattle.fi_locks.specs.Semaphore.{can_be_polled}
-use Rattle.fi_locks.specs.SemaphoreFields.{machine_of}
-use Rattle.fi_locks.specs.SemaphoreLaws.{tried, try_holds}
-use Rattle.fi_locks.specs.SemaphoreSoundLaws.{rules}
+use Rattle.std.proofs.Common.{◌≡◌, true, refl, sym, rules as lemmas}
+use Rattle.fi_locks.specs.Semaphore.{at_own, granted, can_take}
+use Rattle.fi_locks.specs.SemaphoreLaws.{try_holds}
+use Rattle.fi_locks.proofs.SemaphoreMarks.{marks_taken}
 use Rattle.fi_locks.proofs.semaphore.SemaphoreState.try_acquire_sync.Goals as goal
 
 pub invariant_of-self : goal.invariant_of-self
-invariant_of-self g c = (
-  try_holds (machine_of c.self.inside.fields) (machine_of c.try_acquire.new.self) c.args.permits c.try_acquire.result
-      c.self.invariant.0 c.try_acquire.ensures.tried,
-  c.try_acquire.ensures.marked,
-)
-
-pub returns-clause-all_stay : goal.returns-clause-all_stay
-returns-clause-all_stay g c =
-    let old = machine_of c.self.inside.fields in
-    let new = machine_of c.try_acquire.new.self in
-    rw (← c.self.view_is)
-    (all_stay (rules old.own.is_fair) can_be_polled waits_are_fit old new c.self.invariant.0.0.waiters
-    (tried old new c.args.permits c.try_acquire.result c.try_acquire.ensures.tried))
+invariant_of-self g c =
+    let inside = c.self.inside in
+    let old = at_own inside.permits inside.waits in
+    let takes : can_take old.own inside.waits.side.queue c.args.permits ≡ true = search lemmas in (
+      try_holds old (at_own (granted old.own c.args.permits) inside.waits) c.args.permits true c.self.invariant.0
+          (sym takes, (refl, refl)),
+      marks_taken old.own c.args.permits inside.marks.promised inside.marks.untold inside.waits.side takes c.self.invariant.1,
+    )

@@ -10,7 +10,7 @@ use Rattle.fi_scripts.proofs.engine.Session.collect_answer.Goals as goal
 
 pub returns-clause-answered : goal.returns-clause-answered
 returns-clause-answered g c =
-    let primitive = spoken g.P.Primitive.opens g.P.Primitive.step g.P.Primitive.outgoing g.P.Scripted.language in
+    let primitive = spoken g.P.Primitive.opens g.P.Primitive.step g.P.Primitive.outgoing g.P.Scripted.openings g.P.ScriptLines.call_of in
     let text = answer_text c.in_ok-answer.answer in
     let called = c.perform.new.self in
     let calls = called_by primitive c.args.line.now c.in-Some.holds c.in-Some.request

@@ -1,12 +1,12 @@
 use Rattle.std.specs.Prelude.{Option, None, IfSome}
 use Rattle.std.proofs.Common.{◌≡◌, subst, sym}
-use Rattle.fi_scripts.specs.declared.row.Row.{Row}
+use Rattle.fi_run.specs.declared.script.row.Row.{Row}
 use Rattle.fi_scripts.proofs.Reading.{no_call}
 use Rattle.fi_scripts.proofs.requests.Labelled+MadeFuture.read_call.Goals as goal
 
 pub returns-in_err-row : goal.returns-in_err-row
 returns-in_err-row g c =
-    let call_of = g.P.Scripted.language.call_of in
+    let call_of = g.P.ScriptLines.call_of in
     rw c.from_residual-in_err-row.ensures
     (no_call call_of _ c.args.line.now _ c.in_ok-words.ensures.0 _ _ c.in_ok-words.ensures.1
     (c.row.ensures c.in_ok-words.ensures.0 c.in_ok-words.ensures.2)
@@ -14,7 +14,7 @@ returns-in_err-row g c =
 
 pub returns-in_err-call : goal.returns-in_err-call
 returns-in_err-call g c =
-    let call_of = g.P.Scripted.language.call_of in
+    let call_of = g.P.ScriptLines.call_of in
     rw c.from_residual-in_err-call.ensures
     (no_call call_of _ c.args.line.now _ c.in_ok-words.ensures.0 _ _ c.in_ok-words.ensures.1
     (c.row.ensures c.in_ok-words.ensures.0 c.in_ok-words.ensures.2)
