@@ -20,7 +20,7 @@ use Rattle.fi_parts.specs.Order.{without}
 use Rattle.fi_parts.specs.Pairs.{without_pair}
 use Rattle.fi_parts.specs.PlaceRules.{registered_rule}
 use Rattle.fi_parts.specs.Places.{is_told}
-use Rattle.fi_parts.specs.WakerHistory.{WakerChange}
+use Rattle.fi_parts.specs.WakerHistory.{WakerChange, gives}
 use Rattle.fi_parts.specs.WakerHistory.WakerChange.{Pends, Leaves, NoEffect}
 use Rattle.fi_parts.specs.Waiting.{asks_in}
 use Rattle.fi_parts.proofs.FiniteMaps.{get-insert_same}
@@ -41,7 +41,7 @@ use Rattle.fi_channels.specs.declared.channel.fields.ReceiveKind.{ReceiveKind}
 use Rattle.fi_channels.specs.declared.channel.fields.ReceiveKind.TheVariants.{Single, Stream}
 use Rattle.fi_channels.specs.Channel.{MakesSend, MakesReceive, FreshSends, SendsAs, PollsSend, CancelsSend, TakesNext}
 use Rattle.fi_channels.specs.Channel.{ReceivesAs, PollsReceive, StreamsAs, PollsNext, CancelsReceiveAs, CancelsReceive}
-use Rattle.fi_channels.specs.Channel.{TriesSend, TriesNext, TriesReceive, ClosesAt, Closes, IsSound, OwesNoWake}
+use Rattle.fi_channels.specs.Channel.{TriesSend, TriesNext, TriesReceive, ClosesAt, Closes, Wakes, IsSound, OwesNoWake}
 use Rattle.fi_channels.specs.ChannelWords.{ChannelMachine, Buffered, AreTold, rules, is_send_phase, is_receive_phase}
 use Rattle.fi_channels.specs.ChannelWords.{owns_value, has_room, Stores, next_of, value_count, send_phase}
 use Rattle.fi_channels.specs.ChannelWords.{receive_phase, value_of, kind_of, opened, finishes, is_given, tells_oldest}
@@ -50,7 +50,8 @@ use Rattle.fi_channels.specs.declared.channel.two_sides.Waiter.{Waiter}
 use Rattle.fi_channels.specs.declared.channel.two_sides.Waiter.TheVariants.{Send, Receive}
 use Rattle.fi_channels.specs.TwoSidedEffects.{TwoSidedEffect, TakesOn}
 use Rattle.fi_channels.specs.TwoSidedTable.{AllowsTwoSided, KeepsKinds, on_sends, on_receives}
-use Rattle.fi_channels.specs.TwoSidedEffects.TwoSidedEffect.{OnSends, OnReceives, Then}
+use Rattle.fi_channels.specs.TwoSidedEffects.TwoSidedEffect.{OnSends, OnReceives, PopsFirst, Then}
+use Rattle.fi_channels.specs.ChannelFields.{ChannelWaiters}
 use Rattle.fi_channels.specs.TwoSidedTable.{TwoSidedLine}
 use Rattle.fi_channels.specs.TwoSidedMachine.{TwoSidedStep}
 use Rattle.fi_channels.specs.Waiter.{same_waiter, sends_in, receives_in}
@@ -333,6 +334,12 @@ module _ {T W : Type 0} where
         (keeps_at old.own (without_future side name) old.waiting.receives did.1.0 did.1.1.0.1.0 did.1.1.1
         (sends_alone (without_future side name) (keeps_of was) (owned-forgotten side name was.0.owned) (shorter name side.queue)
         (not_joined side (without_future side name) name None (becomes-forgotten side name) refl)))
+
+    pub wakes : (answer : Option W) → Wakes old answer new → Holds old → Goes (gives answer) (gives answer)
+    wakes answer did was =
+        goes old.own (PopsFirst answer) did tt tt was
+        (keeps_at old.own old.waiting.sends old.waiting.receives did.0 (ap (λ (m : ChannelWaiters T W). m.sends) did.1.1)
+        (ap (λ (m : ChannelWaiters T W). m.receives) did.1.1) (keeps_of was))
 
     line_closes : (status : CloseStatus) (is_open : Bool) → ClosesAt is_open old status new → Holds old → Goes NoEffect NoEffect
     line_closes status false did was = unchanged did.1 was
