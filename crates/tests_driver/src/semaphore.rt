@@ -18,8 +18,12 @@ use std::marker::Brand;
 use std::sync::Wait;
 use std::sync::ledger::{Blank, Ledger};
 
-/// The calls of a semaphore that threads share.
+/// A semaphore that threads share, and the calls of it that make what refers to it or owns a share.
 pub trait Permits {
+    type Runtime: Wait;
+
+    type Ledger: Ledger;
+
     type Acquire;
 
     type Releaser: Disarm;
@@ -29,11 +33,8 @@ pub trait Permits {
     /// None where they can't be acquired at once.
     fn try_acquire(&self, permits: usize) -> Result<Option<Self::Releaser>, Fault>;
 
-    fn release(&self, permits: usize) -> Result<(), Fault>;
-
-    fn permits(&self) -> usize;
-
-    fn held(&self) -> usize;
+    /// The semaphore, for its other calls.
+    fn as_semaphore(&self) -> &Semaphore<Self::Runtime, Self::Ledger>;
 }
 
 /// The call of a releaser.
@@ -42,6 +43,10 @@ pub trait Disarm {
 }
 
 impl<'a, R: Wait, L: Ledger> Permits for &'a Semaphore<R, L> {
+    type Runtime = R;
+
+    type Ledger = L;
+
     type Acquire = SemaphoreAcquireFuture<'a, R, L>;
 
     type Releaser = SemaphoreReleaser<'a, R, L>;
@@ -56,19 +61,8 @@ impl<'a, R: Wait, L: Ledger> Permits for &'a Semaphore<R, L> {
         Ok(semaphore.try_acquire(permits))
     }
 
-    fn release(&self, permits: usize) -> Result<(), Fault> {
-        let semaphore = *self;
-        semaphore.release(permits)
-    }
-
-    fn permits(&self) -> usize {
-        let semaphore = *self;
-        semaphore.permits()
-    }
-
-    fn held(&self) -> usize {
-        let semaphore = *self;
-        semaphore.held()
+    fn as_semaphore(&self) -> &Semaphore<R, L> {
+        *self
     }
 }
 
@@ -79,6 +73,10 @@ impl<M: HasMonitor<State = CountedSemaphore<L>>, L: Ledger> Disarm for Semaphore
 }
 
 impl<R: Wait + Drop, L: Ledger> Permits for SharedSemaphore<R, L> {
+    type Runtime = R;
+
+    type Ledger = L;
+
     type Acquire = SharedSemaphoreAcquireFuture<R, L>;
 
     type Releaser = SharedSemaphoreReleaser<R, L>;
@@ -91,16 +89,8 @@ impl<R: Wait + Drop, L: Ledger> Permits for SharedSemaphore<R, L> {
         SharedSemaphore::try_acquire(self, permits)
     }
 
-    fn release(&self, permits: usize) -> Result<(), Fault> {
-        SharedSemaphore::release(self, permits)
-    }
-
-    fn permits(&self) -> usize {
-        SharedSemaphore::permits(self)
-    }
-
-    fn held(&self) -> usize {
-        SharedSemaphore::held(self)
+    fn as_semaphore(&self) -> &Semaphore<R, L> {
+        self
     }
 }
 
@@ -271,12 +261,16 @@ where
                 self.acquired(permits, made)
             }
             SemaphoreCall::Release(permits) => {
-                Seen::answered(of_release(self.semaphore.release(permits)))
+                Seen::answered(of_release(self.semaphore.as_semaphore().release(permits)))
             }
             SemaphoreCall::GiveBack(_) => self.give_back(),
             SemaphoreCall::Disarm(permits) => self.disarm(permits),
-            SemaphoreCall::Permits => Seen::answered(Answer::Number(self.semaphore.permits())),
-            SemaphoreCall::Held => Seen::answered(Answer::Number(self.semaphore.held())),
+            SemaphoreCall::Permits => Seen::answered(Answer::Number(
+                self.semaphore.as_semaphore().permits(),
+            )),
+            SemaphoreCall::Held => Seen::answered(Answer::Number(
+                self.semaphore.as_semaphore().held(),
+            )),
             SemaphoreCall::NextWake => Seen::answered(Answer::Woken(None)),
         }
     }

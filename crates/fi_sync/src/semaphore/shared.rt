@@ -1,31 +1,33 @@
 //! The semaphore that its owners share: it lives while one of them, a future or a releaser of theirs does.
 ghost use Rattle.std.specs.Arc.{arc_value};
-ghost use Rattle.std.specs.Prelude.{◌≡◌, ◌≤◌, ◌+◌, ◌^◌, Option, true, IfOk, IfErr, IfSome, is_some};
+ghost use Rattle.std.specs.Prelude.{◌≡◌, Option, true, IfOk, IfErr, IfSome, is_some};
 ghost use Rattle.futures.specs.declared.task.waker.Waker.{Waker};
-ghost use Rattle.fi_locks.specs.Semaphore.{Releases};
 ghost use Rattle.fi_parts.specs.declared.errors.Fault.{Fault};
 ghost use Rattle.fi_sync.specs.Granted.{PollsAcquire};
 ghost use Rattle.fi_sync.specs.Waiting.{InSomeHold, IsNew, WaitedFor};
 ghost use Rattle.fi_sync.specs.Blanks.{IsPermitBlank};
-ghost use Rattle.fi_sync.specs.Closable.{Closable, WhileOpen, TriesPermits, Closes, free_at};
+ghost use Rattle.fi_sync.specs.Closable.{TriesPermits};
 
 use crate::blocking::{Blocking, wait_for};
-use crate::monitor::Monitor;
+use crate::monitor::{HasMonitor, Monitor};
+use crate::semaphore::Semaphore;
 use crate::semaphore::counted::CountedSemaphore;
 use crate::semaphore::future::SemaphoreAcquireFutureOf;
 use crate::semaphore::releaser::SemaphoreReleaserOf;
 use fi_parts::memory::{share, shared};
-use fi_parts::{CloseStatus, Fault, Refused};
+use fi_parts::{Fault, Refused};
 use std::alloc::Global;
 use std::fmt;
 use std::marker::Model;
+use std::ops::Deref;
 use std::sync::ledger::{Blank, Ledger};
 use std::sync::{Arc, Wait};
 
 /// A semaphore whose futures and releasers own a share of it, so that they borrow nothing.
 ///
-/// Its calls are those of `Semaphore`; `new` and `try_acquire` can be refused memory besides, as `clone`, which makes one more
-/// owner. Keeps `GenericSharedSemaphore` of futures-intrusive's `sync`.
+/// It has the calls of `Semaphore`, to which it derefs: `release`, `permits`, `held`, `close`, `is_closed`. Here are those that make
+/// what owns a share; `new` and `try_acquire` can be refused memory besides, as `clone`, which makes one more owner. Keeps
+/// `GenericSharedSemaphore` of futures-intrusive's `sync`.
 ///
 /// # Examples
 ///
@@ -55,7 +57,30 @@ use std::sync::{Arc, Wait};
 /// ```
 #[derive(Drop)]
 pub struct SharedSemaphore<R: Wait + Drop, L: Ledger> {
-    monitor: Arc<Monitor<CountedSemaphore<L>, R>, Global>,
+    semaphore: Arc<Semaphore<R, L>, Global>,
+}
+
+impl<R: Wait + Drop, L: Ledger> Deref for SharedSemaphore<R, L> {
+    type Target = Semaphore<R, L>;
+
+    ghost deref_gives = { λ shared semaphore. semaphore ≡ shared };
+
+    /// The semaphore itself, for the calls that make nothing which owns a share of it.
+    fn deref(&self) -> &Semaphore<R, L> {
+        &self.semaphore
+    }
+}
+
+impl<R: Wait + Drop, L: Ledger> HasMonitor for Arc<Semaphore<R, L>, Global> {
+    type State = CountedSemaphore<L>;
+
+    type Runtime = R;
+
+    ghost source = { λ semaphore. semaphore.value };
+
+    fn monitor(&self) -> &Monitor<CountedSemaphore<L>, R> {
+        &self.monitor
+    }
 }
 
 impl<R: Wait + Drop, L: Ledger> fmt::Debug for SharedSemaphore<R, L> {
@@ -71,14 +96,11 @@ impl<R: Wait + Drop, L: Ledger> Model for SharedSemaphore<R, L> {
 
     ghost Value = { ℕ };
 
-    ghost view = { λ semaphore. semaphore.monitor.value };
+    ghost view = { λ shared. shared.semaphore.value };
 }
 
 /// Permits of a shared semaphore that are held. Keeps `GenericSharedSemaphoreReleaser`.
-pub type SharedSemaphoreReleaser<R, L> = SemaphoreReleaserOf<
-    Arc<Monitor<CountedSemaphore<L>, R>, Global>,
-    L,
->;
+pub type SharedSemaphoreReleaser<R, L> = SemaphoreReleaserOf<Arc<Semaphore<R, L>, Global>, L>;
 
 impl<R: Wait + Drop, L: Ledger> fmt::Debug for SharedSemaphoreReleaser<R, L> {
     fn fmt<F: fmt::Write>(&self, f: &mut fmt::Formatter<F>) -> fmt::Result {
@@ -88,7 +110,7 @@ impl<R: Wait + Drop, L: Ledger> fmt::Debug for SharedSemaphoreReleaser<R, L> {
 
 /// Acquires permits of a shared semaphore. Keeps `GenericSharedSemaphoreAcquireFuture`.
 pub type SharedSemaphoreAcquireFuture<R, L> = SemaphoreAcquireFutureOf<
-    Arc<Monitor<CountedSemaphore<L>, R>, Global>,
+    Arc<Semaphore<R, L>, Global>,
     L,
 >;
 
@@ -114,9 +136,10 @@ impl<R: Wait + Drop, L: Ledger> SharedSemaphore<R, L> {
         requires blank { IsPermitBlank L.Ledger blank }
         ensures { IfErr result (λ fault. fault ≡ Fault.NoMemory) }
     {
-        let counted = CountedSemaphore::new(alloc, blank, is_fair, permits);
-        let monitor = shared(alloc, Monitor::new(rt, counted))?;
-        Ok(SharedSemaphore { monitor })
+        let semaphore = Semaphore::new(alloc, rt, blank, is_fair, permits);
+        Ok(SharedSemaphore {
+            semaphore: shared(alloc, semaphore)?,
+        })
     }
 
     /// One more owner of the same semaphore. Refused with `NoMemory` only where 2^63 - 1 are counted. Keeps the `Clone` of
@@ -126,7 +149,7 @@ impl<R: Wait + Drop, L: Ledger> SharedSemaphore<R, L> {
         ensures fault { IfErr result (λ fault. fault ≡ Fault.NoMemory) }
     {
         Ok(SharedSemaphore {
-            monitor: self.share()?,
+            semaphore: self.share()?,
         })
     }
 
@@ -137,12 +160,13 @@ impl<R: Wait + Drop, L: Ledger> SharedSemaphore<R, L> {
         ensures made { IfOk result (λ future. IsNew self.now future) }
         ensures fault { IfErr result (λ fault. fault ≡ Fault.NoMemory) }
     {
-        let monitor = self.share()?;
-        let releaser_monitor = self.share()?;
+        let semaphore = self.share()?;
+        let releaser_semaphore = self.share()?;
         let claim = self
+            .semaphore
             .monitor
             .claim(permits, CountedSemaphore::claim_acquire)?;
-        Ok(SemaphoreAcquireFutureOf::of(monitor, releaser_monitor, claim))
+        Ok(SemaphoreAcquireFutureOf::of(semaphore, releaser_semaphore, claim))
     }
 
     /// Acquires this many permits if they are free and, in a fair semaphore, no future is queued; 0 permits are always granted.
@@ -157,52 +181,15 @@ impl<R: Wait + Drop, L: Ledger> SharedSemaphore<R, L> {
         ensures granted { IfOk result (λ granted. IfSome granted (λ releaser. releaser ≡ permits)) }
         ensures fault { IfErr result (λ fault. fault ≡ Fault.NoMemory) }
     {
-        let monitor = self.share()?;
-        match self.monitor.call(permits, CountedSemaphore::try_acquire) {
-            Some(grant) => Ok(Some(SemaphoreReleaserOf::of(monitor, grant))),
+        let semaphore = self.share()?;
+        match self
+            .semaphore
+            .monitor
+            .call(permits, CountedSemaphore::try_acquire)
+        {
+            Some(grant) => Ok(Some(SemaphoreReleaserOf::of(semaphore, grant))),
             None => Ok(None),
         }
-    }
-
-    /// Adds free permits, as `Semaphore::release`, and is refused with `Overflow` as there. Keeps
-    /// `GenericSharedSemaphore::release`, which does not check.
-    pub fn release(&self, permits: usize) -> Result<(), Fault>
-        ensures released { IfOk result (λ _. InSomeHold (WhileOpen {W = Option Waker} (λ old new. Releases old permits new))) }
-        ensures refused { IfErr result (λ fault. (fault ≡ Fault.Overflow)
-            × (held : Closable (Option Waker)) × (2 ^ 64 ≤ held.permits.own.free + held.permits.own.held + permits)) }
-    {
-        self.monitor.call(permits, CountedSemaphore::release)
-    }
-
-    /// Closes the semaphore, and wakes all who wait: they end with `Closed`, as do all who come later. Permits that are held then need not
-    /// come back, and a release adds none. `AlreadyClosed` if it was closed; then nothing has changed. As `Semaphore::close`.
-    ///
-    /// Those whose needs together are at most `usize::MAX` are woken at once; each of them that is polled or dropped wakes the next.
-    pub fn close(&self) -> CloseStatus
-        ensures closed { InSomeHold (Closes {W = Option Waker} result) }
-    {
-        self.monitor.call((), |semaphore, ()| semaphore.close())
-    }
-
-    /// Returns `true` if the semaphore was closed when it was looked at.
-    pub fn is_closed(&self) -> bool
-        ensures shown { (held : Closable (Option Waker)) × (result ≡ held.is_closed) }
-    {
-        self.monitor.call((), |semaphore, ()| semaphore.is_closed())
-    }
-
-    /// How many permits were free when it was looked at; 0 once the semaphore is closed. Keeps `GenericSharedSemaphore::permits`.
-    pub fn permits(&self) -> usize
-        ensures shown { (held : Closable (Option Waker)) × (result ≡ free_at held) }
-    {
-        self.monitor.call((), |semaphore, ()| semaphore.permits())
-    }
-
-    /// How many permits were held when it was looked at; 0 once the semaphore is closed. The Rust crate does not count them.
-    pub fn held(&self) -> usize
-        ensures shown { (held : Closable (Option Waker)) × (result ≡ held.permits.own.held) }
-    {
-        self.monitor.call((), |semaphore, ()| semaphore.held())
     }
 
     /// Blocks this thread until this many permits are granted: their releaser; or until the semaphore is closed: `Closed`. Refused
@@ -217,12 +204,12 @@ impl<R: Wait + Drop, L: Ledger> SharedSemaphore<R, L> {
             return Ok(releaser);
         }
         let acquire = self.acquire(permits)?;
-        wait_for(self.monitor.runtime(), acquire)?
+        wait_for(self.semaphore.monitor.runtime(), acquire)?
     }
 
-    fn share(&self) -> Result<Arc<Monitor<CountedSemaphore<L>, R>, Global>, Refused>
+    fn share(&self) -> Result<Arc<Semaphore<R, L>, Global>, Refused>
         ensures { IfOk result (λ shared. arc_value shared ≡ self.now) }
     {
-        share(&self.monitor)
+        share(&self.semaphore)
     }
 }

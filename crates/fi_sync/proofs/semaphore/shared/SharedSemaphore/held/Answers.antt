@@ -1,5 +1,0 @@
-use Rattle.std.proofs.Common.{rules}
-use Rattle.fi_sync.proofs.semaphore.shared.SharedSemaphore.held.Goals as goal
-
-pub returns : goal.returns
-returns g c = record { shown = (c.call.ensures.0.now, search rules) }
