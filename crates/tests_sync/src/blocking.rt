@@ -5,7 +5,7 @@ use crate::timer::Shown;
 use crate::waited::{Counting, Limited, Moment, Receives, SendWaits, Sends, has_blocked, is_one};
 use fi_channels::{ClonesValue, GivesValue, TakesValue, TrySendError};
 use fi_parts::Fault;
-use fi_parts::buffer::{ArrayBuf, FixedHeapBuf, GrowingHeapBuf, RingBuf};
+use fi_parts::buffer::{ArrayBuf, GrowingHeapBuf, RingBuf};
 use fi_sync::{
     AutoResetEvent, Blocking, Channel, GenericChannel, ManualResetEvent, Mutex, OneValueChannel,
     Semaphore, SharedSemaphore, StateBroadcastChannel, TimerService, UnbufferedChannel,
@@ -85,17 +85,13 @@ where
 
 #[test]
 fn receives_block(rt: HostRuntime) {
-    assert!(rt; receive_blocks::<_, ArrayBuf<u64, 0>>(&rt, 0) == Some(true));
-    assert!(rt; receive_blocks::<_, ArrayBuf<u64, 1>>(&rt, 1) == Some(true));
-    assert!(rt; receive_blocks::<_, FixedHeapBuf<u64>>(&rt, 1) == Some(true));
+    assert!(rt; receive_blocks::<_, GrowingHeapBuf<u64>>(&rt, 0) == Some(true));
     assert!(rt; receive_blocks::<_, GrowingHeapBuf<u64>>(&rt, 1) == Some(true));
 }
 
 #[test]
 fn sends_block(rt: HostRuntime) {
-    assert!(rt; send_blocks::<_, ArrayBuf<u64, 0>>(&rt, 0) == Some(true));
-    assert!(rt; send_blocks::<_, ArrayBuf<u64, 1>>(&rt, 1) == Some(true));
-    assert!(rt; send_blocks::<_, FixedHeapBuf<u64>>(&rt, 1) == Some(true));
+    assert!(rt; send_blocks::<_, GrowingHeapBuf<u64>>(&rt, 0) == Some(true));
     assert!(rt; send_blocks::<_, GrowingHeapBuf<u64>>(&rt, 1) == Some(true));
 }
 
