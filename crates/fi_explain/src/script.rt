@@ -4,10 +4,11 @@ use crate::reason::{Reason, reason_of};
 use fi_channels::{
     ChannelState, EventState, OneshotBroadcastState, OneshotState, StateBroadcastState,
 };
+use fi_desk::PoolState;
 use fi_locks::{MutexState, SemaphoreState, TimerState};
 use fi_parts::Refused;
 use fi_parts::buffer::{ArrayBuf, FixedHeapBuf, GrowingHeapBuf};
-use fi_run::{Answer, PoolState, ScriptError, ScriptFutures, Table, TableRow};
+use fi_run::{Answer, ScriptError, ScriptFutures, Table, TableRow};
 use fi_scripts::{Buffer, Labels, Lines, Named, ScriptFault, Scripted, split_at_first};
 use std::alloc::{AllocError, Global};
 

@@ -1,5 +1,4 @@
 pub mod OutgoingLaws
-pub mod PoolCode
 pub mod Run
 pub mod Script
 pub mod Rows
@@ -28,8 +27,6 @@ pub mod Semaphore
 pub mod SemaphoreHistory
 pub mod SemaphoreSteps
 pub mod SemaphoreLaws
-pub mod Journal
-pub mod Desk
 pub mod Channel
 pub mod ChannelValues
 pub mod ChannelHistory
@@ -37,7 +34,3 @@ pub mod ChannelOrder
 pub mod ChannelSteps
 pub mod ChannelStreams
 pub mod ChannelLaws
-pub mod Pool
-pub mod PoolHistory
-pub mod PoolFields
-pub mod PoolLaws

@@ -12,8 +12,6 @@ use Rattle.fi_run.specs.declared.mutex.MutexCall.{MutexCall}
 use Rattle.fi_run.specs.declared.mutex.MutexCall.TheVariants as mutex
 use Rattle.fi_run.specs.declared.oneshot.OneshotCall.{OneshotCall}
 use Rattle.fi_run.specs.declared.oneshot.OneshotCall.TheVariants as oneshot
-use Rattle.fi_run.specs.declared.pool.PoolCall.{PoolCall}
-use Rattle.fi_run.specs.declared.pool.PoolCall.TheVariants as pool
 use Rattle.fi_run.specs.declared.script.row.Numbers.{Numbers}
 use Rattle.fi_run.specs.declared.script.row.Numbers.TheVariants.{Absent, One, Two}
 use Rattle.fi_run.specs.declared.script.row.MadeFuture.{MadeFuture}
@@ -113,17 +111,6 @@ semaphore_call (Plain verb.Disarm (One n)) = Some (semaphore.Disarm n)
 semaphore_call (Plain verb.Permits Absent) = Some semaphore.Permits
 semaphore_call (Plain verb.Held Absent) = Some semaphore.Held
 semaphore_call row = None
-
--- ---- the worker pool
-abbrev pub pool_call : Row → Option (PoolCall ℕ)
-pool_call (Make verb.Wait Absent) = Some pool.Wait
-pool_call (Poll future (One waker)) = Some (pool.Poll future.slot waker)
-pool_call (Cancel future Absent) = Some (pool.Cancel future.slot)
-pool_call (Plain verb.Submit (One job)) = Some (pool.Submit job)
-pool_call (Plain verb.Start Absent) = Some pool.Start
-pool_call (Plain verb.Finish Absent) = Some pool.Finish
-pool_call (Plain verb.Shutdown Absent) = Some pool.Shutdown
-pool_call row = None
 
 -- ---- the channel of many values
 -- A future is polled and cancelled as what it was made as.

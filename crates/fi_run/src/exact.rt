@@ -7,7 +7,6 @@ use crate::channel::ChannelCall;
 use crate::event::EventCall;
 use crate::mutex::MutexCall;
 use crate::oneshot::OneshotCall;
-use crate::pool::PoolCall;
 use crate::semaphore::SemaphoreCall;
 use crate::state::StateCall;
 use crate::timer::TimerCall;
@@ -88,10 +87,6 @@ impl<T: ExactEq, W: ExactEq> ExactEq for MutexCall<T, W> {
 }
 
 impl<T: ExactEq, W: ExactEq> ExactEq for OneshotCall<T, W> {
-    ghost exact = { Prim.search rules };
-}
-
-impl<W: ExactEq> ExactEq for PoolCall<W> {
     ghost exact = { Prim.search rules };
 }
 

@@ -1,11 +1,10 @@
-//! The lines of scripts, which the program `schedule` answers: what each line of a call says, and histories as scripts.
-ghost use Rattle.std.specs.Prelude.{◌≡◌, ◌≢◌, ◌⊎◌, ℕ, IfErr, MatchOption, OnOk, Option, Some, slice_get};
-ghost use Rattle.fi_run.specs.Script.{LeavesWakers, TakesAllWakers, asks_for_waker, took_waker, is_left_out};
+//! The lines of scripts, which the program `schedule` answers: what each line of a call says.
+ghost use Rattle.std.specs.Prelude.{◌≡◌, ◌≢◌, ◌⊎◌, ℕ, IfErr, MatchOption, Option, Some};
+ghost use Rattle.fi_run.specs.Script.{is_left_out};
 ghost use Rattle.fi_run.specs.declared.answer.Answer.TheVariants.{Woken};
 ghost use Rattle.fi_run.specs.declared.script.row.Row.{Row};
 
 use crate::answer::Answer;
-use crate::journal::{Entry, Settled};
 use crate::runs::Primitive;
 use crate::script::row::{Numbers, Row};
 use fi_parts::{Fault, Refused, Slot, Stage};
@@ -18,15 +17,14 @@ pub(crate) mod channel;
 mod event;
 mod mutex;
 pub(crate) mod oneshot;
-mod pool;
 pub(crate) mod row;
 mod semaphore;
 mod state;
 mod timer;
 pub(crate) mod verb;
 
-/// The greatest capacity that a script names.
-const MOST_PLACES: usize = 65536;
+/// The greatest capacity of a buffer over the heap, or of a pool's queue, that a script names.
+pub const MOST_PLACES: usize = 65536;
 
 /// Why a history could not be written as a script.
 ///
@@ -183,72 +181,8 @@ pub trait ScriptFutures: ScriptLines {
     }
 }
 
-impl<P: ScriptLines> Settled<P> {
-    /// Appends the history as a script, which `schedule` answers as the history was answered.
-    ///
-    /// Each entry is a line, in order. A call's line is held back (`hold`), unless the next entries take out wakers, which are then
-    /// in its answer. Wakers that are taken out elsewhere are a line `wakes`. An entry that was refused `NoMemory` or `NoSlot` changed
-    /// nothing and has no line.
-    ///
-    /// # Errors
-    ///
-    /// - `Opening` if no script opens the primitive so: a channel over an array whose length isn't 0, 1, 2 or 5, a channel over a heap
-    ///   buffer or a pool whose capacity is above 65536.
-    /// - `Wakers` with the number of the first entry that takes out a waker where the next entry is no call for one more. A script takes
-    ///   out all wakers or none.
-    /// - `NoMemory` where memory was refused: then a beginning of the script was appended. With another error nothing was.
-    ///
-    /// That the program answers the lines as the history has it is tested for each primitive, and not proved. It takes time linear in
-    /// the text.
-    pub fn write_script(&self, script: &mut String) -> Result<(), ScriptError>
-        ensures unwritten { IfErr result (λ error. error ≢ ScriptError.NoMemory → script.new ≡ script.old) }
-        ensures wakers { IfErr result (λ error. LeavesWakers self.now.history.items error) }
-        ensures whole { OnOk result (TakesAllWakers self.now.history.items) }
-    {
-        let history = self.history.as_slice();
-        check_wakers(history)?;
-        P::write_opening(script, &self.opening)?;
-        script.push_str("\n")?;
-        write_entries::<P>(script, history)?;
-        Ok(())
-    }
-}
-
-/// Whether the entry with this number is there, and is a call for the oldest waker.
-fn is_wake_call<C>(history: &[Entry<C, Answer<u64, u64>>], number: usize) -> bool
-    ensures { result ≡ asks_for_waker (slice_get history.now number) }
-{
-    match history.get(number) {
-        Some(entry) => matches!(entry.answer, Answer::Woken(_)),
-        None => false,
-    }
-}
-
-/// Whether the entry with this number is there, and took out a waker.
-fn has_taken<C>(history: &[Entry<C, Answer<u64, u64>>], number: usize) -> bool
-    ensures { result ≡ took_waker (slice_get history.now number) }
-{
-    match history.get(number) {
-        Some(entry) => matches!(entry.answer, Answer::Woken(Some(_))),
-        None => false,
-    }
-}
-
-/// Checks that after each entry that takes out a waker there is one that asks for more.
-fn check_wakers<C>(history: &[Entry<C, Answer<u64, u64>>]) -> Result<(), ScriptError>
-    ensures wakers { IfErr result (λ error. LeavesWakers history.now error) }
-    ensures whole { OnOk result (TakesAllWakers history.now) }
-{
-    for number in 0..history.len() {
-        if has_taken(history, number) && !is_wake_call(history, number + 1) {
-            return Err(ScriptError::Wakers(number));
-        }
-    }
-    Ok(())
-}
-
 /// Whether an entry of this answer changed nothing and has no line: a future that could not be made, or isn't there to be called.
-pub(crate) fn is_left_out(answer: &Answer<u64, u64>) -> bool
+pub fn is_left_out(answer: &Answer<u64, u64>) -> bool
     ensures { result ≡ is_left_out answer.now }
 {
     matches!(
@@ -258,36 +192,9 @@ pub(crate) fn is_left_out(answer: &Answer<u64, u64>) -> bool
     )
 }
 
-/// Writes the lines of a history in which all wakers are taken out where some are.
-fn write_entries<P: ScriptLines>(
-    script: &mut String,
-    history: &[Entry<P::Call, Answer<u64, u64>>],
-) -> Result<(), AllocError> {
-    // Whether the last line takes out the wakers that the next entries take out.
-    let mut is_taking = false;
-    for place in 0..history.len() {
-        let entry = &history[place];
-        let is_followed = is_wake_call(history, place + 1);
-        if matches!(entry.answer, Answer::Woken(_)) {
-            if !is_taking {
-                script.push_str("wakes\n")?;
-            }
-            is_taking = is_followed;
-        } else if !is_left_out(&entry.answer) {
-            if !is_followed {
-                script.push_str("hold ")?;
-            }
-            write_call::<P>(script, &entry.call, &entry.answer)?;
-            script.push_str("\n")?;
-            is_taking = is_followed;
-        }
-    }
-    Ok(())
-}
-
 /// Writes the line of a call that was answered so, but for its end. A call for the oldest waker has none, nor has one whose future could
 /// not be made.
-pub(crate) fn write_call<P: ScriptLines>(
+pub fn write_call<P: ScriptLines>(
     script: &mut String,
     call: &P::Call,
     answer: &Answer<u64, u64>,

@@ -1,12 +1,13 @@
 -- The primitives that scripts know: the name of each, its machine, and how scripts speak of it.
 use Rattle.std.specs.Prelude.{◌≡◌, ◌≢◌, ⊤, ℕ, List, codes}
 use Rattle.fi_channels.specs.Oneshot.{taking, cloning}
+use Rattle.fi_desk.specs.Pool as pool
+use Rattle.fi_desk.specs.PoolRows.{pool_call}
 use Rattle.fi_run.specs.Event as event
 use Rattle.fi_run.specs.Mutex as mutex
 use Rattle.fi_run.specs.Oneshot as oneshot
 use Rattle.fi_run.specs.Outgoing.{machine_outgoing}
-use Rattle.fi_run.specs.Pool as pool
-use Rattle.fi_run.specs.Rows.{event_call, mutex_call, oneshot_call, pool_call, semaphore_call, state_call, timer_call}
+use Rattle.fi_run.specs.Rows.{event_call, mutex_call, oneshot_call, semaphore_call, state_call, timer_call}
 use Rattle.fi_run.specs.Semaphore as semaphore
 use Rattle.fi_run.specs.State as state
 use Rattle.fi_run.specs.Timer as timer

@@ -27,10 +27,11 @@ use crate::words::{Lines, split_at_first};
 use fi_channels::{
     ChannelState, EventState, OneshotBroadcastState, OneshotState, StateBroadcastState,
 };
+use fi_desk::PoolState;
 use fi_locks::{MutexState, SemaphoreState, TimerState};
 use fi_parts::buffer::{ArrayBuf, FixedHeapBuf, GrowingHeapBuf, RingBuf};
 use fi_parts::memory::items_for;
-use fi_run::{Answer, PoolState, ScriptBuffer};
+use fi_run::{Answer, ScriptBuffer};
 use std::alloc::Global;
 use std::io::{Read, Write};
 

@@ -7,9 +7,10 @@ use crate::buffer::MOST_PLACES;
 use crate::fairness::fair_opening;
 use crate::number::parse_numbers;
 use fi_channels::{ChannelState, EventState, GivesValue, OneValueState, StateBroadcastState};
+use fi_desk::PoolState;
 use fi_locks::{MutexState, SemaphoreState, TimerState};
 use fi_parts::buffer::RingBuf;
-use fi_run::{Numbers, PoolState, ScriptBuffer, ScriptGiving, ScriptLines};
+use fi_run::{Numbers, ScriptBuffer, ScriptGiving, ScriptLines};
 
 /// A primitive that the first line of a script can open.
 pub trait Scripted: ScriptLines + Drop {

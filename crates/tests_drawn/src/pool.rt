@@ -1,8 +1,9 @@
 //! A plain worker pool, in which at most two jobs wait.
 use crate::cases::{Lines, POLLS, Reference, agree};
 use crate::waiters::{ALL, PlainWaiters, Stage};
+use fi_desk::{PoolCall, PoolState};
 use fi_parts::Fault;
-use fi_run::{Answer, PoolCall, PoolState};
+use fi_run::Answer;
 use std::alloc::Global;
 use std::test::Fail;
 

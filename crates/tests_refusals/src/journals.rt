@@ -2,8 +2,9 @@
 ghost use Rattle.std.specs.Prelude.{◌≡◌};
 
 use fi_channels::EventState;
+use fi_desk::{Desk, Journal};
 use fi_parts::Fault;
-use fi_run::{Answer, Desk, EventCall, Journal, Primitive, run};
+use fi_run::{Answer, EventCall, Primitive, run};
 use std::alloc::{AllocGlobal, Global};
 use std::marker::Brand;
 use std::sync::Wait;

@@ -1,5 +1,5 @@
 //! The calls of the worker pool that take memory: a submit for which the queue has to grow, at first and later, and a wait.
-use fi_run::PoolState;
+use fi_desk::PoolState;
 use std::test::Fail;
 use tests_driver::refusals::scene_rows::{SceneRow, plain_tries_of_rows};
 use tests_help::hoard::Hoard;

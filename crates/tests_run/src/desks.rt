@@ -2,9 +2,10 @@
 ghost use Rattle.std.specs.Prelude.{◌≡◌};
 
 use fi_channels::EventState;
+use fi_desk::{Desk, Mismatch, Seat, Settled};
 use fi_locks::SemaphoreState;
 use fi_parts::Fault;
-use fi_run::{Answer, Desk, EventCall, Mismatch, Primitive, Seat, SemaphoreCall, Settled};
+use fi_run::{Answer, EventCall, Primitive, SemaphoreCall};
 use std::alloc::AllocGlobal;
 use std::marker::Brand;
 use std::sync::Wait;

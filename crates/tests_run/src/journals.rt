@@ -2,8 +2,9 @@
 use fi_channels::{
     EventState, LocalChannel, OneshotBroadcastState, OneshotState, StateBroadcastState,
 };
+use fi_desk::PoolState;
 use fi_locks::{MutexState, SemaphoreState, TimerState};
-use fi_run::{ExactEq, PoolState, Primitive};
+use fi_run::{ExactEq, Primitive};
 
 /// A primitive that a desk shares.
 fn may_be_shared<P: Primitive>()

@@ -1,8 +1,9 @@
 //! A pool whose workers are threads at one desk.
 ghost use Rattle.std.specs.Prelude.{◌≡◌};
 
+use fi_desk::{Desk, PoolCall, PoolState, Seat, Settled};
 use fi_parts::Fault;
-use fi_run::{Answer, Desk, PoolCall, PoolState, Seat, Settled};
+use fi_run::Answer;
 use std::alloc::AllocGlobal;
 use std::marker::Brand;
 use std::sync::Wait;

@@ -1,9 +1,10 @@
 //! The theorems at concrete types.
+use fi_desk::every_run_of_a_pool;
 use fi_parts::buffer::FixedHeapBuf;
 use fi_run::{
     every_run_of_a_channel, every_run_of_a_mutex, every_run_of_a_oneshot,
-    every_run_of_a_oneshot_broadcast, every_run_of_a_pool, every_run_of_a_semaphore,
-    every_run_of_a_state_broadcast, every_run_of_a_timer, every_run_of_an_event,
+    every_run_of_a_oneshot_broadcast, every_run_of_a_semaphore, every_run_of_a_state_broadcast,
+    every_run_of_a_timer, every_run_of_an_event,
 };
 
 #[test]

@@ -1,8 +1,9 @@
 //! Histories that have no script, and what their errors become. Those that have one are run in `tests_scripts` (`histories`).
 use fi_channels::{ChannelState, EventState};
+use fi_desk::{Journal, Mismatch, PoolState};
 use fi_parts::Slot;
 use fi_parts::buffer::{ArrayBuf, FixedHeapBuf, GrowingHeapBuf};
-use fi_run::{Answer, EventCall, Journal, Mismatch, PoolState, ScriptError, ScriptLines};
+use fi_run::{Answer, EventCall, ScriptError, ScriptLines};
 use std::alloc::Global;
 use std::io::{self, ErrorKind};
 use std::test::Fail;

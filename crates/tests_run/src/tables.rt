@@ -1,8 +1,9 @@
 //! Histories as tables.
 use fi_channels::{ChannelState, EventState};
+use fi_desk::Journal;
 use fi_parts::Slot;
 use fi_parts::buffer::ArrayBuf;
-use fi_run::{ChannelCall, EventCall, Journal, ScriptFutures};
+use fi_run::{ChannelCall, EventCall, ScriptFutures};
 use std::alloc::Global;
 
 /// Whether this is the table of a history with these calls, each by its seat.

@@ -3,10 +3,11 @@
 use fi_channels::{
     ChannelState, EventState, OneshotBroadcastState, OneshotState, StateBroadcastState,
 };
+use fi_desk::{Journal, PoolState};
 use fi_locks::{MutexState, SemaphoreState, TimerState};
 use fi_parts::Fault;
 use fi_parts::buffer::ArrayBuf;
-use fi_run::{Answer, EventCall, Journal, PoolState, run};
+use fi_run::{Answer, EventCall, run};
 use fi_scripts::{Labels, Scripted};
 use std::alloc::{AllocGlobal, Global};
 use tests_rows::{Row, call_of, histories, recorded_script_of};

@@ -4,9 +4,10 @@ use crate::histories::history_of;
 use fi_channels::{
     ChannelState, EventState, OneshotBroadcastState, OneshotState, StateBroadcastState,
 };
+use fi_desk::PoolState;
 use fi_locks::{MutexState, SemaphoreState, TimerState};
 use fi_parts::buffer::{ArrayBuf, FixedHeapBuf, GrowingHeapBuf};
-use fi_run::{PoolState, Primitive};
+use fi_run::Primitive;
 use fi_scripts::{ScriptFault, Scripted, run_script};
 use std::alloc::{AllocGlobal, Global};
 use std::process::Abort;

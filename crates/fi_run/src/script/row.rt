@@ -49,14 +49,14 @@ impl Row {
     }
 
     /// The poll of a future that this verb made.
-    pub(crate) fn poll(verb: Verb, slot: Slot, waker: u64) -> Row
+    pub fn poll(verb: Verb, slot: Slot, waker: u64) -> Row
         ensures { result ≡ poll_row verb slot waker }
     {
         Row::Poll(MadeFuture { verb, slot }, Numbers::One(waker))
     }
 
     /// The cancel of a future that this verb made.
-    pub(crate) fn cancel(verb: Verb, slot: Slot) -> Row
+    pub fn cancel(verb: Verb, slot: Slot) -> Row
         ensures { result ≡ cancel_row verb slot }
     {
         Row::Cancel(MadeFuture { verb, slot }, Numbers::Absent)

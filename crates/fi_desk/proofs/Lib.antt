@@ -1,0 +1,3 @@
+mod DeskLemmas
+mod PoolIdle
+mod PoolTies

@@ -1,0 +1,11 @@
+use Rattle.std.proofs.Common.{◌≡◌, ◌<◌, ℕ, [], slice_index_or}
+use Rattle.fi_desk.specs.Desk.{SeatModel}
+use Rattle.fi_desk.proofs.desk.show_all_empty.Given as goal
+
+abbrev pub invariant-loop-place : goal.invariant-loop-place
+invariant-loop-place g l = record {
+  total : l.book.total ≡ 0;
+  same : l.seats ≡ l.fn.seats;
+  empty : (place : ℕ) (d : SeatModel g.row.P-Opening.Denot g.row.P-Call.Denot g.row.P-Answer.Denot) → place < l.place →
+      (slice_index_or l.fn.seats place d).receipts ≡ [];
+}

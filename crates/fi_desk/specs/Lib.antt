@@ -1,0 +1,9 @@
+pub mod PoolCode
+pub mod Journal
+pub mod ScriptWakers
+pub mod Desk
+pub mod Pool
+pub mod PoolRows
+pub mod PoolHistory
+pub mod PoolFields
+pub mod PoolLaws

@@ -1,7 +1,0 @@
-use Rattle.std.proofs.Common.{rules}
-use Rattle.std.proofs.lemmas.List.Sorted.{IsNonDecreasingBy-from_sort_by_key}
-use Rattle.fi_run.proofs.desk.put_in_order.Goals as goal
-
-pub returns-clause-ordered : goal.returns-clause-ordered
-returns-clause-ordered g c = IsNonDecreasingBy-from_sort_by_key (λ seat. seat.number) _ c.sort_unstable_by_key.ensures.sorted
-    (λ a r q k. search rules)

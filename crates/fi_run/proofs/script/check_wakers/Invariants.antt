@@ -1,6 +1,0 @@
-use Rattle.std.proofs.Common.{◌<◌, ℕ}
-use Rattle.fi_run.specs.Script.{IsFollowed}
-use Rattle.fi_run.proofs.script.check_wakers.Given as goal
-
-abbrev pub invariant-loop-number : goal.invariant-loop-number
-invariant-loop-number g l = (number : ℕ) → number < l.number → IsFollowed l.fn.history number
