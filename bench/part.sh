@@ -13,8 +13,8 @@ else
     trap 'rm -rf "$work"' EXIT
 fi
 case $program in
-    bench_sync) crates="fi_parts fi_channels fi_locks fi_run fi_sync futures_intrusive" ;;
-    *) crates="fi_parts fi_channels fi_locks fi_run" ;;
+    bench_sync) crates="fi_parts fi_channels fi_locks fi_run fi_desk fi_sync futures_intrusive" ;;
+    *) crates="fi_parts fi_channels fi_locks fi_run fi_desk" ;;
 esac
 mkdir -p "$work/crates/$program/src" "$work/crates/$program/specs"
 for crate in $crates; do
