@@ -1,7 +1,6 @@
 //! Ends that are owned and counted: the last of a side closes the channel, and wakes those who wait.
 
 mod closed;
-mod counts;
 mod debug;
 mod iterates;
 mod many;
@@ -20,8 +19,8 @@ use tests_ends_calls::many::channel;
 use tests_ends_calls::one_value::{oneshot_broadcast_channel, oneshot_channel};
 use tests_ends_calls::states::state_broadcast_channel;
 use tests_ends_calls::{
-    ClonedEnd, Made, ReceivesOne, ReceivesStates, ReceivingEnd, SaysClosed, SendingEnd,
-    SendsAtOnce, TriesToReceive, TriesToSend,
+    ClonedEnd, Made, ReceivesOne, ReceivesStates, SendingEnd, SendsAtOnce, TriesToReceive,
+    TriesToSend,
 };
 
 // The clone of a sender is dropped, then the sender: the value that it sent comes, and then the end.
@@ -189,50 +188,6 @@ where
 fn shared_state_ends_close_after_senders(rt: HostRuntime) {
     let ends = state_broadcast_channel::<u64, HostRuntime>(rt.alloc(), rt);
     assert!(rt; receive_ends_with_senders(&rt, ends) == Some(true));
-}
-
-// A stream is a receiver too.
-fn sends_end_with_stream<S, E>(ends: Made<S, E>) -> Option<bool>
-where
-    S: TriesToSend<u64>,
-    E: ReceivingEnd<u64>,
-{
-    let (sender, receiver) = ends.ok()?;
-    let stream = receiver.stream().ok()?;
-    drop(receiver);
-    let is_open = sender.try_send(1).is_ok();
-    drop(stream);
-    Some(is_open && sender.try_send(2) == Err(TrySendError::Closed(2)))
-}
-
-#[test]
-fn shared_channel_ends_close_after_receivers(rt: HostRuntime) {
-    let ends = channel::<u64, HostRuntime>(rt.alloc(), rt, 1);
-    assert!(rt; sends_end_with_stream(ends) == Some(true));
-}
-
-// Ends of one value and of states say only whether they are closed: those of one value after a send, those of states after the sender.
-fn say_they_are_closed<S, E>(ends: Made<S, E>, are_of_states: bool) -> Option<bool>
-where
-    S: SendsAtOnce<u64> + SaysClosed,
-    E: SaysClosed,
-{
-    let (sender, receiver) = ends.ok()?;
-    let are_open = !sender.is_closed() && !receiver.is_closed();
-    let is_sent = sender.send(5).is_ok();
-    let agree = sender.is_closed() != are_of_states && receiver.is_closed() != are_of_states;
-    drop(sender);
-    Some(are_open && is_sent && agree && receiver.is_closed())
-}
-
-#[test]
-fn ends_say_whether_they_are_closed(rt: HostRuntime) {
-    let ends = oneshot_channel::<u64, HostRuntime>(rt.alloc(), rt);
-    assert!(rt; say_they_are_closed(ends, false) == Some(true));
-    let ends = oneshot_broadcast_channel::<u64, HostRuntime>(rt.alloc(), rt);
-    assert!(rt; say_they_are_closed(ends, false) == Some(true));
-    let ends = state_broadcast_channel::<u64, HostRuntime>(rt.alloc(), rt);
-    assert!(rt; say_they_are_closed(ends, true) == Some(true));
 }
 
 // What a send whose channel is closed hands back; one that is refused keeps its value.

@@ -23,11 +23,6 @@ pub trait ClonedEnd: Drop {
     fn try_clone(&self) -> Result<Self, Fault>;
 }
 
-/// An end that says whether its channel is closed.
-pub trait SaysClosed: Drop {
-    fn is_closed(&self) -> bool;
-}
-
 /// An end at which a task waits until its channel is closed.
 pub trait AwaitsClose: Drop {
     type Closed: Drop;
@@ -41,7 +36,7 @@ pub trait CountsEnds: Drop {
     fn counts(&self) -> (usize, usize);
 }
 
-/// The calls at once of a sender of many values, or of a channel that is borrowed.
+/// The calls at once of a sender of many values.
 pub trait TriesToSend<T>: Drop {
     fn try_send(&self, value: T) -> Result<(), TrySendError<T>>;
 
@@ -55,7 +50,7 @@ pub trait SendingEnd<T>: TriesToSend<T> {
     fn send(&self, value: T) -> Result<Self::Send, NoRoom<T>>;
 }
 
-/// The calls at once of a receiver of many values, or of a channel that is borrowed.
+/// The calls at once of a receiver of many values.
 pub trait TriesToReceive<T>: Drop {
     fn try_receive(&self) -> Result<T, TryReceiveError>;
 

@@ -9,7 +9,6 @@ use crate::{
 use fi_channels::{SendFault, TryReceiveError, TrySendError};
 use fi_parts::buffer::{GrowingHeapBuf, RingBuf};
 use fi_parts::{CloseStatus, Fault, NoRoom};
-use fi_sync::GenericChannel;
 use futures::task::{Context, Poll};
 use futures::{Future, Stream};
 use futures_intrusive::channel::shared::{
@@ -129,16 +128,6 @@ impl<T: Drop, B: RingBuf<Item = T>, R: Wait + Drop> TriesToSend<T> for Sender<T,
     }
 }
 
-impl<T: Drop, B: RingBuf<Item = T>, R: Wait + Drop> TriesToSend<T> for GenericChannel<T, B, R> {
-    fn try_send(&self, value: T) -> Result<(), TrySendError<T>> {
-        GenericChannel::try_send(self, value)
-    }
-
-    fn close(&self) -> CloseStatus {
-        GenericChannel::close(self)
-    }
-}
-
 impl<T: Drop, B: RingBuf<Item = T>, R: Wait + Drop> SendingEnd<T> for Sender<T, B, R> {
     type Send = Sending<T, B, R>;
 
@@ -156,16 +145,6 @@ impl<T: Drop, B: RingBuf<Item = T>, R: Wait + Drop> TriesToReceive<T> for Receiv
 
     fn close(&self) -> CloseStatus {
         self.end.close()
-    }
-}
-
-impl<T: Drop, B: RingBuf<Item = T>, R: Wait + Drop> TriesToReceive<T> for GenericChannel<T, B, R> {
-    fn try_receive(&self) -> Result<T, TryReceiveError> {
-        GenericChannel::try_receive(self)
-    }
-
-    fn close(&self) -> CloseStatus {
-        GenericChannel::close(self)
     }
 }
 

@@ -2,7 +2,7 @@
 ghost use Rattle.std.specs.Prelude.{◌≡◌};
 
 use crate::closed::Closed;
-use crate::{AwaitsClose, ClonedEnd, Made, ReceivesOne, SaysClosed, SendsAtOnce};
+use crate::{AwaitsClose, ClonedEnd, Made, ReceivesOne, SendsAtOnce};
 use fi_channels::{ClonesValue, GivesValue, OneValueState, TakesValue};
 use fi_parts::{ChannelSendError, Fault};
 use fi_sync::PollWaker;
@@ -56,18 +56,6 @@ impl<T: Clone + Drop, R: Wait + Drop> ClonedEnd for Receiver<T, ClonesValue, R> 
         Ok(Receiver {
             end: self.end.clone()?,
         })
-    }
-}
-
-impl<T: Drop, G: GivesValue<T>, R: Wait + Drop> SaysClosed for Sender<T, G, R> {
-    fn is_closed(&self) -> bool {
-        self.end.is_closed()
-    }
-}
-
-impl<T: Drop, G: GivesValue<T>, R: Wait + Drop> SaysClosed for Receiver<T, G, R> {
-    fn is_closed(&self) -> bool {
-        self.end.is_closed()
     }
 }
 

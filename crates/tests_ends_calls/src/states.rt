@@ -1,14 +1,9 @@
 //! The ends of the state broadcast.
 ghost use Rattle.std.specs.Prelude.{◌≡◌};
 
-use crate::closed::Closed;
-use crate::{
-    AwaitsClose, ClonedEnd, CountsEnds, Made, ReadsStates, ReceivesStates, SaysClosed, SendsAtOnce,
-    StreamsStates,
-};
-use fi_channels::StateBroadcastState;
+use crate::{ClonedEnd, Made, ReadsStates, ReceivesStates, SendsAtOnce, StreamsStates};
 use fi_parts::{ChannelSendError, Fault, StateId};
-use fi_sync::{Blocking, PollWaker};
+use fi_sync::Blocking;
 use futures::task::{Context, Poll};
 use futures::{Future, Stream};
 use futures_intrusive::channel::shared::{
@@ -58,6 +53,11 @@ pub fn state_broadcast_channel<T: Clone + Drop, R: Wait + Drop>(
 }
 
 impl<T: Clone + Drop, R: Wait + Drop> Receiver<T, R> {
+    /// Whether the channel is closed.
+    pub fn is_closed(&self) -> bool {
+        self.end.is_closed()
+    }
+
     pub fn into_reader(self) -> Reader<T, R> {
         Reader {
             reader: self.end.into_reader(),
@@ -85,40 +85,6 @@ impl<T: Clone + Drop, R: Wait + Drop> ClonedEnd for Receiver<T, R> {
     fn try_clone(&self) -> Result<Self, Fault> {
         Ok(Receiver {
             end: self.end.clone()?,
-        })
-    }
-}
-
-impl<T: Clone + Drop, R: Wait + Drop> SaysClosed for Sender<T, R> {
-    fn is_closed(&self) -> bool {
-        self.end.is_closed()
-    }
-}
-
-impl<T: Clone + Drop, R: Wait + Drop> SaysClosed for Receiver<T, R> {
-    fn is_closed(&self) -> bool {
-        self.end.is_closed()
-    }
-}
-
-impl<T: Clone + Drop, R: Wait + Drop> CountsEnds for Sender<T, R> {
-    fn counts(&self) -> (usize, usize) {
-        (self.end.sender_count(), self.end.receiver_count())
-    }
-}
-
-impl<T: Clone + Drop, R: Wait + Drop> CountsEnds for Receiver<T, R> {
-    fn counts(&self) -> (usize, usize) {
-        (self.end.sender_count(), self.end.receiver_count())
-    }
-}
-
-impl<T: Clone + Drop, R: Wait + Drop> AwaitsClose for Sender<T, R> {
-    type Closed = Closed<StateBroadcastState<T, PollWaker>, R>;
-
-    fn closed(&self) -> Result<Closed<StateBroadcastState<T, PollWaker>, R>, Fault> {
-        Ok(Closed {
-            future: self.end.closed()?,
         })
     }
 }

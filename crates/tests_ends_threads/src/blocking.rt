@@ -11,7 +11,7 @@ use std::thread::{self, Threads};
 use std::time::{self, CpuClock, Duration};
 use tests_driver::answers::IntoAnswer;
 use tests_ends_calls::many::channel;
-use tests_ends_calls::one_value::{oneshot_broadcast_channel, oneshot_channel};
+use tests_ends_calls::one_value::oneshot_channel;
 use tests_ends_calls::states::state_broadcast_channel;
 use tests_ends_calls::{Made, SendsAtOnce, TriesToReceive, TriesToSend, many, one_value, states};
 
@@ -38,6 +38,7 @@ impl<R: Blocking + Drop> Blocks for Receiver<R> {
     }
 }
 
+// Of the oneshot broadcast too.
 impl<G: GivesValue<u64>, R: Blocking + Drop> Blocks for one_value::Receiver<u64, G, R> {
     fn block(&self) -> Answer<u64, u64> {
         self.end.receive_blocking().into_answer()
@@ -147,14 +148,6 @@ fn receives_block_until_a_value_or_the_end_comes(rt: HostRuntime) {
 fn receives_of_a_oneshot_block_until_its_value_or_the_end_comes(rt: HostRuntime) {
     for wanted in [Answer::Item(7), Answer::Nothing] {
         let ends = oneshot_channel::<u64, HostRuntime>(rt.alloc(), rt);
-        assert!(rt; receives(&rt, ends, wanted));
-    }
-}
-
-#[test]
-fn receives_of_a_broadcast_block_until_its_value_or_the_end_comes(rt: HostRuntime) {
-    for wanted in [Answer::Item(7), Answer::Nothing] {
-        let ends = oneshot_broadcast_channel::<u64, HostRuntime>(rt.alloc(), rt);
         assert!(rt; receives(&rt, ends, wanted));
     }
 }

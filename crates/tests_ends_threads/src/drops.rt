@@ -9,12 +9,11 @@ use std::process::Abort;
 use std::random::RandomSource;
 use std::rc::Rc;
 use std::sync::Wait;
-use std::test::Fail;
 use std::thread;
 use tests_driver::pollable::Pollable;
 use tests_ends_calls::many::{Sender, channel};
 use tests_ends_calls::states::{Receiver, state_broadcast_channel};
-use tests_ends_calls::{Made, ReceivingEnd, SaysClosed, SendingEnd, SendsAtOnce, TriesToSend};
+use tests_ends_calls::{Made, ReceivingEnd, SendingEnd, SendsAtOnce, TriesToSend};
 use tests_help::meeting::{Guest, Meeting};
 
 type Counted = Rc<u64>;
@@ -101,27 +100,6 @@ fn each_value_is_dropped_once(rt: HostRuntime) {
         drop_parts(rt, ends, &counted, order);
         assert_eq!(rt; Rc::strong_count(&counted), 1);
     }
-}
-
-// The last receiver is dropped while a value is buffered: whether that is dropped with it, while the sender is there.
-fn last_receiver_drops<S, E>(ends: Made<S, E>, counted: &Counted) -> Option<bool>
-where
-    S: TriesToSend<Counted>,
-    E: Drop,
-{
-    let (sender, receiver) = ends.ok()?;
-    let is_sent = sender.try_send(counted.clone().ok()?).is_ok();
-    drop(receiver);
-    let is_dropped = Rc::strong_count(counted) == 1;
-    Some(is_sent && is_dropped && !sender.close().is_newly_closed())
-}
-
-#[test]
-fn last_receiver_drops_what_is_buffered(rt: HostRuntime) -> Result<(), Fail> {
-    let counted = Rc::new(rt.alloc(), 7u64)?;
-    let ends = channel::<Counted, HostRuntime>(rt.alloc(), rt, 2);
-    assert!(rt; last_receiver_drops(ends, &counted) == Some(true));
-    Ok(())
 }
 
 // Whether a send that is made once a value's drop has begun finds the channel closed.

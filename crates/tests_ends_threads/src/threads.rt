@@ -1,27 +1,24 @@
 //! Ends, futures and streams in several threads.
 
-use fi_channels::TrySendError;
-use fi_parts::{Fault, StateId};
+use fi_channels::{TryReceiveError, TrySendError};
+use fi_parts::StateId;
 use fi_run::Answer;
+use futures::StreamExt;
 use futures::executor::block_on;
-use futures::task::Poll;
-use futures::test::MockTask;
-use futures::{Future, StreamExt};
 use futures_intrusive::blocking::Blocking;
 use futures_intrusive::channel::GivesValue;
 use std::alloc::AllocGlobal;
-use std::random::RandomSource;
 use std::sync::Wait;
 use std::thread;
 use std::thread::Threads;
 use tests_driver::answers::IntoAnswer;
 use tests_driver::pollable::Pollable;
 use tests_ends_calls::many::channel;
-use tests_ends_calls::one_value::{oneshot_broadcast_channel, oneshot_channel};
+use tests_ends_calls::one_value::oneshot_channel;
 use tests_ends_calls::states::state_broadcast_channel;
 use tests_ends_calls::{
-    ClonedEnd, Made, ReceivesOne, ReceivesStates, ReceivingEnd, SendsAtOnce, StreamsStates,
-    TriesToSend, one_value, states,
+    ClonedEnd, CountsEnds, Made, ReceivesOne, ReceivesStates, ReceivingEnd, SendsAtOnce,
+    StreamsStates, TriesToReceive, TriesToSend, one_value, states,
 };
 
 const ROUNDS: u32 = 10_000;
@@ -48,50 +45,29 @@ where
     });
 }
 
-// Four threads clone and drop ends. The senders are counted exactly: the channel stays open until the last one goes, and then closes
-// once.
-fn counts_senders<R, S, E>(rt: &R, ends: Made<S, E>) -> Option<bool>
-where
-    R: Wait + Threads + RandomSource + AllocGlobal + Sync,
-    S: ClonedEnd + Send + Sync,
-    E: ReceivingEnd<u64> + ClonedEnd + Send + Sync,
-    E::Receive: Pollable + Future<Output = Result<Option<u64>, Fault>>,
-{
-    let task = MockTask::new(rt).ok()?;
-    let (sender, receiver) = ends.ok()?;
-    let mut receive = receiver.receive().ok()?;
-    clone_all(rt, &sender, &receiver);
-    let waits = task.poll(&mut receive).is_pending() && !task.is_woken();
-    drop(sender);
-    let is_told = waits && task.is_woken();
-    let ends = is_told && task.poll(&mut receive) == Poll::Ready(Ok(None));
-    Some(ends && !receiver.close().is_newly_closed())
-}
-
-// And so are the receivers.
-fn counts_receivers<R, S, E>(rt: &R, ends: Made<S, E>) -> Option<bool>
+// Four threads clone and drop ends. Both sides are counted exactly: the channel stays open, has one end of each side afterwards, and the
+// last sender closes it.
+fn counts_exactly<R, S, E>(rt: &R, ends: Made<S, E>) -> Option<bool>
 where
     R: Wait + Threads + Sync,
-    S: TriesToSend<u64> + ClonedEnd + Send + Sync,
-    E: ClonedEnd + Send + Sync,
+    S: ClonedEnd + CountsEnds + Send + Sync,
+    E: TriesToReceive<u64> + ClonedEnd + Send + Sync,
 {
     let (sender, receiver) = ends.ok()?;
     clone_all(rt, &sender, &receiver);
-    let is_open = sender.try_send(1) == Ok(());
-    drop(receiver);
-    let is_closed = sender.try_send(2) == Err(TrySendError::Closed(2));
-    Some(is_open && is_closed && !sender.close().is_newly_closed())
+    let is_open = receiver.try_receive() == Err(TryReceiveError::Empty);
+    let has_one_each = sender.counts() == (1, 1);
+    drop(sender);
+    Some(is_open && has_one_each && !receiver.close().is_newly_closed())
 }
 
 #[test]
 fn four_threads_clone_and_drop_ends(rt: HostRuntime) {
     let ends = channel::<u64, HostRuntime>(rt.alloc(), rt, 1);
-    assert!(rt; counts_senders(&rt, ends) == Some(true));
-    let ends = channel::<u64, HostRuntime>(rt.alloc(), rt, 1);
-    assert!(rt; counts_receivers(&rt, ends) == Some(true));
+    assert!(rt; counts_exactly(&rt, ends) == Some(true));
 }
 
-// A stream is moved to another thread, and dropped there.
+// A stream is a receiver too. It is moved to another thread, and dropped there.
 fn stream_crosses<R, S, E>(rt: &R, ends: Made<S, E>) -> Option<bool>
 where
     R: Threads,
@@ -104,7 +80,7 @@ where
     drop(receiver);
     let is_open = sender.try_send(1).is_ok();
     let ((), ()) = thread::join(rt, move || drop(stream), || ());
-    Some(is_open && sender.try_send(2).is_err())
+    Some(is_open && sender.try_send(2) == Err(TrySendError::Closed(2)))
 }
 
 #[test]
@@ -209,8 +185,6 @@ where
 #[test]
 fn other_ends_cross_threads(rt: HostRuntime) {
     let ends = oneshot_channel::<u64, HostRuntime>(rt.alloc(), rt);
-    assert!(rt; one_value_crosses(&rt, ends) == Some(true));
-    let ends = oneshot_broadcast_channel::<u64, HostRuntime>(rt.alloc(), rt);
     assert!(rt; one_value_crosses(&rt, ends) == Some(true));
     let ends = state_broadcast_channel::<u64, HostRuntime>(rt.alloc(), rt);
     assert!(rt; state_crosses(&rt, ends) == Some(true));

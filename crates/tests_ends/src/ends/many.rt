@@ -4,7 +4,6 @@ use fi_channels::TrySendError;
 use fi_parts::buffer::FixedHeapBuf;
 use std::alloc::{AllocGlobal, Global};
 use tests_ends_calls::many::{channel, generic_channel};
-use tests_ends_calls::states::state_broadcast_channel;
 use tests_ends_calls::{ClonedEnd, CountsEnds, Made, TriesToReceive, TriesToSend};
 
 /// So many values fit into a channel.
@@ -30,8 +29,6 @@ fn holds_them<S: TriesToSend<u64>, E: TriesToReceive<u64>>(ends: Made<S, E>) -> 
 
 #[test]
 fn ends_have_the_places_asked_for(rt: HostRuntime) {
-    let growing = channel::<u64, HostRuntime>(rt.alloc(), rt, PLACES as usize);
-    assert!(rt; holds_them(growing) == Some(true));
     let fixed = generic_channel::<u64, FixedHeapBuf<u64>, HostRuntime>(
         rt.alloc(),
         rt,
@@ -63,7 +60,5 @@ where
 #[test]
 fn a_thousand_ends_of_a_side(rt: HostRuntime) {
     let ends = channel::<u64, HostRuntime>(rt.alloc(), rt, 1);
-    assert!(rt; are_cloned(rt.alloc(), ends) == Some(true));
-    let ends = state_broadcast_channel::<u64, HostRuntime>(rt.alloc(), rt);
     assert!(rt; are_cloned(rt.alloc(), ends) == Some(true));
 }

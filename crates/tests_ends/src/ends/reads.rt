@@ -147,27 +147,6 @@ fn a_stream_gives_each_newest_state_once(rt: HostRuntime) {
     assert!(rt; a_waiting_stream_ends(&task, sender, receiver.into_reader().into_stream()));
 }
 
-// What was sent before the sender went is given, with no receive, and then the end.
-fn last_state_comes_before_the_end<S, E>(task: &MockTask, sender: S, mut states: E) -> bool
-where
-    S: SendsAtOnce<u64>,
-    E: StreamsStates<u64>,
-{
-    let is_sent = sender.send(7).is_ok();
-    drop(sender);
-    let comes = task.poll(&mut states.next()) == Poll::Ready(Some(Ok(7)));
-    is_sent && comes && stays_ended(task, &mut states)
-}
-
-#[test]
-fn a_stream_gives_the_last_state_before_its_end(rt: HostRuntime) {
-    let task = MockTask::new(&rt).expect(&rt, "task");
-    let ends = state_broadcast_channel::<u64, HostRuntime>(rt.alloc(), rt);
-    let (sender, receiver) = ends.expect(&rt, "memory");
-    let states = receiver.into_reader().into_stream();
-    assert!(rt; last_state_comes_before_the_end(&task, sender, states));
-}
-
 // A stream whose reader has read the first state waits for the second; its drop, while it waits, is that of the only receiver.
 fn waits_for_the_second<S, E>(task: &MockTask, sender: &S, mut states: E) -> bool
 where

@@ -1,12 +1,10 @@
-//! What ends say of their channel: what a borrowed channel says that gets the same calls.
+//! What ends say of their channel.
 
 use fi_channels::TrySendError;
-use fi_parts::Fault;
 use fi_parts::buffer::GrowingHeapBuf;
-use futures_intrusive::channel::GenericChannel;
 use std::alloc::AllocGlobal;
 use std::sync::Wait;
-use tests_ends_calls::many::{Receiver, Sender, channel, unbuffered_channel};
+use tests_ends_calls::many::{Sender, channel, unbuffered_channel};
 use tests_ends_calls::{Made, TriesToReceive, TriesToSend};
 
 /// What is said of a channel.
@@ -19,6 +17,20 @@ struct Said {
     is_full: bool,
 }
 
+impl Said {
+    // What should be said of a channel that has so many values, and room for so many.
+    fn of(len: usize, capacity: usize, is_closed: bool) -> Self {
+        Said {
+            len,
+            capacity,
+            is_closed,
+            is_empty: len == 0,
+            is_full: len == capacity,
+        }
+    }
+}
+
+/// An end that is asked about its channel. Both ends have the same functions for it, so only a sender is asked.
 trait Says {
     fn said(&self) -> Said;
 }
@@ -35,104 +47,31 @@ impl<R: Wait + Drop> Says for Sender<u64, GrowingHeapBuf<u64>, R> {
     }
 }
 
-impl<R: Wait + Drop> Says for Receiver<u64, GrowingHeapBuf<u64>, R> {
-    fn said(&self) -> Said {
-        Said {
-            len: self.end.len(),
-            capacity: self.end.capacity(),
-            is_closed: self.end.is_closed(),
-            is_empty: self.end.is_empty(),
-            is_full: self.end.is_full(),
-        }
-    }
-}
-
-type Borrowed<R> = GenericChannel<u64, GrowingHeapBuf<u64>, R>;
-
-impl<R: Wait> Says for Borrowed<R> {
-    fn said(&self) -> Said {
-        Said {
-            len: GenericChannel::len(self),
-            capacity: GenericChannel::capacity(self),
-            is_closed: GenericChannel::is_closed(self),
-            is_empty: GenericChannel::is_empty(self),
-            is_full: GenericChannel::is_full(self),
-        }
-    }
-}
-
-/// The ends of a channel, and a borrowed one that gets the same calls.
-#[derive(Drop)]
-struct Beside<S, E, B> {
-    sender: S,
-    receiver: E,
-    borrowed: B,
-}
-
-impl<S, E, B> Beside<S, E, B>
+// Of two places, as values come and go, and after a close.
+fn says_how_it_is<S, E>(ends: Made<S, E>) -> Option<bool>
 where
     S: TriesToSend<u64> + Says,
-    E: TriesToReceive<u64> + Says,
-    B: TriesToSend<u64> + TriesToReceive<u64> + Says,
-{
-    // Whether both ends say of their channel what the borrowed one says.
-    fn say_the_same(&self) -> bool {
-        let said = self.borrowed.said();
-        self.sender.said() == said && self.receiver.said() == said
-    }
-
-    fn send(&self, value: u64) -> bool {
-        self.sender.try_send(value) == self.borrowed.try_send(value) && self.say_the_same()
-    }
-
-    fn receive(&self) -> bool {
-        self.receiver.try_receive() == self.borrowed.try_receive() && self.say_the_same()
-    }
-
-    fn close(&self) -> bool {
-        self.sender.close() == TriesToSend::close(&self.borrowed) && self.say_the_same()
-    }
-
-    // Whether they do so before and after each of these calls.
-    fn agree(&self) -> bool {
-        let are_sent = self.say_the_same() && self.send(1) && self.send(2) && self.send(3);
-        let are_open = are_sent && self.receive() && self.send(4) && self.close();
-        are_open && self.receive() && self.receive() && self.receive() && self.send(5)
-    }
-}
-
-// Whether the ends say so of their channel.
-fn say_what_it_says<S, E, B>(ends: Made<S, E>, borrowed: Result<B, Fault>) -> Option<bool>
-where
-    S: TriesToSend<u64> + Says,
-    E: TriesToReceive<u64> + Says,
-    B: TriesToSend<u64> + TriesToReceive<u64> + Says,
+    E: TriesToReceive<u64>,
 {
     let (sender, receiver) = ends.ok()?;
-    let beside = Beside {
-        sender,
-        receiver,
-        borrowed: borrowed.ok()?,
-    };
-    Some(beside.agree())
+    let is_empty = sender.said() == Said::of(0, 2, false);
+    let has_one = sender.try_send(1).is_ok() && sender.said() == Said::of(1, 2, false);
+    let is_full = sender.try_send(2).is_ok() && sender.said() == Said::of(2, 2, false);
+    let has_room = receiver.try_receive() == Ok(1) && sender.said() == Said::of(1, 2, false);
+    let is_closed = sender.close().is_newly_closed() && sender.said() == Said::of(1, 2, true);
+    Some(is_empty && has_one && is_full && has_room && is_closed)
 }
 
 #[test]
 fn ends_say_what_the_channel_says(rt: HostRuntime) {
-    for capacity in 0..3 {
-        let ends = channel::<u64, HostRuntime>(rt.alloc(), rt, capacity);
-        let borrowed = Borrowed::<HostRuntime>::with_capacity(rt.alloc(), rt, capacity);
-        assert!(rt;
-            say_what_it_says(ends, borrowed) == Some(true),
-            "capacity {capacity}"
-        );
-    }
+    let ends = channel::<u64, HostRuntime>(rt.alloc(), rt, 2);
+    assert!(rt; says_how_it_is(ends) == Some(true));
 }
 
-fn has_no_room<S: TriesToSend<u64> + Says, E: Says + Drop>(ends: Made<S, E>) -> Option<bool> {
-    let (sender, receiver) = ends.ok()?;
-    let are_of_none = sender.said().capacity == 0 && receiver.said().capacity == 0;
-    Some(are_of_none && sender.try_send(1) == Err(TrySendError::Full(1)))
+fn has_no_room<S: TriesToSend<u64> + Says, E: Drop>(ends: Made<S, E>) -> Option<bool> {
+    let (sender, _receiver) = ends.ok()?;
+    let is_of_none = sender.said() == Said::of(0, 0, false);
+    Some(is_of_none && sender.try_send(1) == Err(TrySendError::Full(1)))
 }
 
 #[test]
