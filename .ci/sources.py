@@ -30,9 +30,10 @@ def text_of(path):
     return pathlib.Path(path).read_text(encoding="utf-8")
 
 
-def write(path, text):
-    """Writes a file anew."""
-    pathlib.Path(path).write_text(text, encoding="utf-8")
+def write(texts):
+    """Writes these files anew, each with its text."""
+    for path, text in texts.items():
+        pathlib.Path(path).write_text(text, encoding="utf-8")
 
 
 def end(summary, faults):
@@ -44,7 +45,7 @@ def end(summary, faults):
 def renewed(page, new):
     """Writes a page anew; with --check returns how it differs from the sources instead."""
     if "--check" not in sys.argv:
-        write(page, new)
+        write({page: new})
         return []
     rows = list(difflib.unified_diff(text_of(page).split("\n"), new.split("\n"), n=0, lineterm=""))[2:]
     says = {"+": "lacks", "-": "has, unlike the sources,"}
