@@ -1,10 +1,7 @@
 //! How often tasks are polled. A poll that is ready makes no waker, whose drop would have its task polled once more.
-ghost use Rattle.fi_sync.specs.Blanks.{IsLockBlank, IsPermitBlank};
+ghost use Rattle.fi_sync.specs.Blanks.{IsPermitBlank};
 
-use fi_parts::MockClock;
-use fi_sync::{
-    Blocking, Channel, ManualResetEvent, Mutex, Semaphore, TimerService, WaitForEventFuture,
-};
+use fi_sync::{Blocking, ManualResetEvent, Semaphore, WaitForEventFuture};
 use futures::Future;
 use futures::task::Poll;
 use futures::test::MockTask;
@@ -25,98 +22,22 @@ where
     is_ready && !task.is_woken()
 }
 
-/// What makes futures that are ready at once.
-trait Ready {
-    /// Makes some, and answers whether they are ready in peace.
-    fn are_ready(&self, task: &MockTask) -> bool;
-}
-
-impl<R: Wait> Ready for ManualResetEvent<R> {
-    fn are_ready(&self, task: &MockTask) -> bool {
-        match self.wait() {
-            Ok(wait) => is_ready_in_peace(task, wait),
-            Err(_) => false,
-        }
-    }
-}
-
-// Whether a send is accepted in peace.
-fn is_sent<R: Wait>(channel: &Channel<u64, 1, R>, task: &MockTask) -> bool {
-    match channel.send(5) {
-        Ok(send) => is_ready_in_peace(task, send),
-        Err(_) => false,
-    }
-}
-
-impl<R: Wait> Ready for Channel<u64, 1, R> {
-    fn are_ready(&self, task: &MockTask) -> bool {
-        if !is_sent(self, task) {
-            return false;
-        }
-        match self.receive() {
-            Ok(receive) => is_ready_in_peace(task, receive),
-            Err(_) => false,
-        }
-    }
-}
-
-impl<R: Wait> Ready for TimerService<MockClock, R> {
-    fn are_ready(&self, task: &MockTask) -> bool {
-        match self.deadline(0) {
-            Ok(deadline) => is_ready_in_peace(task, deadline),
-            Err(_) => false,
-        }
-    }
-}
-
-impl<R: Wait, L: Ledger> Ready for Mutex<u64, R, L> {
-    fn are_ready(&self, task: &MockTask) -> bool {
-        match self.lock() {
-            Ok(lock) => is_ready_in_peace(task, lock),
-            Err(_) => false,
-        }
-    }
-}
-
-// Whether the futures of a thousand makings are ready in peace.
-fn wake_nobody<R: Blocking, M: Ready>(rt: &R, makes: &M) -> Option<bool> {
+// Whether a thousand waits for a set event are ready in peace.
+fn wake_nobody<R: Blocking>(rt: &R, event: &ManualResetEvent<R>) -> Option<bool> {
     let task = MockTask::new(rt).ok()?;
     for _ in 0..1_000u64 {
-        if !makes.are_ready(&task) {
+        if !is_ready_in_peace(&task, event.wait().ok()?) {
             return Some(false);
         }
     }
     Some(true)
 }
 
+// One body makes a waker for every primitive's poll: where it has to wait.
 #[test]
 fn ready_waits_wake_nobody(rt: HostRuntime) {
     let event = ManualResetEvent::new(rt.alloc(), rt, true);
     assert!(rt; wake_nobody(&rt, &event) == Some(true));
-}
-
-#[test]
-fn ready_sends_and_receives_wake_nobody(rt: HostRuntime) {
-    let channel = Channel::<u64, 1, HostRuntime>::new(rt.alloc(), rt);
-    assert!(rt; wake_nobody(&rt, &channel) == Some(true));
-}
-
-#[test]
-fn ready_deadlines_wake_nobody(rt: HostRuntime) {
-    let timer = TimerService::new(rt.alloc(), rt, MockClock::new());
-    assert!(rt; wake_nobody(&rt, &timer) == Some(true));
-}
-
-fn lock_in_peace<R: Blocking + Copy, L: Ledger>(rt: R, blank: Blank) -> Option<bool>
-    requires blank { IsLockBlank L.Ledger blank }
-{
-    let mutex = Mutex::<u64, R, L>::new(rt.alloc(), rt, blank, 7, false);
-    wake_nobody(&rt, &mutex)
-}
-
-#[test]
-fn ready_locks_wake_nobody(rt: HostRuntime) {
-    assert!(rt; lock_in_peace::<HostRuntime, Brand>(rt, Blank::new(1)) == Some(true));
 }
 
 // Whether an acquire that is granted while it is registered wakes nobody while it lives: it has two wakers of its own task then.
