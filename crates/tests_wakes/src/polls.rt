@@ -1,7 +1,7 @@
 //! How often tasks are polled. A poll that is ready makes no waker, whose drop would have its task polled once more.
 ghost use Rattle.fi_sync.specs.Blanks.{IsPermitBlank};
 
-use fi_sync::{Blocking, ManualResetEvent, Semaphore, WaitForEventFuture};
+use fi_sync::{Blocking, ManualResetEvent, Semaphore, SemaphoreAcquireFuture, WaitForEventFuture};
 use futures::Future;
 use futures::task::Poll;
 use futures::test::MockTask;
@@ -40,30 +40,54 @@ fn ready_waits_wake_nobody(rt: HostRuntime) {
     assert!(rt; wake_nobody(&rt, &event) == Some(true));
 }
 
+/// A semaphore's futures, without their clauses: the proofs of those who only look at answers stay small.
+trait Permits {
+    type Acquire: Acquires;
+
+    fn begin(&self) -> Option<Self::Acquire>;
+
+    fn add_one(&self) -> bool;
+}
+
+/// One of them, which needs one permit.
+trait Acquires: Drop {
+    fn is_granted(&mut self, task: &MockTask) -> bool;
+}
+
+impl<R: Wait, L: Ledger> Acquires for SemaphoreAcquireFuture<'_, R, L> {
+    fn is_granted(&mut self, task: &MockTask) -> bool {
+        task.poll(self).is_ready()
+    }
+}
+
+impl<'a, R: Wait, L: Ledger> Permits for &'a Semaphore<R, L> {
+    type Acquire = SemaphoreAcquireFuture<'a, R, L>;
+
+    fn begin(&self) -> Option<SemaphoreAcquireFuture<'a, R, L>> {
+        let semaphore = *self;
+        semaphore.acquire(1).ok()
+    }
+
+    fn add_one(&self) -> bool {
+        self.release(1).is_ok()
+    }
+}
+
 // Whether an acquire that is granted while it is registered wakes nobody while it lives: it has two wakers of its own task then.
 // Another that waits before it is told; the semaphore isn't fair.
-fn overtakes_in_peace<R: Wait, L: Ledger>(
-    semaphore: &Semaphore<R, L>,
-    task: &MockTask,
-    other: &MockTask,
-) -> Option<bool> {
-    let mut first = semaphore.acquire(1).ok()?;
-    let mut second = semaphore.acquire(1).ok()?;
-    let mut waited = other.poll(&mut first).is_pending();
-    for _ in 0..2 {
-        waited = task.poll(&mut second).is_pending() && waited;
-    }
-    let is_released = semaphore.release(1).is_ok();
-    let is_granted = task.poll(&mut second).is_ready();
-    Some(waited && is_released && is_granted && !task.is_woken())
+fn overtakes_in_peace<P: Permits>(permits: &P, task: &MockTask, other: &MockTask) -> Option<bool> {
+    let (mut first, mut second) = (permits.begin()?, permits.begin()?);
+    let waits = !first.is_granted(other);
+    let second_waits = !second.is_granted(task) && !second.is_granted(task);
+    let is_granted = permits.add_one() && second.is_granted(task);
+    Some(waits && second_waits && is_granted && !task.is_woken())
 }
 
 fn acquire_in_peace<R: Blocking + Copy, L: Ledger>(rt: R, blank: Blank) -> Option<bool>
     requires blank { IsPermitBlank L.Ledger blank }
 {
-    let task = MockTask::new(&rt).ok()?;
-    let other = MockTask::new(&rt).ok()?;
-    let semaphore = Semaphore::<R, L>::new(rt.alloc(), rt, blank, false, 0);
+    let (task, other) = (MockTask::new(&rt).ok()?, MockTask::new(&rt).ok()?);
+    let semaphore = &Semaphore::<R, L>::new(rt.alloc(), rt, blank, false, 0);
     overtakes_in_peace(&semaphore, &task, &other)
 }
 
