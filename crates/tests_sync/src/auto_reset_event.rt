@@ -1,6 +1,8 @@
 //! The event that resets itself: who passes, and in which order.
 
-use fi_sync::{AutoResetEvent, Blocking, OwnedWaitForAutoResetEventFuture};
+use fi_sync::{
+    AutoResetEvent, Blocking, OwnedWaitForAutoResetEventFuture, WaitForAutoResetEventFuture,
+};
 use futures::executor::block_on;
 use futures::task::Poll;
 use futures::test::MockTask;
@@ -8,84 +10,154 @@ use std::sync::{Arc, Wait};
 use std::thread;
 use std::thread::Threads;
 
+/// The event, without its clauses: the proofs of those who only look at answers stay small.
+trait Event {
+    type Wait: PassingWait;
+
+    fn begin(&self) -> Option<Self::Wait>;
+
+    fn signal(&self);
+
+    fn is_signalled(&self) -> bool;
+
+    fn passes_at_once(&self) -> bool;
+}
+
+/// A wait for it.
+trait PassingWait: Drop {
+    /// Polls it, and answers whether it passes. None if it is refused.
+    fn passes(&mut self, task: &MockTask) -> Option<bool>;
+}
+
+impl<R: Wait> PassingWait for WaitForAutoResetEventFuture<'_, R> {
+    fn passes(&mut self, task: &MockTask) -> Option<bool> {
+        match task.poll(self) {
+            Poll::Ready(Ok(())) => Some(true),
+            Poll::Ready(Err(_)) => None,
+            Poll::Pending => Some(false),
+        }
+    }
+}
+
+impl<'a, R: Wait> Event for &'a AutoResetEvent<R> {
+    type Wait = WaitForAutoResetEventFuture<'a, R>;
+
+    fn begin(&self) -> Option<WaitForAutoResetEventFuture<'a, R>> {
+        let event = *self;
+        event.wait().ok()
+    }
+
+    fn signal(&self) {
+        self.set();
+    }
+
+    fn is_signalled(&self) -> bool {
+        self.is_set()
+    }
+
+    fn passes_at_once(&self) -> bool {
+        self.try_wait()
+    }
+}
+
+// Whether both wait then.
+fn both_wait<W: PassingWait>(
+    older: &mut W,
+    first: &MockTask,
+    younger: &mut W,
+    second: &MockTask,
+) -> bool {
+    older.passes(first) == Some(false) && younger.passes(second) == Some(false)
+}
+
 // Two waits are registered. Whether each set lets one pass, the oldest first, and one of a set event wakes nobody.
+fn lets_one_pass_each<E: Event>(event: &E, first: &MockTask, second: &MockTask) -> Option<bool> {
+    let (mut older, mut younger) = (event.begin()?, event.begin()?);
+    let wait = both_wait(&mut older, first, &mut younger, second);
+    event.signal();
+    event.signal();
+    let is_one_woken = event.is_signalled() && first.is_woken() && !second.is_woken();
+    let passes = older.passes(first)? && !event.is_signalled();
+    event.signal();
+    let other_passes = second.is_woken() && younger.passes(second)?;
+    Some(wait && is_one_woken && passes && other_passes && !event.is_signalled())
+}
+
 fn sets_let_one_pass_each<R: Blocking + Copy>(rt: R, is_fair: bool) -> Option<bool> {
-    let event = AutoResetEvent::new(rt.alloc(), rt, false, is_fair);
-    let (first, second) = (MockTask::new(&rt).ok()?, MockTask::new(&rt).ok()?);
-    let (mut older, mut younger) = (event.wait().ok()?, event.wait().ok()?);
-    let wait = first.poll(&mut older).is_pending() && second.poll(&mut younger).is_pending();
-    event.set();
-    event.set();
-    let is_one_woken = event.is_set() && first.is_woken() && !second.is_woken();
-    let passes = first.poll(&mut older) == Poll::Ready(Ok(())) && !event.is_set();
-    event.set();
-    let is_other_woken = second.is_woken();
-    let both_pass = second.poll(&mut younger) == Poll::Ready(Ok(())) && !event.is_set();
-    Some(wait && is_one_woken && passes && is_other_woken && both_pass)
+    let event = &AutoResetEvent::new(rt.alloc(), rt, false, is_fair);
+    lets_one_pass_each(&event, &MockTask::new(&rt).ok()?, &MockTask::new(&rt).ok()?)
 }
 
 #[test]
 fn each_set_lets_one_wait_pass(rt: HostRuntime) {
-    assert!(rt; sets_let_one_pass_each(rt, true) == Some(true));
-    assert!(rt; sets_let_one_pass_each(rt, false) == Some(true));
+    let fair = sets_let_one_pass_each(rt, true);
+    assert!(rt; fair == Some(true) && sets_let_one_pass_each(rt, false) == Some(true));
 }
 
 // An event that is set twice while nobody waits. Whether one newcomer passes, and the next doesn't.
+fn lets_one_newcomer_pass<E: Event>(event: &E, task: &MockTask) -> Option<bool> {
+    event.signal();
+    event.signal();
+    let (mut one, mut other) = (event.begin()?, event.begin()?);
+    let passes = event.is_signalled() && one.passes(task)?;
+    Some(passes && !event.passes_at_once() && !other.passes(task)?)
+}
+
 fn one_newcomer_passes<R: Blocking + Copy>(rt: R, is_set: bool) -> Option<bool> {
-    let event = AutoResetEvent::new(rt.alloc(), rt, is_set, true);
+    let event = &AutoResetEvent::new(rt.alloc(), rt, is_set, true);
     let starts = event.is_set() == is_set;
-    event.set();
-    event.set();
-    let task = MockTask::new(&rt).ok()?;
-    let (mut one, mut other) = (event.wait().ok()?, event.wait().ok()?);
-    let passes = event.is_set() && task.poll(&mut one) == Poll::Ready(Ok(()));
-    Some(starts && passes && !event.try_wait() && task.poll(&mut other).is_pending())
+    Some(starts && lets_one_newcomer_pass(&event, &MockTask::new(&rt).ok()?)?)
 }
 
 #[test]
 fn a_set_event_lets_the_next_that_comes_pass(rt: HostRuntime) {
-    assert!(rt; one_newcomer_passes(rt, false) == Some(true));
-    assert!(rt; one_newcomer_passes(rt, true) == Some(true));
+    let was_set = one_newcomer_passes(rt, true);
+    assert!(rt; was_set == Some(true) && one_newcomer_passes(rt, false) == Some(true));
 }
 
 // A wait is registered and notified, once who came before has passed, if the event was set. Whether a newcomer may pass it, and it waits
 // again then.
+fn lets_newcomer_pass<E: Event>(event: &E, is_set: bool, task: &MockTask) -> Option<bool> {
+    let starts = event.passes_at_once() == is_set && !event.passes_at_once();
+    let mut wait = event.begin()?;
+    let waits = !wait.passes(task)?;
+    event.signal();
+    let passes = event.passes_at_once();
+    let waits_again = !wait.passes(task)?;
+    (starts && waits && waits_again == passes).then_some(passes)
+}
+
 fn newcomer_passes<R: Blocking + Copy>(rt: R, is_set: bool, is_fair: bool) -> Option<bool> {
-    let event = AutoResetEvent::new(rt.alloc(), rt, is_set, is_fair);
-    let starts = event.try_wait() == is_set && !event.is_set() && !event.try_wait();
-    let task = MockTask::new(&rt).ok()?;
-    let mut wait = event.wait().ok()?;
-    let is_pending = task.poll(&mut wait).is_pending();
-    event.set();
-    let passes = event.try_wait();
-    let waits_again = task.poll(&mut wait).is_pending();
-    (starts && is_pending && waits_again == passes).then_some(passes)
+    let event = &AutoResetEvent::new(rt.alloc(), rt, is_set, is_fair);
+    lets_newcomer_pass(&event, is_set, &MockTask::new(&rt).ok()?)
 }
 
 #[test]
 fn a_newcomer_passes_an_unfair_event_alone(rt: HostRuntime) {
-    assert!(rt; newcomer_passes(rt, false, false) == Some(true));
-    assert!(rt; newcomer_passes(rt, true, false) == Some(true));
-    assert!(rt; newcomer_passes(rt, false, true) == Some(false));
-    assert!(rt; newcomer_passes(rt, true, true) == Some(false));
+    for is_set in [false, true] {
+        assert!(rt; newcomer_passes(rt, is_set, false) == Some(true));
+        assert!(rt; newcomer_passes(rt, is_set, true) == Some(false));
+    }
 }
 
 // Two waits are registered, and the one that was notified is dropped. Whether the other passes.
-fn notice_is_passed_on<R: Blocking + Copy>(rt: R, is_fair: bool) -> Option<bool> {
-    let event = AutoResetEvent::new(rt.alloc(), rt, false, is_fair);
-    let (first, second) = (MockTask::new(&rt).ok()?, MockTask::new(&rt).ok()?);
-    let (mut older, mut younger) = (event.wait().ok()?, event.wait().ok()?);
-    let wait = first.poll(&mut older).is_pending() && second.poll(&mut younger).is_pending();
-    event.set();
+fn passes_notice_on<E: Event>(event: &E, first: &MockTask, second: &MockTask) -> Option<bool> {
+    let (mut older, mut younger) = (event.begin()?, event.begin()?);
+    let wait = both_wait(&mut older, first, &mut younger, second);
+    event.signal();
     drop(older);
-    let is_woken = second.is_woken();
-    Some(wait && is_woken && second.poll(&mut younger) == Poll::Ready(Ok(())))
+    Some(wait && second.is_woken() && younger.passes(second)?)
+}
+
+fn notice_is_passed_on<R: Blocking + Copy>(rt: R, is_fair: bool) -> Option<bool> {
+    let event = &AutoResetEvent::new(rt.alloc(), rt, false, is_fair);
+    passes_notice_on(&event, &MockTask::new(&rt).ok()?, &MockTask::new(&rt).ok()?)
 }
 
 #[test]
 fn a_dropped_wait_passes_its_notice_on(rt: HostRuntime) {
-    assert!(rt; notice_is_passed_on(rt, true) == Some(true));
-    assert!(rt; notice_is_passed_on(rt, false) == Some(true));
+    let fair = notice_is_passed_on(rt, true);
+    assert!(rt; fair == Some(true) && notice_is_passed_on(rt, false) == Some(true));
 }
 
 const ROUNDS: u64 = 1000;

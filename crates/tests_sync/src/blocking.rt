@@ -1,11 +1,10 @@
 //! Calls that block their thread until they are answered.
 ghost use Rattle.fi_sync.specs.Blanks.{IsLockBlank, IsPermitBlank};
 
-use crate::timer::Shown;
-use crate::waited::{Counting, Limited, Moment, Receives, SendWaits, Sends, has_blocked, is_one};
-use fi_channels::{ClonesValue, GivesValue, TakesValue, TrySendError};
-use fi_parts::Fault;
-use fi_parts::buffer::{ArrayBuf, GrowingHeapBuf, RingBuf};
+use crate::waited::{Counting, Limited, Receives, Sends, has_blocked, is_one};
+use fi_channels::{GivesValue, TakesValue, TrySendError};
+use fi_parts::buffer::{GrowingHeapBuf, RingBuf};
+use fi_parts::{Clock, Fault};
 use fi_sync::{
     AutoResetEvent, Blocking, Channel, GenericChannel, ManualResetEvent, Mutex, OneValueChannel,
     Semaphore, SharedSemaphore, StateBroadcastChannel, TimerService, UnbufferedChannel,
@@ -17,8 +16,8 @@ use std::sync::Wait;
 use std::sync::atomic::{AtomicU64, Ordering};
 use std::sync::ledger::{Blank, Ledger};
 use std::thread::Threads;
-use std::time::{Clock, Duration};
-use std::{io, thread};
+use std::time::Duration;
+use std::{io, thread, time};
 
 // Sends a one, and closes the channel.
 fn send_and_close<R: Blocking>(channel: &UnbufferedChannel<u64, R>) {
@@ -65,7 +64,7 @@ where
 // Whether a receive blocks. On a channel without room the send that comes then blocks too.
 fn receive_blocks<R, B: RingBuf<Item = u64> + Send + Sync>(rt: &R, capacity: usize) -> Option<bool>
 where
-    R: Blocking + Clock + Threads + Copy + Drop + Send + Sync,
+    R: Blocking + time::Clock + Threads + Copy + Drop + Send + Sync,
 {
     let executors = &AtomicU64::new(0);
     let channel = channel::<R, B>(rt, executors, capacity)?;
@@ -76,7 +75,7 @@ where
 // Whether a send blocks.
 fn send_blocks<R, B: RingBuf<Item = u64> + Send + Sync>(rt: &R, capacity: usize) -> Option<bool>
 where
-    R: Blocking + Clock + Threads + Copy + Drop + Send + Sync,
+    R: Blocking + time::Clock + Threads + Copy + Drop + Send + Sync,
 {
     let executors = &AtomicU64::new(0);
     let channel = channel::<R, B>(rt, executors, capacity)?;
@@ -95,26 +94,10 @@ fn sends_block(rt: HostRuntime) {
     assert!(rt; send_blocks::<_, GrowingHeapBuf<u64>>(&rt, 1) == Some(true));
 }
 
-// Whether a send that waits by itself blocks.
-fn send_waits<R>(rt: &R) -> Option<bool>
-where
-    R: Blocking + Clock + Threads + Copy + Drop + Send + Sync,
-{
-    let executors = &AtomicU64::new(0);
-    let counting = &Counting::new(rt, executors);
-    let channel = channel::<R, ArrayBuf<u64, 1>>(rt, executors, 1)?;
-    Some(has_blocked(rt, SendWaits(&channel, counting)) && is_one(executors))
-}
-
-#[test]
-fn a_send_that_waits_blocks(rt: HostRuntime) {
-    assert!(rt; send_waits(&rt) == Some(true));
-}
-
 // Whether a receive of a channel of one value blocks.
 fn receive_one_blocks<R, G: GivesValue<u64> + Send + Sync>(rt: &R) -> bool
 where
-    R: Blocking + Clock + Threads + Copy + Send + Sync,
+    R: Blocking + time::Clock + Threads + Copy + Send + Sync,
 {
     let executors = &AtomicU64::new(0);
     let channel = OneValueChannel::<u64, G, _>::new(rt.alloc(), Counting::new(rt, executors));
@@ -124,7 +107,6 @@ where
 #[test]
 fn receives_of_one_value_block(rt: HostRuntime) {
     assert!(rt; receive_one_blocks::<_, TakesValue>(&rt));
-    assert!(rt; receive_one_blocks::<_, ClonesValue>(&rt));
 }
 
 #[test]
@@ -156,10 +138,22 @@ fn a_wait_for_a_set_event_passes_at_once(rt: HostRuntime) {
     assert!(rt; passes && executors.load(Ordering::SeqCst) == 0);
 }
 
+// A clock that shows what stands in a cell.
+#[derive(Drop)]
+pub(crate) struct Shown<'a> {
+    pub(crate) time: &'a AtomicU64,
+}
+
+impl Clock for Shown<'_> {
+    fn now(&self) -> u64 {
+        self.time.load(Ordering::SeqCst)
+    }
+}
+
 // Whether a wait for an event, with a limit that is far off, blocks.
 fn limit_blocks<'a, R>(rt: &R, time: &'a AtomicU64, executors: &'a AtomicU64) -> bool
 where
-    R: Blocking + Clock + Threads + Copy + Send + Sync,
+    R: Blocking + time::Clock + Threads + Copy + Send + Sync,
 {
     let timer = Counting::new(rt, executors);
     let timer = &TimerService::new(rt.alloc(), timer, Shown { time });
@@ -168,79 +162,59 @@ where
     has_blocked(rt, Limited { timer, event }) && is_one(executors)
 }
 
-// Whether a wait for a moment blocks.
-fn moment_blocks<'a, R>(rt: &R, time: &'a AtomicU64, executors: &'a AtomicU64) -> bool
-where
-    R: Blocking + Clock + Threads + Copy + Send + Sync,
-{
-    let timer = Counting::new(rt, executors);
-    let timer = &TimerService::new(rt.alloc(), timer, Shown { time });
-    let moment = Moment {
-        rt: &Counting::new(rt, executors),
-        time,
-        timer,
-    };
-    has_blocked(rt, moment) && is_one(executors)
-}
-
 #[test]
 fn waits_by_a_timer_block(rt: HostRuntime) {
     assert!(rt; limit_blocks(&rt, &AtomicU64::new(0), &AtomicU64::new(0)));
-    assert!(rt; moment_blocks(&rt, &AtomicU64::new(0), &AtomicU64::new(0)));
 }
 
-fn lock_blocks<R, L: Ledger + Send + Sync>(rt: &R, blank: Blank, is_fair: bool) -> bool
+fn lock_blocks<R, L: Ledger + Send + Sync>(rt: &R, blank: Blank) -> bool
 where
-    R: Blocking + Clock + Threads + Copy + Send + Sync,
+    R: Blocking + time::Clock + Threads + Copy + Send + Sync,
     requires blank { IsLockBlank L.Ledger blank }
 {
     let executors = &AtomicU64::new(0);
     let counting = Counting::new(rt, executors);
-    let mutex = Mutex::<u64, _, L>::new(rt.alloc(), counting, blank, 7, is_fair);
+    let mutex = Mutex::<u64, _, L>::new(rt.alloc(), counting, blank, 7, true);
     has_blocked(rt, &mutex) && is_one(executors)
 }
 
 #[test]
 fn locks_block(rt: HostRuntime) {
-    assert!(rt; lock_blocks::<HostRuntime, Brand>(&rt, Blank::new(1), true));
-    assert!(rt; lock_blocks::<HostRuntime, Brand>(&rt, Blank::new(1), false));
+    assert!(rt; lock_blocks::<HostRuntime, Brand>(&rt, Blank::new(1)));
 }
 
-fn acquire_blocks<R, L: Ledger + Send + Sync>(rt: &R, blank: Blank, is_fair: bool) -> bool
+fn acquire_blocks<R, L: Ledger + Send + Sync>(rt: &R, blank: Blank) -> bool
 where
-    R: Blocking + Clock + Threads + Copy + Send + Sync,
+    R: Blocking + time::Clock + Threads + Copy + Send + Sync,
     requires blank { IsPermitBlank L.Ledger blank }
 {
     let executors = &AtomicU64::new(0);
     let counting = Counting::new(rt, executors);
-    let semaphore = Semaphore::<_, L>::new(rt.alloc(), counting, blank, is_fair, 2);
+    let semaphore = Semaphore::<_, L>::new(rt.alloc(), counting, blank, true, 2);
     has_blocked(rt, &semaphore) && is_one(executors)
 }
 
-fn shared_blocks<R, L: Ledger + Send + Sync>(rt: &R, blank: Blank, is_fair: bool) -> Option<bool>
+fn shared_blocks<R, L: Ledger + Send + Sync>(rt: &R, blank: Blank) -> Option<bool>
 where
-    R: Blocking + Clock + Threads + Copy + Drop + Send + Sync,
+    R: Blocking + time::Clock + Threads + Copy + Drop + Send + Sync,
     requires blank { IsPermitBlank L.Ledger blank }
 {
     let executors = &AtomicU64::new(0);
     let counting = Counting::new(rt, executors);
-    let made = SharedSemaphore::<_, L>::new(rt.alloc(), counting, blank, is_fair, 2);
+    let made = SharedSemaphore::<_, L>::new(rt.alloc(), counting, blank, true, 2);
     let semaphore = made.ok()?;
     Some(has_blocked(rt, &semaphore) && is_one(executors))
 }
 
 #[test]
 fn acquires_block(rt: HostRuntime) {
-    assert!(rt; acquire_blocks::<HostRuntime, Brand>(&rt, Blank::new(u64::MAX), true));
-    assert!(rt; acquire_blocks::<HostRuntime, Brand>(&rt, Blank::new(u64::MAX), false));
+    assert!(rt; acquire_blocks::<HostRuntime, Brand>(&rt, Blank::new(u64::MAX)));
 }
 
 #[test]
 fn acquires_of_owners_block(rt: HostRuntime) {
-    let fair = shared_blocks::<HostRuntime, Brand>(&rt, Blank::new(u64::MAX), true);
-    assert!(rt; fair == Some(true));
-    let unfair = shared_blocks::<HostRuntime, Brand>(&rt, Blank::new(u64::MAX), false);
-    assert!(rt; unfair == Some(true));
+    let blocks = shared_blocks::<HostRuntime, Brand>(&rt, Blank::new(u64::MAX));
+    assert!(rt; blocks == Some(true));
 }
 
 // A runtime without random bytes, so that no executor can be made.

@@ -7,12 +7,41 @@ use futures::test::MockTask;
 use std::alloc::AllocGlobal;
 use std::sync::Wait;
 
+// Whether so many values are accepted.
+fn accepts<R: Wait, B: RingBuf<Item = u64>>(
+    channel: &GenericChannel<u64, B, R>,
+    count: u64,
+) -> bool {
+    for value in 0..count {
+        if channel.try_send(value).is_err() {
+            return false;
+        }
+    }
+    true
+}
+
+// Whether a channel is open and has no value, but room for some.
+fn is_new<R: Wait, B: RingBuf<Item = u64>>(channel: &GenericChannel<u64, B, R>) -> bool {
+    !channel.is_closed() && channel.is_empty() && !channel.is_full()
+}
+
 // Whether a channel counts so many values, and says that it is full.
 fn is_filled<R: Wait, B: RingBuf<Item = u64>>(
     channel: &GenericChannel<u64, B, R>,
     capacity: u64,
 ) -> bool {
-    channel.len() as u64 == capacity && channel.capacity() as u64 == capacity && channel.is_full()
+    let are_counted = channel.len() as u64 == capacity && channel.capacity() as u64 == capacity;
+    are_counted && channel.is_full() && !channel.is_empty()
+}
+
+// Whether a value is refused by a channel that is full, and by one that is closed.
+fn refuses<R: Wait, B: RingBuf<Item = u64>>(channel: &GenericChannel<u64, B, R>) -> bool {
+    let is_full = channel.try_send(9) == Err(TrySendError::Full(9));
+    let is_closed = channel.close().is_newly_closed() && !channel.close().is_newly_closed();
+    is_full
+        && is_closed
+        && channel.is_closed()
+        && channel.try_send(8) == Err(TrySendError::Closed(8))
 }
 
 // Whether a channel has room for so many values, and no more. Once it is closed it says so.
@@ -20,22 +49,10 @@ fn holds<R: Wait, B: RingBuf<Item = u64>>(
     channel: &GenericChannel<u64, B, R>,
     capacity: u64,
 ) -> bool {
-    if channel.is_closed() || !channel.is_empty() || channel.is_full() {
-        return false;
-    }
-    for value in 0..capacity {
-        if channel.try_send(value).is_err() {
-            return false;
-        }
-    }
-    if !is_filled(channel, capacity) || channel.is_empty() {
-        return false;
-    }
-    if !matches!(channel.try_send(9), Err(TrySendError::Full(9))) {
-        return false;
-    }
-    let is_closed = channel.close().is_newly_closed() && !channel.close().is_newly_closed();
-    is_closed && channel.is_closed() && matches!(channel.try_send(8), Err(TrySendError::Closed(8)))
+    is_new(channel)
+        && accepts(channel, capacity)
+        && is_filled(channel, capacity)
+        && refuses(channel)
 }
 
 // Whether a channel over such a buffer can be made with this capacity, and has it.

@@ -9,38 +9,60 @@ use futures::task::Poll;
 use futures::test::MockTask;
 use std::alloc::AllocGlobal;
 use std::marker::Brand;
-use std::process::Abort;
 use std::random::RandomSource;
 use std::sync::Wait;
 use std::sync::ledger::{Blank, Ledger};
 use std::thread;
 use std::thread::Threads;
 
-// Whether this poll ends the future since its semaphore is closed.
-fn ends<R: Wait, L: Ledger>(
-    task: &MockTask,
-    mut acquire: SemaphoreAcquireFuture<'_, R, L>,
-) -> bool {
-    let is_told = matches!(task.poll(&mut acquire), Poll::Ready(Err(Fault::Closed)));
-    is_told && acquire.is_terminated()
+/// A semaphore's futures, without their clauses: the proofs of those who only look at answers stay small.
+trait Permits {
+    type Acquire: Acquires;
+
+    fn begin(&self, permits: usize) -> Option<Self::Acquire>;
+
+    /// Whether the close is its first.
+    fn shut(&self) -> bool;
+}
+
+/// One of them.
+trait Acquires: Drop {
+    fn waits(&mut self, task: &MockTask) -> bool;
+
+    /// Whether this poll ends it since its semaphore is closed.
+    fn ends(&mut self, task: &MockTask) -> bool;
+}
+
+impl<R: Wait, L: Ledger> Acquires for SemaphoreAcquireFuture<'_, R, L> {
+    fn waits(&mut self, task: &MockTask) -> bool {
+        task.poll(self).is_pending()
+    }
+
+    fn ends(&mut self, task: &MockTask) -> bool {
+        matches!(task.poll(self), Poll::Ready(Err(Fault::Closed))) && self.is_terminated()
+    }
+}
+
+impl<'a, R: Wait, L: Ledger> Permits for &'a Semaphore<R, L> {
+    type Acquire = SemaphoreAcquireFuture<'a, R, L>;
+
+    fn begin(&self, permits: usize) -> Option<SemaphoreAcquireFuture<'a, R, L>> {
+        let semaphore = *self;
+        semaphore.acquire(permits).ok()
+    }
+
+    fn shut(&self) -> bool {
+        self.close() == CloseStatus::NewlyClosed
+    }
 }
 
 // Two futures wait for permits that are held. Whether the close wakes both, they end, and so does one that comes later.
-fn all_end<R, L>(rt: &R, semaphore: &Semaphore<R, L>) -> Option<bool>
-where
-    R: Wait + RandomSource + AllocGlobal,
-    L: Ledger,
-{
-    let (first, second) = (MockTask::new(rt).ok()?, MockTask::new(rt).ok()?);
-    let held = semaphore.try_acquire(2)?;
-    let (mut older, mut younger) = (semaphore.acquire(1).ok()?, semaphore.acquire(2).ok()?);
-    let wait = first.poll(&mut older).is_pending() && second.poll(&mut younger).is_pending();
-    let closes = semaphore.close() == CloseStatus::NewlyClosed;
-    let are_woken = first.is_woken() && second.is_woken();
-    let end = ends(&second, younger) && ends(&first, older);
-    drop(held);
-    let comes_late = ends(&first, semaphore.acquire(1).ok()?);
-    Some(wait && closes && are_woken && end && comes_late)
+fn all_end<P: Permits>(permits: &P, first: &MockTask, second: &MockTask) -> Option<bool> {
+    let (mut older, mut younger) = (permits.begin(1)?, permits.begin(2)?);
+    let wait = older.waits(first) && younger.waits(second);
+    let are_woken = permits.shut() && first.is_woken() && second.is_woken();
+    let end = younger.ends(second) && older.ends(first);
+    Some(wait && are_woken && end && permits.begin(1)?.ends(first))
 }
 
 // What a closed semaphore answers.
@@ -57,10 +79,12 @@ where
     L: Ledger,
     requires blank { IsPermitBlank L.Ledger blank }
 {
-    let semaphore = Semaphore::<R, L>::new(rt.alloc(), rt, blank, is_fair, 2);
-    let was_open = !semaphore.is_closed();
-    let end = all_end(&rt, &semaphore)?;
-    Some(was_open && end && has_none(&semaphore))
+    let (first, second) = (MockTask::new(&rt).ok()?, MockTask::new(&rt).ok()?);
+    let semaphore = &Semaphore::<R, L>::new(rt.alloc(), rt, blank, is_fair, 2);
+    let held = semaphore.try_acquire(2)?;
+    let end = !semaphore.is_closed() && all_end(&semaphore, &first, &second)?;
+    drop(held);
+    Some(end && has_none(semaphore))
 }
 
 #[test]
@@ -71,21 +95,16 @@ fn a_close_ends_all_who_wait_or_come(rt: HostRuntime) {
 }
 
 // Two futures that need as many permits as there can be wait. Whether the close wakes the older, and its end the other.
-fn one_tells_the_next<R, L>(rt: &R, semaphore: &Semaphore<R, L>) -> Option<bool>
-where
-    R: Wait + RandomSource + AllocGlobal,
-    L: Ledger,
-{
-    let (first, second) = (MockTask::new(rt).ok()?, MockTask::new(rt).ok()?);
-    let held = semaphore.try_acquire(1)?;
-    let mut older = semaphore.acquire(usize::MAX).ok()?;
-    let mut younger = semaphore.acquire(usize::MAX).ok()?;
-    let wait = first.poll(&mut older).is_pending() && second.poll(&mut younger).is_pending();
-    let closes = semaphore.close() == CloseStatus::NewlyClosed;
-    let is_one_woken = first.is_woken() && !second.is_woken();
-    let end = ends(&first, older) && second.is_woken() && ends(&second, younger);
-    drop(held);
-    Some(wait && closes && is_one_woken && end)
+fn one_tells_the_next<P: Permits>(
+    permits: &P,
+    first: &MockTask,
+    second: &MockTask,
+) -> Option<bool> {
+    let (mut older, mut younger) = (permits.begin(usize::MAX)?, permits.begin(usize::MAX)?);
+    let wait = older.waits(first) && younger.waits(second);
+    let is_one_woken = permits.shut() && first.is_woken() && !second.is_woken();
+    let end = older.ends(first) && second.is_woken() && younger.ends(second);
+    Some(wait && is_one_woken && end)
 }
 
 fn tells<R, L>(rt: R, blank: Blank, is_fair: bool) -> Option<bool>
@@ -94,8 +113,9 @@ where
     L: Ledger,
     requires blank { IsPermitBlank L.Ledger blank }
 {
-    let semaphore = Semaphore::<R, L>::new(rt.alloc(), rt, blank, is_fair, 2);
-    one_tells_the_next(&rt, &semaphore)
+    let (first, second) = (MockTask::new(&rt).ok()?, MockTask::new(&rt).ok()?);
+    let semaphore = &Semaphore::<R, L>::new(rt.alloc(), rt, blank, is_fair, 2);
+    one_tells_the_next(&semaphore, &first, &second)
 }
 
 #[test]
@@ -117,19 +137,19 @@ where
     is_told && is_closed
 }
 
-fn blocked<R, L>(rt: R, blank: Blank)
+fn blocked<R, L>(rt: R, blank: Blank) -> bool
 where
-    R: Blocking + Threads + Abort + Copy + Send + Sync,
+    R: Blocking + Threads + Copy + Send + Sync,
     L: Ledger + Send + Sync,
     requires blank { IsPermitBlank L.Ledger blank }
 {
     let semaphore = Semaphore::<R, L>::new(rt.alloc(), rt, blank, true, 0);
-    assert!(rt; learns(&rt, &semaphore));
+    learns(&rt, &semaphore)
 }
 
 #[test]
 fn a_blocked_thread_learns_of_the_close(rt: HostRuntime) {
-    blocked::<HostRuntime, Brand>(rt, Blank::new(u64::MAX));
+    assert!(rt; blocked::<HostRuntime, Brand>(rt, Blank::new(u64::MAX)));
 }
 
 // A semaphore that its owners share is closed while a permit is held. Whether the other owner sees it, and the permit is still counted by

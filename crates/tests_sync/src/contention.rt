@@ -4,7 +4,6 @@ ghost use Rattle.fi_sync.specs.Blanks.{IsLockBlank, IsPermitBlank};
 use fi_sync::{Blocking, Channel, Mutex, Semaphore};
 use std::alloc::AllocGlobal;
 use std::marker::Brand;
-use std::process::Abort;
 use std::sync::atomic::{AtomicU64, Ordering};
 use std::sync::ledger::{Blank, Ledger};
 use std::thread;
@@ -33,25 +32,28 @@ where
     });
 }
 
-fn locks<R, L>(rt: R, blank: Blank, is_fair: bool)
+// What four threads add up to under the lock.
+fn sum_of_all<R, L>(rt: R, blank: Blank, is_fair: bool) -> Option<u64>
 where
-    R: Blocking + Threads + Abort + Copy + Send + Sync,
+    R: Blocking + Threads + Copy + Drop + Send + Sync,
     L: Ledger + Send + Sync,
     requires blank { IsLockBlank L.Ledger blank }
 {
     let mutex = Mutex::<u64, R, L>::new(rt.alloc(), rt, blank, 0, is_fair);
     add_all(&rt, &mutex);
-    assert!(rt; *mutex.try_lock().expect(&rt, "free") == 4 * ROUNDS);
+    mutex.into_inner()
 }
 
 #[test]
 fn four_threads_lock_fairly(rt: HostRuntime) {
-    locks::<HostRuntime, Brand>(rt, Blank::new(1), true)
+    let sum = sum_of_all::<HostRuntime, Brand>(rt, Blank::new(1), true);
+    assert!(rt; sum == Some(4 * ROUNDS));
 }
 
 #[test]
 fn four_threads_lock_unfairly(rt: HostRuntime) {
-    locks::<HostRuntime, Brand>(rt, Blank::new(1), false)
+    let sum = sum_of_all::<HostRuntime, Brand>(rt, Blank::new(1), false);
+    assert!(rt; sum == Some(4 * ROUNDS));
 }
 
 // Takes two permits and gives them back, in each round. Counts the rounds in which it was granted them.
@@ -75,21 +77,22 @@ where
     });
 }
 
-fn acquires<R, L>(rt: R, blank: Blank)
+// Whether all are granted, and all permits are free then.
+fn are_all_granted<R, L>(rt: R, blank: Blank) -> bool
 where
-    R: Blocking + Threads + Abort + Copy + Send + Sync,
+    R: Blocking + Threads + Copy + Send + Sync,
     L: Ledger + Send + Sync,
     requires blank { IsPermitBlank L.Ledger blank }
 {
     let semaphore = Semaphore::<R, L>::new(rt.alloc(), rt, blank, true, 3);
     let granted = AtomicU64::new(0);
     take_all(&rt, &semaphore, &granted);
-    assert!(rt; granted.load(Ordering::SeqCst) == 4 * ROUNDS && semaphore.permits() == 3);
+    granted.load(Ordering::SeqCst) == 4 * ROUNDS && semaphore.permits() == 3
 }
 
 #[test]
 fn four_threads_acquire(rt: HostRuntime) {
-    acquires::<HostRuntime, Brand>(rt, Blank::new(u64::MAX));
+    assert!(rt; are_all_granted::<HostRuntime, Brand>(rt, Blank::new(u64::MAX)));
 }
 
 // Sends a one in each round.

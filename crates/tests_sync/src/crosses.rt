@@ -1,16 +1,18 @@
-//! What threads share is moved to another thread, and shared by reference; its futures, guards and releasers are moved.
+//! What threads share may be moved to another thread, and shared by reference; its futures, streams, guards and releasers may be moved. It
+//! is enough that a use of each compiles: one body runs there for all futures, and guards and releasers are dropped there in `blocking`.
 ghost use Rattle.fi_sync.specs.Blanks.{IsLockBlank, IsPermitBlank};
 
-use crate::timer::Shown;
-use crate::waited::{Moment, Receives, Sends, has_crossed};
-use fi_parts::buffer::{FixedHeapBuf, RingBuf};
+use fi_channels::{ClonesValue, GivesValue, TakesValue};
+use fi_parts::buffer::{ArrayBuf, FixedHeapBuf, GrowingHeapBuf, RingBuf};
+use fi_parts::{MockClock, StateId};
 use fi_sync::{
-    Blocking, Channel, GenericChannel, ManualResetEvent, Mutex, OneshotBroadcastChannel,
-    OneshotChannel, Semaphore, SharedSemaphore, StateBroadcastChannel, TimerService,
+    Blocking, GenericChannel, ManualResetEvent, Mutex, OneValueChannel, Semaphore, SharedSemaphore,
+    StateBroadcastChannel, TimerService,
 };
+use futures::executor::block_on;
 use std::alloc::AllocGlobal;
 use std::marker::Brand;
-use std::sync::atomic::AtomicU64;
+use std::sync::Wait;
 use std::sync::ledger::{Blank, Ledger};
 use std::thread;
 use std::thread::Threads;
@@ -25,114 +27,154 @@ fn shares<T: Sync>(value: &T) -> &T {
     value
 }
 
+// Both may be moved to another thread, and the first may be shared.
+fn cross<P: Send + Sync, F: Send>(_primitive: &P, _future: &F) -> bool {
+    true
+}
+
+// Whether a wait that is moved to a thread is over once another has set the event.
+fn wait_crosses<R: Blocking + Threads + Copy + Send + Sync>(rt: R) -> Option<bool> {
+    let event = sends(ManualResetEvent::new(rt.alloc(), rt, false));
+    let event = shares(&event);
+    let wait = sends(event.wait().ok()?);
+    let waits = move || matches!(block_on(&rt, wait), Ok(Ok(())));
+    let (is_over, ()) = thread::join(&rt, waits, move || event.set());
+    Some(is_over)
+}
+
 #[test]
 fn crosses_threads(rt: HostRuntime) {
-    let event = sends(ManualResetEvent::new(rt.alloc(), rt, false));
-    assert!(rt; has_crossed(&rt, shares(&event)));
+    assert!(rt; wait_crosses(rt) == Some(true));
+}
+
+fn receive_of_one_crosses<R, G: GivesValue<u64> + Send + Sync>(rt: R) -> Option<bool>
+where
+    R: Wait + Copy + AllocGlobal + Send + Sync,
+{
+    let channel = OneValueChannel::<u64, G, R>::new(rt.alloc(), rt);
+    let receive = channel.receive().ok()?;
+    Some(cross(&channel, &receive))
 }
 
 #[test]
 fn oneshot_crosses_threads(rt: HostRuntime) {
-    let channel = sends(OneshotChannel::<u64, _>::new(rt.alloc(), rt));
-    assert!(rt; has_crossed(&rt, shares(&channel)));
+    assert!(rt; receive_of_one_crosses::<HostRuntime, TakesValue>(rt) == Some(true));
 }
 
 #[test]
 fn oneshot_broadcast_crosses_threads(rt: HostRuntime) {
-    let channel = sends(OneshotBroadcastChannel::<u64, _>::new(rt.alloc(), rt));
-    assert!(rt; has_crossed(&rt, shares(&channel)));
+    assert!(rt; receive_of_one_crosses::<HostRuntime, ClonesValue>(rt) == Some(true));
+}
+
+fn receive_of_a_state_crosses<R>(rt: R) -> Option<bool>
+where
+    R: Wait + Copy + AllocGlobal + Send + Sync,
+{
+    let channel = StateBroadcastChannel::<u64, R>::new(rt.alloc(), rt);
+    let receive = channel.receive(StateId::new()).ok()?;
+    let is_closed = channel.close().is_newly_closed() && channel.is_closed();
+    Some(is_closed && cross(&channel, &receive))
 }
 
 #[test]
 fn state_crosses_threads(rt: HostRuntime) {
-    let channel = sends(StateBroadcastChannel::<u64, _>::new(rt.alloc(), rt));
-    assert!(rt; has_crossed(&rt, shares(&channel)));
-    assert!(rt; channel.close().is_newly_closed() && channel.is_closed());
+    assert!(rt; receive_of_a_state_crosses(rt) == Some(true));
 }
 
-// Whether a receive and a send that are moved to a thread end there.
-fn channel_crosses<R, B>(rt: &R, channel: &GenericChannel<u64, B, R>) -> bool
+fn receive_crosses<R, B: RingBuf<Item = u64> + Send + Sync>(rt: R) -> Option<bool>
 where
-    R: Blocking + Threads + Copy + Drop + Send + Sync,
-    B: RingBuf<Item = u64> + Send + Sync,
+    R: Wait + Copy + Drop + AllocGlobal + Send + Sync,
 {
-    has_crossed(rt, Receives(channel)) && has_crossed(rt, Sends(channel))
+    let channel = GenericChannel::<u64, B, R>::with_capacity(rt.alloc(), rt, 1).ok()?;
+    let receive = channel.receive().ok()?;
+    Some(cross(&channel, &receive))
+}
+
+fn send_crosses<R, B: RingBuf<Item = u64> + Send + Sync>(rt: R) -> Option<bool>
+where
+    R: Wait + Copy + Drop + AllocGlobal + Send + Sync,
+{
+    let channel = GenericChannel::<u64, B, R>::with_capacity(rt.alloc(), rt, 1).ok()?;
+    let send = channel.send(7).ok()?;
+    Some(cross(&channel, &send))
+}
+
+fn stream_crosses<R, B: RingBuf<Item = u64> + Send + Sync>(rt: R) -> Option<bool>
+where
+    R: Wait + Copy + Drop + AllocGlobal + Send + Sync,
+{
+    let channel = GenericChannel::<u64, B, R>::with_capacity(rt.alloc(), rt, 1).ok()?;
+    let stream = channel.stream().ok()?;
+    Some(cross(&channel, &stream))
 }
 
 #[test]
 fn channel_crosses_threads(rt: HostRuntime) {
-    let channel = sends(Channel::<u64, 1, _>::new(rt.alloc(), rt));
-    assert!(rt; channel_crosses(&rt, shares(&channel)));
+    let receive = receive_crosses::<HostRuntime, ArrayBuf<u64, 1>>(rt);
+    assert!(rt; receive == Some(true) && send_crosses::<_, ArrayBuf<u64, 1>>(rt) == Some(true));
 }
 
 #[test]
 fn heap_channel_crosses_threads(rt: HostRuntime) {
-    let made = GenericChannel::<u64, FixedHeapBuf<u64>, _>::with_capacity(rt.alloc(), rt, 1);
-    let channel = sends(made.ok().expect(&rt, "memory"));
-    assert!(rt; channel_crosses(&rt, shares(&channel)));
-}
-
-// Whether a stream that is moved to another thread goes on there.
-fn stream_crosses<R: Blocking + Threads + Copy + Send + Sync>(rt: R) -> Option<bool> {
-    let channel = Channel::<u64, 1, R>::new(rt.alloc(), rt);
-    let stream = sends(channel.stream().ok()?);
-    let (is_open, ()) = thread::join(&rt, move || !stream.is_terminated(), || ());
-    Some(is_open)
+    let fixed = receive_crosses::<HostRuntime, FixedHeapBuf<u64>>(rt);
+    assert!(rt; fixed == Some(true) && receive_crosses::<_, GrowingHeapBuf<u64>>(rt) == Some(true));
 }
 
 #[test]
 fn stream_crosses_threads(rt: HostRuntime) {
-    assert!(rt; stream_crosses(rt) == Some(true));
+    assert!(rt; stream_crosses::<HostRuntime, ArrayBuf<u64, 1>>(rt) == Some(true));
+}
+
+fn moment_crosses<R: Wait + Copy + AllocGlobal + Send + Sync>(rt: R) -> Option<bool> {
+    let timer = TimerService::new(rt.alloc(), rt, MockClock::new());
+    let moment = timer.deadline(7).ok()?;
+    Some(cross(&timer, &moment))
 }
 
 #[test]
 fn timer_crosses_threads(rt: HostRuntime) {
-    let time = &AtomicU64::new(0);
-    let timer = sends(TimerService::new(rt.alloc(), rt, Shown { time }));
-    let moment = Moment {
-        rt: &rt,
-        time,
-        timer: shares(&timer),
-    };
-    assert!(rt; has_crossed(&rt, moment));
+    assert!(rt; moment_crosses(rt) == Some(true));
 }
 
-fn lock_crosses<R, L: Ledger + Send + Sync>(rt: R, blank: Blank) -> bool
+fn lock_crosses<R, L: Ledger + Send + Sync>(rt: R, blank: Blank) -> Option<bool>
 where
-    R: Blocking + Threads + Copy + Send + Sync,
+    R: Wait + Copy + AllocGlobal + Send + Sync,
     requires blank { IsLockBlank L.Ledger blank }
 {
-    let mutex = sends(Mutex::<u64, R, L>::new(rt.alloc(), rt, blank, 7, true));
-    has_crossed(&rt, shares(&mutex))
+    let mutex = Mutex::<u64, R, L>::new(rt.alloc(), rt, blank, 7, true);
+    let lock = mutex.lock().ok()?;
+    Some(cross(&mutex, &lock))
 }
 
 #[test]
 fn mutex_crosses_threads(rt: HostRuntime) {
-    assert!(rt; lock_crosses::<HostRuntime, Brand>(rt, Blank::new(1)));
+    assert!(rt; lock_crosses::<HostRuntime, Brand>(rt, Blank::new(1)) == Some(true));
 }
 
-fn acquire_crosses<R, L: Ledger + Send + Sync>(rt: R, blank: Blank) -> bool
+fn acquire_crosses<R, L: Ledger + Send + Sync>(rt: R, blank: Blank) -> Option<bool>
 where
-    R: Blocking + Threads + Copy + Send + Sync,
+    R: Wait + Copy + AllocGlobal + Send + Sync,
     requires blank { IsPermitBlank L.Ledger blank }
 {
-    let semaphore = sends(Semaphore::<R, L>::new(rt.alloc(), rt, blank, true, 2));
-    has_crossed(&rt, shares(&semaphore))
+    let semaphore = Semaphore::<R, L>::new(rt.alloc(), rt, blank, true, 2);
+    let acquire = semaphore.acquire(1).ok()?;
+    Some(cross(&semaphore, &acquire))
 }
 
 #[test]
 fn semaphore_crosses_threads(rt: HostRuntime) {
-    assert!(rt; acquire_crosses::<HostRuntime, Brand>(rt, Blank::new(u64::MAX)));
+    let crosses = acquire_crosses::<HostRuntime, Brand>(rt, Blank::new(u64::MAX));
+    assert!(rt; crosses == Some(true));
 }
 
 fn shared_crosses<R, L: Ledger + Send + Sync>(rt: R, blank: Blank) -> Option<bool>
 where
-    R: Blocking + Threads + Copy + Drop + Send + Sync,
+    R: Wait + Copy + Drop + AllocGlobal + Send + Sync,
     requires blank { IsPermitBlank L.Ledger blank }
 {
-    let semaphore = SharedSemaphore::<R, L>::new(rt.alloc(), rt, blank, true, 2);
-    let semaphore = sends(semaphore.ok()?);
-    Some(has_crossed(&rt, shares(&semaphore)))
+    let semaphore = SharedSemaphore::<R, L>::new(rt.alloc(), rt, blank, true, 2).ok()?;
+    let acquire = semaphore.acquire(1).ok()?;
+    Some(cross(&semaphore, &acquire))
 }
 
 #[test]

@@ -2,7 +2,8 @@
 //! dropped with no lock taken.
 
 use fi_parts::StateId;
-use fi_sync::{Blocking, Channel, StateBroadcastChannel, StateReceiveFuture};
+use fi_parts::buffer::RingBuf;
+use fi_sync::{Blocking, Channel, GenericChannel, StateBroadcastChannel, StateReceiveFuture};
 use futures::test::MockTask;
 use std::alloc::{AllocError, AllocGlobal};
 use std::sync::Wait;
@@ -13,7 +14,7 @@ use tests_help::meeting::{Guest, Meeting};
 /// What lets a value go, or clones it.
 trait Begins {
     /// Whether it was answered as it should be.
-    fn begin(&self) -> bool;
+    fn begin(self) -> bool;
 }
 
 /// What another thread calls meanwhile.
@@ -22,10 +23,10 @@ trait Calls {
 }
 
 // Whether the call came to its end meanwhile.
-fn have_met<R, B, C>(rt: &R, meeting: &Meeting, begins: &B, calls: C) -> bool
+fn have_met<R, B, C>(rt: &R, meeting: &Meeting, begins: B, calls: C) -> bool
 where
     R: Wait + Threads,
-    B: Begins + Sync,
+    B: Begins + Drop + Send,
     C: Calls + Drop + Send,
 {
     let other = move || {
@@ -37,15 +38,17 @@ where
     is_right && meeting.was_met()
 }
 
-/// The replacement of a state.
+/// The replacement of a state by this one.
 #[derive(Drop)]
-struct Replaces<'a, 'b, R> {
-    channel: &'a StateBroadcastChannel<Guest<'b>, R>,
+struct Replaces<'a, T: Clone, R> {
+    channel: &'a StateBroadcastChannel<T, R>,
+    next: T,
 }
 
-impl<R: Wait> Begins for Replaces<'_, '_, R> {
-    fn begin(&self) -> bool {
-        self.channel.send(Guest { meeting: None }).is_ok()
+impl<T: Clone, R: Wait> Begins for Replaces<'_, T, R> {
+    fn begin(self) -> bool {
+        let Replaces { channel, next } = self;
+        channel.send(next).is_ok()
     }
 }
 
@@ -53,7 +56,7 @@ impl<R: Wait> Begins for Replaces<'_, '_, R> {
 #[derive(Drop)]
 struct Closes<C>(C);
 
-impl<R: Wait> Calls for Closes<&StateBroadcastChannel<Guest<'_>, R>> {
+impl<T: Clone, R: Wait> Calls for Closes<&StateBroadcastChannel<T, R>> {
     fn call(self) {
         let _ = self.0.close();
     }
@@ -66,8 +69,9 @@ fn is_replaced<R: Wait + Threads + AllocGlobal + Copy + Send + Sync>(rt: R) -> b
     let first = Guest {
         meeting: Some(meeting),
     };
+    let next = Guest { meeting: None };
     let is_sent = channel.send(first).is_ok();
-    is_sent && have_met(&rt, meeting, &Replaces { channel }, Closes(channel))
+    is_sent && have_met(&rt, meeting, Replaces { channel, next }, Closes(channel))
 }
 
 #[test]
@@ -75,23 +79,21 @@ fn a_replaced_state_is_let_go_without_the_lock(rt: HostRuntime) {
     assert!(rt; is_replaced(rt));
 }
 
-/// A send that is dropped before its first poll.
+/// A send of this value that is dropped before its first poll.
 #[derive(Drop)]
-struct Unsent<'a, 'b, R> {
-    meeting: &'b Meeting,
-    channel: &'a Channel<Guest<'b>, 1, R>,
+struct Unsent<'a, T: Drop, B: RingBuf<Item = T>, R> {
+    channel: &'a GenericChannel<T, B, R>,
+    value: T,
 }
 
-impl<R: Wait> Begins for Unsent<'_, '_, R> {
-    fn begin(&self) -> bool {
-        let guest = Guest {
-            meeting: Some(self.meeting),
-        };
-        self.channel.send(guest).is_ok()
+impl<T: Drop, B: RingBuf<Item = T>, R: Wait> Begins for Unsent<'_, T, B, R> {
+    fn begin(self) -> bool {
+        let Unsent { channel, value } = self;
+        channel.send(value).is_ok()
     }
 }
 
-impl<R: Wait> Calls for Closes<&Channel<Guest<'_>, 1, R>> {
+impl<T: Drop, B: RingBuf<Item = T>, R: Wait> Calls for Closes<&GenericChannel<T, B, R>> {
     fn call(self) {
         let _ = self.0.close();
     }
@@ -100,8 +102,11 @@ impl<R: Wait> Calls for Closes<&Channel<Guest<'_>, 1, R>> {
 // The value of a send that is dropped is let go while another thread closes the channel.
 fn is_unsent<R: Wait + Threads + AllocGlobal + Copy + Send + Sync>(rt: R) -> bool {
     let meeting = &Meeting::new();
-    let channel = &Channel::new(rt.alloc(), rt);
-    have_met(&rt, meeting, &Unsent { meeting, channel }, Closes(channel))
+    let channel = &Channel::<Guest<'_>, 1, R>::new(rt.alloc(), rt);
+    let value = Guest {
+        meeting: Some(meeting),
+    };
+    have_met(&rt, meeting, Unsent { channel, value }, Closes(channel))
 }
 
 #[test]
@@ -126,13 +131,11 @@ impl Clone for Host<'_> {
 
 /// A clone of a state.
 #[derive(Drop)]
-struct Clones<'a, 'b, R> {
-    channel: &'a StateBroadcastChannel<Host<'b>, R>,
-}
+struct Clones<'a, T: Clone, R>(&'a StateBroadcastChannel<T, R>);
 
-impl<R: Wait> Begins for Clones<'_, '_, R> {
-    fn begin(&self) -> bool {
-        matches!(self.channel.try_receive(StateId::new()), Ok(Some(_)))
+impl<T: Clone, R: Wait> Begins for Clones<'_, T, R> {
+    fn begin(self) -> bool {
+        matches!(self.0.try_receive(StateId::new()), Ok(Some(_)))
     }
 }
 
@@ -146,29 +149,33 @@ impl<F: Drop> Calls for Drops<F> {
     }
 }
 
-// A receive that has ended.
-fn ended<'a, 'b, R: Wait>(
-    channel: &'a StateBroadcastChannel<Host<'b>, R>,
+// Whether this becomes the channel's state.
+fn is_sent<T: Clone, R: Wait>(channel: &StateBroadcastChannel<T, R>, state: T) -> bool {
+    channel.send(state).is_ok()
+}
+
+// A receive that has ended, on a channel that has a state.
+fn ended<'a, T: Clone, R: Wait>(
+    channel: &'a StateBroadcastChannel<T, R>,
     task: &MockTask,
-) -> Option<StateReceiveFuture<'a, Host<'b>, R>> {
-    channel.send(Host { meeting: None }).ok()?;
+) -> Option<StateReceiveFuture<'a, T, R>> {
     let mut receive = channel.receive(StateId::new()).ok()?;
     task.poll(&mut receive).is_ready().then_some(receive)
 }
 
 // A receive that has ended is dropped while another thread clones the state, for which it holds the lock.
-fn is_dropped<'a, 'b, R: Blocking + Threads + Send + Sync>(
+fn is_dropped<'a, R: Blocking + Threads + Send + Sync>(
     rt: &R,
-    meeting: &'b Meeting,
-    channel: &'a StateBroadcastChannel<Host<'b>, R>,
+    meeting: &'a Meeting,
+    channel: &StateBroadcastChannel<Host<'a>, R>,
 ) -> Option<bool> {
-    let task = MockTask::new(rt).ok()?;
-    let receive = ended(channel, &task)?;
+    let is_first_sent = is_sent(channel, Host { meeting: None });
+    let receive = ended(channel, &MockTask::new(rt).ok()?)?;
     let host = Host {
         meeting: Some(meeting),
     };
-    channel.send(host).ok()?;
-    Some(have_met(rt, meeting, &Clones { channel }, Drops(receive)))
+    let are_sent = is_first_sent && is_sent(channel, host);
+    Some(are_sent && have_met(rt, meeting, Clones(channel), Drops(receive)))
 }
 
 #[test]

@@ -26,6 +26,4 @@ mod owned;
 #[cfg(test)]
 mod shared_semaphore;
 #[cfg(test)]
-mod timer;
-#[cfg(test)]
 mod waited;

@@ -42,21 +42,20 @@ fn outlives<R: Wait + Drop + Copy, L: Ledger>(
     Some(is_one_free && other.permits() == 2)
 }
 
-// What a semaphore of two permits and this fairness does.
-fn shared<R, L>(rt: R, blank: Blank, is_fair: bool) -> Option<bool>
+// What a semaphore of two permits does.
+fn shared<R, L>(rt: R, blank: Blank) -> Option<bool>
 where
     R: Wait + Drop + Copy + RandomSource + AllocGlobal,
     L: Ledger,
     requires blank { IsPermitBlank L.Ledger blank }
 {
     let task = MockTask::new(&rt).ok()?;
-    let semaphore = SharedSemaphore::<R, L>::new(rt.alloc(), rt, blank, is_fair, 2);
+    let semaphore = SharedSemaphore::<R, L>::new(rt.alloc(), rt, blank, true, 2);
     outlives(&task, semaphore.ok()?)
 }
 
 #[test]
 fn shared_semaphore_outlives_its_owner(rt: HostRuntime) {
-    let fair = shared::<HostRuntime, Brand>(rt, Blank::new(u64::MAX), true);
-    let unfair = shared::<HostRuntime, Brand>(rt, Blank::new(u64::MAX), false);
-    assert!(rt; fair == Some(true) && unfair == Some(true));
+    let outlives = shared::<HostRuntime, Brand>(rt, Blank::new(u64::MAX));
+    assert!(rt; outlives == Some(true));
 }

@@ -1,8 +1,5 @@
 //! What a thread waits for, and what another thread does then.
 
-use fi_sync::Blocking;
-use futures::Future;
-use futures::executor::block_on;
 use std::alloc::{Alloc, AllocGlobal, Global};
 use std::random::RandomSource;
 use std::sync::Wait;
@@ -16,10 +13,10 @@ mod channels;
 mod locks;
 mod signals;
 
-pub(crate) use channels::{Receives, SendWaits, Sends};
-pub(crate) use signals::{Limited, Moment};
+pub(crate) use channels::{Receives, Sends};
+pub(crate) use signals::Limited;
 
-/// What another thread brings about.
+/// A call that blocks until another thread has brought about what it waits for.
 pub(crate) trait Waited {
     /// What that thread needs for it: a guard, a releaser, or nothing.
     type Means;
@@ -27,54 +24,17 @@ pub(crate) trait Waited {
     /// Takes what stands in the way of the wait.
     fn hold(&self) -> Option<Self::Means>;
 
-    fn bring(&self, means: Self::Means);
-}
-
-/// A call that blocks until then.
-pub(crate) trait Blocks: Waited {
     /// Makes the call. Answers whether it is given what it should be.
     fn blocks(&self) -> bool;
-}
 
-/// A future that is ready then.
-pub(crate) trait Crosses: Waited {
-    type Future;
-
-    fn future(&self) -> Option<Self::Future>;
-
-    /// Whether an executor is given what it should be.
-    fn is_given<R: Blocking>(&self, rt: &R, future: Self::Future) -> bool;
-}
-
-// What an executor is given by this future. None where no executor can be made. No clause says more, which keeps the proofs of those who
-// look at it small.
-fn given<R: Blocking, F: Future>(rt: &R, future: F) -> Option<F::Output>
-    requires { F.can_poll future }
-{
-    block_on(rt, future).ok()
-}
-
-/// Whether a future that is moved to a thread is ready once another has brought about what it waits for.
-pub(crate) fn has_crossed<R, W>(rt: &R, waited: W) -> bool
-where
-    R: Blocking + Threads + Sync,
-    W: Crosses + Copy + Send,
-    W::Means: Drop + Send,
-    W::Future: Drop + Send,
-{
-    let (Some(means), Some(future)) = (waited.hold(), waited.future()) else {
-        return false;
-    };
-    let waits = move || waited.is_given(rt, future);
-    let (is_given, ()) = thread::join(rt, waits, move || waited.bring(means));
-    is_given
+    fn bring(&self, means: Self::Means);
 }
 
 /// Whether a call blocks until another thread has brought about what it waits for, 20 milliseconds after the call has begun.
 pub(crate) fn has_blocked<R, W>(rt: &R, waited: W) -> bool
 where
     R: Clock + Threads + Sync,
-    W: Blocks + Copy + Send,
+    W: Waited + Copy + Send,
     W::Means: Drop + Send,
 {
     let Some(means) = waited.hold() else {

@@ -1,10 +1,7 @@
 //! How often tasks are polled. A poll that is ready makes no waker, whose drop would have its task polled once more.
-ghost use Rattle.fi_sync.specs.Blanks.{IsLockBlank, IsPermitBlank};
+ghost use Rattle.fi_sync.specs.Blanks.{IsPermitBlank};
 
-use fi_parts::MockClock;
-use fi_sync::{
-    Blocking, Channel, ManualResetEvent, Mutex, Semaphore, TimerService, WaitForEventFuture,
-};
+use fi_sync::{Blocking, ManualResetEvent, Semaphore, SemaphoreAcquireFuture, WaitForEventFuture};
 use futures::Future;
 use futures::task::Poll;
 use futures::test::MockTask;
@@ -25,124 +22,72 @@ where
     is_ready && !task.is_woken()
 }
 
-/// What makes futures that are ready at once.
-trait Ready {
-    /// Makes some, and answers whether they are ready in peace.
-    fn are_ready(&self, task: &MockTask) -> bool;
-}
-
-impl<R: Wait> Ready for ManualResetEvent<R> {
-    fn are_ready(&self, task: &MockTask) -> bool {
-        match self.wait() {
-            Ok(wait) => is_ready_in_peace(task, wait),
-            Err(_) => false,
-        }
-    }
-}
-
-// Whether a send is accepted in peace.
-fn is_sent<R: Wait>(channel: &Channel<u64, 1, R>, task: &MockTask) -> bool {
-    match channel.send(5) {
-        Ok(send) => is_ready_in_peace(task, send),
-        Err(_) => false,
-    }
-}
-
-impl<R: Wait> Ready for Channel<u64, 1, R> {
-    fn are_ready(&self, task: &MockTask) -> bool {
-        if !is_sent(self, task) {
-            return false;
-        }
-        match self.receive() {
-            Ok(receive) => is_ready_in_peace(task, receive),
-            Err(_) => false,
-        }
-    }
-}
-
-impl<R: Wait> Ready for TimerService<MockClock, R> {
-    fn are_ready(&self, task: &MockTask) -> bool {
-        match self.deadline(0) {
-            Ok(deadline) => is_ready_in_peace(task, deadline),
-            Err(_) => false,
-        }
-    }
-}
-
-impl<R: Wait, L: Ledger> Ready for Mutex<u64, R, L> {
-    fn are_ready(&self, task: &MockTask) -> bool {
-        match self.lock() {
-            Ok(lock) => is_ready_in_peace(task, lock),
-            Err(_) => false,
-        }
-    }
-}
-
-// Whether the futures of a thousand makings are ready in peace.
-fn wake_nobody<R: Blocking, M: Ready>(rt: &R, makes: &M) -> Option<bool> {
+// Whether a thousand waits for a set event are ready in peace.
+fn wake_nobody<R: Blocking>(rt: &R, event: &ManualResetEvent<R>) -> Option<bool> {
     let task = MockTask::new(rt).ok()?;
     for _ in 0..1_000u64 {
-        if !makes.are_ready(&task) {
+        if !is_ready_in_peace(&task, event.wait().ok()?) {
             return Some(false);
         }
     }
     Some(true)
 }
 
+// One body makes a waker for every primitive's poll: where it has to wait.
 #[test]
 fn ready_waits_wake_nobody(rt: HostRuntime) {
     let event = ManualResetEvent::new(rt.alloc(), rt, true);
     assert!(rt; wake_nobody(&rt, &event) == Some(true));
 }
 
-#[test]
-fn ready_sends_and_receives_wake_nobody(rt: HostRuntime) {
-    let channel = Channel::<u64, 1, HostRuntime>::new(rt.alloc(), rt);
-    assert!(rt; wake_nobody(&rt, &channel) == Some(true));
+/// A semaphore's futures, without their clauses: the proofs of those who only look at answers stay small.
+trait Permits {
+    type Acquire: Acquires;
+
+    fn begin(&self) -> Option<Self::Acquire>;
+
+    fn add_one(&self) -> bool;
 }
 
-#[test]
-fn ready_deadlines_wake_nobody(rt: HostRuntime) {
-    let timer = TimerService::new(rt.alloc(), rt, MockClock::new());
-    assert!(rt; wake_nobody(&rt, &timer) == Some(true));
+/// One of them, which needs one permit.
+trait Acquires: Drop {
+    fn is_granted(&mut self, task: &MockTask) -> bool;
 }
 
-fn lock_in_peace<R: Blocking + Copy, L: Ledger>(rt: R, blank: Blank) -> Option<bool>
-    requires blank { IsLockBlank L.Ledger blank }
-{
-    let mutex = Mutex::<u64, R, L>::new(rt.alloc(), rt, blank, 7, false);
-    wake_nobody(&rt, &mutex)
+impl<R: Wait, L: Ledger> Acquires for SemaphoreAcquireFuture<'_, R, L> {
+    fn is_granted(&mut self, task: &MockTask) -> bool {
+        task.poll(self).is_ready()
+    }
 }
 
-#[test]
-fn ready_locks_wake_nobody(rt: HostRuntime) {
-    assert!(rt; lock_in_peace::<HostRuntime, Brand>(rt, Blank::new(1)) == Some(true));
+impl<'a, R: Wait, L: Ledger> Permits for &'a Semaphore<R, L> {
+    type Acquire = SemaphoreAcquireFuture<'a, R, L>;
+
+    fn begin(&self) -> Option<SemaphoreAcquireFuture<'a, R, L>> {
+        let semaphore = *self;
+        semaphore.acquire(1).ok()
+    }
+
+    fn add_one(&self) -> bool {
+        self.release(1).is_ok()
+    }
 }
 
 // Whether an acquire that is granted while it is registered wakes nobody while it lives: it has two wakers of its own task then.
 // Another that waits before it is told; the semaphore isn't fair.
-fn overtakes_in_peace<R: Wait, L: Ledger>(
-    semaphore: &Semaphore<R, L>,
-    task: &MockTask,
-    other: &MockTask,
-) -> Option<bool> {
-    let mut first = semaphore.acquire(1).ok()?;
-    let mut second = semaphore.acquire(1).ok()?;
-    let mut waited = other.poll(&mut first).is_pending();
-    for _ in 0..2 {
-        waited = task.poll(&mut second).is_pending() && waited;
-    }
-    let is_released = semaphore.release(1).is_ok();
-    let is_granted = task.poll(&mut second).is_ready();
-    Some(waited && is_released && is_granted && !task.is_woken())
+fn overtakes_in_peace<P: Permits>(permits: &P, task: &MockTask, other: &MockTask) -> Option<bool> {
+    let (mut first, mut second) = (permits.begin()?, permits.begin()?);
+    let waits = !first.is_granted(other);
+    let second_waits = !second.is_granted(task) && !second.is_granted(task);
+    let is_granted = permits.add_one() && second.is_granted(task);
+    Some(waits && second_waits && is_granted && !task.is_woken())
 }
 
 fn acquire_in_peace<R: Blocking + Copy, L: Ledger>(rt: R, blank: Blank) -> Option<bool>
     requires blank { IsPermitBlank L.Ledger blank }
 {
-    let task = MockTask::new(&rt).ok()?;
-    let other = MockTask::new(&rt).ok()?;
-    let semaphore = Semaphore::<R, L>::new(rt.alloc(), rt, blank, false, 0);
+    let (task, other) = (MockTask::new(&rt).ok()?, MockTask::new(&rt).ok()?);
+    let semaphore = &Semaphore::<R, L>::new(rt.alloc(), rt, blank, false, 0);
     overtakes_in_peace(&semaphore, &task, &other)
 }
 

@@ -3,7 +3,6 @@
 use fi_parts::{Clock, Fault, StdClock};
 use fi_sync::{Blocking, ManualResetEvent, TimerFuture, TimerService, wait_for};
 use futures::test::MockTask;
-use std::process::Abort;
 use std::sync::atomic::{AtomicU64, Ordering};
 use std::thread::Threads;
 use std::time::Duration;
@@ -71,27 +70,23 @@ where
     });
 }
 
-// Each of a thousand is woken at its moment or later, none is lost, and the timer's thread sleeps in between.
-fn runs<R>(rt: R)
+// Whether each of a thousand is woken at its moment or later, none is lost, and the timer's thread sleeps in between.
+fn runs<R>(rt: R) -> Option<bool>
 where
-    R: Blocking + Threads + Abort + time::Clock + Drop + Copy + Send + Sync,
+    R: Blocking + Threads + time::Clock + Drop + Copy + Send + Sync,
 {
-    let clock = StdClock::new(rt).ok().expect(&rt, "a clock");
-    let (readings, reached) = (AtomicU64::new(0), AtomicU64::new(0));
-    let counted = Counted {
-        clock: &clock,
-        readings: &readings,
-    };
-    let timer = TimerService::new(rt.alloc(), rt, counted);
+    let clock = &StdClock::new(rt).ok()?;
+    let (readings, reached) = (&AtomicU64::new(0), &AtomicU64::new(0));
+    let timer = TimerService::new(rt.alloc(), rt, Counted { clock, readings });
     let is_over = ManualResetEvent::new(rt.alloc(), rt, false);
-    wait_by_three(&rt, &timer, &clock, &is_over, &reached);
-    assert_eq!(rt; reached.load(Ordering::SeqCst), 1000);
-    assert!(rt; readings.load(Ordering::SeqCst) < 10_000 && timer.next_expiration().is_none());
+    wait_by_three(&rt, &timer, clock, &is_over, reached);
+    let are_right = reached.load(Ordering::SeqCst) == 1000 && timer.next_expiration().is_none();
+    Some(are_right && readings.load(Ordering::SeqCst) < 10_000)
 }
 
 #[test]
 fn timer_runs(rt: HostRuntime) {
-    runs(rt);
+    assert!(rt; runs(rt) == Some(true));
 }
 
 // Polls a wait for this moment once. None if it is ready, or can't be made.
@@ -209,78 +204,57 @@ where
     are_roused && ran
 }
 
-fn rouses<R>(rt: R) -> bool
+fn rouses<R>(rt: R) -> Option<bool>
 where
     R: Blocking + Threads + time::Clock + Drop + Copy + Send + Sync,
 {
-    let (Ok(clock), Ok(task)) = (StdClock::new(rt), MockTask::new(&rt)) else {
-        return false;
-    };
-    let readings = AtomicU64::new(0);
-    let counted = Counted {
-        clock: &clock,
-        readings: &readings,
-    };
-    let timer = TimerService::new(rt.alloc(), rt, counted);
+    let (clock, task) = (&StdClock::new(rt).ok()?, MockTask::new(&rt).ok()?);
+    let readings = &AtomicU64::new(0);
+    let timer = TimerService::new(rt.alloc(), rt, Counted { clock, readings });
     let is_over = ManualResetEvent::new(rt.alloc(), rt, false);
-    waits_beside_a_runner(&rt, &timer, &clock, &readings, &is_over, &task)
+    Some(waits_beside_a_runner(&rt, &timer, clock, readings, &is_over, &task))
 }
 
 // A future that comes to wait for a moment before the runner's next check rouses the runner, whatever was called before.
 #[test]
 fn an_earlier_moment_rouses_the_runner(rt: HostRuntime) {
-    assert!(rt; rouses(rt));
+    assert!(rt; rouses(rt) == Some(true));
 }
 
 // A call that waits three times is made beside a thread that runs the timer, and one that gives up ends that thread too.
-fn runs_beside_calls<R>(rt: R)
+fn runs_beside_calls<R>(rt: R) -> Option<bool>
 where
-    R: Blocking + Threads + Abort + time::Clock + Drop + Copy + Send + Sync,
+    R: Blocking + Threads + time::Clock + Drop + Copy + Send + Sync,
 {
-    let clock = StdClock::new(rt).ok().expect(&rt, "a clock");
-    let readings = AtomicU64::new(0);
-    let counted = Counted {
-        clock: &clock,
-        readings: &readings,
-    };
-    let timer = TimerService::new(rt.alloc(), rt, counted);
-    let reached = timer.while_running(&rt, |timer| wait_often(&rt, timer, &clock, 3, 5));
-    assert!(rt; reached == Ok(3));
+    let clock = &StdClock::new(rt).ok()?;
+    let readings = &AtomicU64::new(0);
+    let timer = TimerService::new(rt.alloc(), rt, Counted { clock, readings });
+    let reached = timer.while_running(&rt, |timer| wait_often(&rt, timer, clock, 3, 5));
     let gave_up = timer.while_running(&rt, |_timer| -> Result<u64, Fault> { Err(Fault::NotHeld) });
-    assert!(rt; gave_up == Ok(Err(Fault::NotHeld)));
+    Some(reached == Ok(3) && gave_up == Ok(Err(Fault::NotHeld)))
 }
 
 #[test]
 fn timer_runs_while_a_call_is_made(rt: HostRuntime) {
-    runs_beside_calls(rt);
+    assert!(rt; runs_beside_calls(rt) == Some(true));
 }
 
 // A thread that stops running the timer answers the least expiry that it leaves behind.
-fn leaves_behind<R>(rt: R) -> bool
+fn leaves_behind<R>(rt: R) -> Option<bool>
 where
     R: Blocking + time::Clock + Drop + Copy,
 {
-    let (Ok(clock), Ok(task)) = (StdClock::new(rt), MockTask::new(&rt)) else {
-        return false;
-    };
-    let readings = AtomicU64::new(0);
-    let counted = Counted {
-        clock: &clock,
-        readings: &readings,
-    };
-    let timer = TimerService::new(rt.alloc(), rt, counted);
+    let (clock, task) = (&StdClock::new(rt).ok()?, MockTask::new(&rt).ok()?);
+    let readings = &AtomicU64::new(0);
+    let timer = TimerService::new(rt.alloc(), rt, Counted { clock, readings });
     let is_over = ManualResetEvent::new(rt.alloc(), rt, true);
-    if timer.run(&is_over) != Ok(None) {
-        return false;
-    }
+    let leaves_none = timer.run(&is_over) == Ok(None);
     let moment = 1 << 40;
-    match begins(&timer, &task, moment) {
-        Some(_wait) => timer.run(&is_over) == Ok(Some(moment)),
-        None => false,
-    }
+    let _wait = begins(&timer, &task, moment)?;
+    Some(leaves_none && timer.run(&is_over) == Ok(Some(moment)))
 }
 
 #[test]
 fn run_answers_who_still_waits(rt: HostRuntime) {
-    assert!(rt; leaves_behind(rt));
+    assert!(rt; leaves_behind(rt) == Some(true));
 }

@@ -1,4 +1,4 @@
 use Rattle.tests_sync.proofs.contention.four_threads_lock_fairly.Given as goal
 
-abbrev pub ghosts-locks : goal.ghosts-locks
-ghosts-locks g a = record { name = a.blank.name; parts = a.blank.parts }
+abbrev pub ghosts-sum_of_all : goal.ghosts-sum_of_all
+ghosts-sum_of_all g a = record { name = a.blank.name; parts = a.blank.parts }
