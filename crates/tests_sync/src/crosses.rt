@@ -17,16 +17,6 @@ use std::sync::ledger::{Blank, Ledger};
 use std::thread;
 use std::thread::Threads;
 
-// The value, which may be moved to another thread.
-fn sends<T: Send>(value: T) -> T {
-    value
-}
-
-// The value, which threads may share.
-fn shares<T: Sync>(value: &T) -> &T {
-    value
-}
-
 // Both may be moved to another thread, and the first may be shared.
 fn cross<P: Send + Sync, F: Send>(_primitive: &P, _future: &F) -> bool {
     true
@@ -34,12 +24,12 @@ fn cross<P: Send + Sync, F: Send>(_primitive: &P, _future: &F) -> bool {
 
 // Whether a wait that is moved to a thread is over once another has set the event.
 fn wait_crosses<R: Blocking + Threads + Copy + Send + Sync>(rt: R) -> Option<bool> {
-    let event = sends(ManualResetEvent::new(rt.alloc(), rt, false));
-    let event = shares(&event);
-    let wait = sends(event.wait().ok()?);
+    let event = &ManualResetEvent::new(rt.alloc(), rt, false);
+    let wait = event.wait().ok()?;
+    let may_cross = cross(event, &wait);
     let waits = move || matches!(block_on(&rt, wait), Ok(Ok(())));
     let (is_over, ()) = thread::join(&rt, waits, move || event.set());
-    Some(is_over)
+    Some(may_cross && is_over)
 }
 
 #[test]
@@ -110,14 +100,8 @@ where
 
 #[test]
 fn channel_crosses_threads(rt: HostRuntime) {
-    let receive = receive_crosses::<HostRuntime, ArrayBuf<u64, 1>>(rt);
-    assert!(rt; receive == Some(true) && send_crosses::<_, ArrayBuf<u64, 1>>(rt) == Some(true));
-}
-
-#[test]
-fn heap_channel_crosses_threads(rt: HostRuntime) {
-    let fixed = receive_crosses::<HostRuntime, FixedHeapBuf<u64>>(rt);
-    assert!(rt; fixed == Some(true) && receive_crosses::<_, GrowingHeapBuf<u64>>(rt) == Some(true));
+    let receive = receive_crosses::<HostRuntime, FixedHeapBuf<u64>>(rt);
+    assert!(rt; receive == Some(true) && send_crosses::<_, GrowingHeapBuf<u64>>(rt) == Some(true));
 }
 
 #[test]

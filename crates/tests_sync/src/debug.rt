@@ -61,9 +61,9 @@ fn a_channel_shows<R: Wait + AllocGlobal + Copy>(rt: R) -> Option<bool> {
 
 #[test]
 fn a_channel_and_its_futures_show_their_names(rt: HostRuntime) {
-    let futures = (ChannelSend::name(), ChannelReceive::name());
-    let are_right = futures == ("ChannelSendFuture", "ChannelReceiveFuture");
-    assert!(rt; are_right && a_channel_shows(rt) == Some(true));
+    let is_send = ChannelSend::name() == "ChannelSendFuture";
+    let is_receive = ChannelReceive::name() == "ChannelReceiveFuture";
+    assert!(rt; is_send && is_receive && a_channel_shows(rt) == Some(true));
 }
 
 fn mutex_shows<R: Wait + AllocGlobal + Copy, L: Ledger>(rt: R, blank: Blank) -> Option<bool>

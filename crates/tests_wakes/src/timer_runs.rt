@@ -208,7 +208,8 @@ fn rouses<R>(rt: R) -> Option<bool>
 where
     R: Blocking + Threads + time::Clock + Drop + Copy + Send + Sync,
 {
-    let (clock, task) = (&StdClock::new(rt).ok()?, MockTask::new(&rt).ok()?);
+    let clock = &StdClock::new(rt).ok()?;
+    let task = MockTask::new(&rt).ok()?;
     let readings = &AtomicU64::new(0);
     let timer = TimerService::new(rt.alloc(), rt, Counted { clock, readings });
     let is_over = ManualResetEvent::new(rt.alloc(), rt, false);
@@ -244,7 +245,8 @@ fn leaves_behind<R>(rt: R) -> Option<bool>
 where
     R: Blocking + time::Clock + Drop + Copy,
 {
-    let (clock, task) = (&StdClock::new(rt).ok()?, MockTask::new(&rt).ok()?);
+    let clock = &StdClock::new(rt).ok()?;
+    let task = MockTask::new(&rt).ok()?;
     let readings = &AtomicU64::new(0);
     let timer = TimerService::new(rt.alloc(), rt, Counted { clock, readings });
     let is_over = ManualResetEvent::new(rt.alloc(), rt, true);

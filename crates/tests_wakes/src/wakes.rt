@@ -67,8 +67,8 @@ fn waker<R: Wait>(rt: &R, tasks: &Queue, source: &Source) -> Option<(Waker, usiz
     Some((slot?, task))
 }
 
-// So many of them, named, and their tasks.
-fn name<R: Wait + AllocGlobal>(
+// A state that names so many wakers, each of a task of its own; and these tasks.
+fn naming<R: Wait + AllocGlobal>(
     rt: &R,
     tasks: &Queue,
     source: &Source,
@@ -104,7 +104,7 @@ fn are_paid<R: Wait>(
 fn pays_what_was_owed<R: Wait + AllocGlobal + RandomSource>(rt: &R) -> Option<bool> {
     let tasks = &Queue::new(rt, Doorbell::spinning()).ok()?;
     let source = &Source::new();
-    let (named, owed_to) = name(rt, tasks, source, 5)?;
+    let (named, owed_to) = naming(rt, tasks, source, 5)?;
     let newest = waker(rt, tasks, source)?;
     let are_right = are_paid(rt, tasks, &named, owed_to.as_slice(), newest);
     drop(named);
@@ -120,7 +120,7 @@ fn a_payment_takes_what_was_owed(rt: HostRuntime) {
 // One of two who are named is taken out before the payment. Whether the other is woken alone, and nobody by a payment after it; a waker
 // that is let go wakes its task.
 fn are_left<R: Wait>(rt: &R, tasks: &Queue, named: &Guarded<Named>, owed_to: &[usize]) -> bool {
-    let [first, second] = owed_to else {
+    let (Some(first), Some(second)) = (owed_to.first(), owed_to.last()) else {
         return false;
     };
     let ((), owed) = named.lend(rt, (), |_named, ()| ());
@@ -134,7 +134,7 @@ fn are_left<R: Wait>(rt: &R, tasks: &Queue, named: &Guarded<Named>, owed_to: &[u
 
 fn pays_who_is_left<R: Wait + AllocGlobal + RandomSource>(rt: &R) -> Option<bool> {
     let tasks = &Queue::new(rt, Doorbell::spinning()).ok()?;
-    let (named, owed_to) = name(rt, tasks, &Source::new(), 2)?;
+    let (named, owed_to) = naming(rt, tasks, &Source::new(), 2)?;
     Some(are_left(rt, tasks, &named, owed_to.as_slice()))
 }
 
