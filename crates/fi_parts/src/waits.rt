@@ -101,6 +101,7 @@ impl<D: Drop, W: Drop> Waits<D, W> {
         ensures handed_back { IfErr result (λ failed. failed.0 ≡ asks) }
     {
         let back = match self.wait_queue.insert(&mut self.outbox, asks) {
+            // Returned here, so that each outcome has goals of its own name.
             Ok(slot) => return Ok(slot),
             Err(back) => back,
         };

@@ -198,6 +198,7 @@ impl<D: Drop, E: Drop, W: Drop> TwoSides<D, E, W> {
         ensures handed_back { IfErr result (λ failed. failed.0 ≡ asks) }
     {
         let back = match S::wait_queue_mut(&mut self.wait_queues).insert(&mut self.outbox, asks) {
+            // Returned here, so that each outcome has goals of its own name.
             Ok(slot) => return Ok(slot),
             Err(back) => back,
         };
