@@ -438,17 +438,6 @@ impl<T: Drop, B: RingBuf<Item = T>, W: Drop> ChannelSendAccess for ChannelState<
 
     ghost others_stay = { channel_stays.OtherSendsStay };
 
-    fn can_send(&self, slot: Slot) -> bool {
-        match self.fields.waiters.phase::<Sends>(slot) {
-            Some(Phase::Fresh | Phase::Registered(_) | Phase::Complete) => true,
-            None | Some(Phase::Told | Phase::Ended) => false,
-        }
-    }
-
-    fn has_send(&self, slot: Slot) -> bool {
-        self.fields.waiters.phase::<Sends>(slot).is_some()
-    }
-
     fn send_would_wait(&self, slot: Slot) -> bool
         ensures waits { WouldBeReady (PollsSend self.now slot.0) (not result) }
         ensures pollable { result ≡ true → words.can_send (send_phase self.now slot.0) ≡ true }
@@ -510,21 +499,6 @@ impl<T: Drop, B: RingBuf<Item = T>, W: Drop> ChannelReceiveAccess for ChannelSta
     ghost cancels = { channel.CancelsReceive };
 
     ghost others_stay = { channel_stays.OtherReceivesStay };
-
-    fn can_receive(&self, slot: Slot) -> bool {
-        let future = match self.fields.waiters.future::<Receives>(slot) {
-            Some(future) => future,
-            None => return false,
-        };
-        match (&future.asks, &future.phase) {
-            (ReceiveKind::Single, Phase::Fresh | Phase::Registered(_) | Phase::Told) => true,
-            _ => false,
-        }
-    }
-
-    fn has_receive(&self, slot: Slot) -> bool {
-        self.fields.waiters.phase::<Receives>(slot).is_some()
-    }
 
     fn receive_would_wait(&self, slot: Slot) -> bool
         ensures waits { words.can_receive (kind_of self.now slot.0) (receive_phase self.now slot.0) ≡ true →

@@ -266,13 +266,6 @@ impl<T: Drop, W: Drop> MutexState<T, W> {
         }
     }
 
-    /// Returns `true` if a future lives under this slot.
-    pub fn is_live(&self, slot: Slot) -> bool
-        ensures { result ≡ is_some (phase_at self.now slot.0) }
-    {
-        self.locks.phase(slot).is_some()
-    }
-
     /// How far the future under this slot is; None if none lives there.
     pub fn stage(&self, slot: Slot) -> Option<Stage>
         ensures { result ≡ option_map stage_of (phase_at self.now slot.0) }

@@ -371,13 +371,6 @@ impl<W: Drop> SemaphoreState<W> {
         Ok(slot)
     }
 
-    /// Returns `true` if a future lives under this slot.
-    pub fn is_live(&self, slot: Slot) -> bool
-        ensures { result ≡ is_some (phase_at self.now slot.0) }
-    {
-        self.waits.phase(slot).is_some()
-    }
-
     /// How far the future under this slot is; None if none lives there.
     pub fn stage(&self, slot: Slot) -> Option<Stage>
         ensures { result ≡ option_map stage_of (phase_at self.now slot.0) }
@@ -449,7 +442,7 @@ impl<W: Drop> SemaphoreState<W> {
         ensures held { self.new.own.held ≡ self.old.own.held }
         ensures others { OthersStay can_be_polled slot.0 self.old self.new }
     {
-        if !self.is_live(slot) {
+        if self.waits.phase(slot).is_none() {
             return None;
         }
         pass_over(self.permits, &mut self.marks, &mut self.waits, slot);

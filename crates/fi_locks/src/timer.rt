@@ -201,13 +201,6 @@ impl<W: Drop> TimerState<W> {
         self.claim_deadline(now.saturating_add(whole_millis(delay)))
     }
 
-    /// Returns `true` if a future lives under this slot.
-    pub fn is_live(&self, slot: Slot) -> bool
-        ensures { result ≡ is_some (phase_at self.now slot.0) }
-    {
-        self.deadlines.phase(slot).is_some()
-    }
-
     /// When the future under this slot expires; None if none lives there.
     pub fn expiry(&self, slot: Slot) -> Option<u64>
         ensures { result ≡ asks_of self.now.waiting.side slot.0 }

@@ -230,7 +230,7 @@ fn cancel_send<T: Drop, B: RingBuf<Item = T>, W: Drop>(
 ) -> Answer<T, W>
     ensures { Step channel.old (calls.CancelSend slot) result channel.new }
 {
-    if !channel.has_send(slot) {
+    if channel.send_stage(slot).is_none() {
         return Answer::Refused(Fault::NoSlot);
     }
     let (value, _waker) = channel.remove_send_waiter(slot);
@@ -246,7 +246,7 @@ fn cancel_receive<T: Drop, B: RingBuf<Item = T>, W: Drop>(
 ) -> Answer<T, W>
     ensures { Step channel.old (calls.CancelReceive slot) result channel.new }
 {
-    if !channel.has_receive(slot) {
+    if channel.receive_stage(slot).is_none() {
         return Answer::Refused(Fault::NoSlot);
     }
     channel.remove_receive_waiter(slot);

@@ -114,7 +114,7 @@ impl<W: Drop> Primitive for EventState<W> {
                 Err(_) => Answer::Refused(Fault::NoSlot),
             },
             EventCall::Cancel(slot) => {
-                if !self.is_live(slot) {
+                if self.stage(slot).is_none() {
                     return Answer::Refused(Fault::NoSlot);
                 }
                 self.leave(slot);

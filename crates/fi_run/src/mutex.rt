@@ -116,7 +116,7 @@ impl<T: Drop, W: Drop> Primitive for MutexState<T, W> {
                 Err(_) => Answer::Refused(Fault::NoSlot),
             },
             MutexCall::Cancel(slot) => {
-                if !self.is_live(slot) {
+                if self.stage(slot).is_none() {
                     return Answer::Refused(Fault::NoSlot);
                 }
                 self.leave(slot);

@@ -126,7 +126,7 @@ impl<T: Drop, W: Drop, G: GivesValue<T>> Primitive for OneValueState<T, W, G> {
                 }
             }
             OneshotCall::Cancel(slot) => {
-                if !self.has_receive(slot) {
+                if self.stage(slot).is_none() {
                     return Answer::Refused(Fault::NoSlot);
                 }
                 self.remove_receive_waiter(slot);

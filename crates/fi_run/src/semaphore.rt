@@ -117,7 +117,7 @@ impl<W: Drop> Primitive for SemaphoreState<W> {
             },
             SemaphoreCall::Poll(slot, waker) => poll(self, slot, waker),
             SemaphoreCall::Cancel(slot) => {
-                if !self.is_live(slot) {
+                if self.stage(slot).is_none() {
                     return Answer::Refused(Fault::NoSlot);
                 }
                 self.leave(slot);

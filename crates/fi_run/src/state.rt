@@ -118,7 +118,7 @@ impl<T: Clone, W: Drop> Primitive for StateBroadcastState<T, W> {
                 }
             }
             StateCall::Cancel(slot) => {
-                if !self.has_receive(slot) {
+                if self.stage(slot).is_none() {
                     return Answer::Refused(Fault::NoSlot);
                 }
                 self.remove_receive_waiter(slot);

@@ -122,7 +122,7 @@ impl<W: Drop> Primitive for TimerState<W> {
                 Err(_) => Answer::Refused(Fault::NoSlot),
             },
             TimerCall::Cancel(slot) => {
-                if !self.is_live(slot) {
+                if self.stage(slot).is_none() {
                     return Answer::Refused(Fault::NoSlot);
                 }
                 self.leave(slot);

@@ -8,7 +8,6 @@ ghost use Rattle.fi_sync.specs.AutoReset.{Sets, TriesWait};
 ghost use Rattle.fi_sync.specs.Waiting.{InSomeHold, IsNew, PollsAt, WaitedFor, WouldWait, leftover_at, CancelsAt};
 
 use crate::blocking::{Blocking, wait_for};
-use crate::claim::Cancel;
 use crate::monitor::{HasMonitor, Monitor};
 use crate::slot_future::{PollSlot, SlotFuture, SlotPolled, no_slot};
 use crate::wakes::{HasOutbox, PollWaker};
@@ -194,11 +193,15 @@ impl HasOutbox for MutexState<(), PollWaker> {
 impl PollSlot<AutoResetWait> for MutexState<(), PollWaker> {
     type Output = Result<(), Fault>;
 
+    type Left = Option<PollWaker>;
+
     ghost polls = { PollsAt can_be_polled Polls };
 
     ghost would_wait = { WouldWait (PollsAt can_be_polled Polls) };
 
     ghost leaves = { leftover_at };
+
+    ghost cancels = { CancelsAt Cancels };
 
     #[inline(always)]
     fn poll_slot(&mut self, slot: Slot, waker: PollWaker) -> SlotPolled<Self::Output> {
@@ -211,12 +214,6 @@ impl PollSlot<AutoResetWait> for MutexState<(), PollWaker> {
             Err(waker) => no_slot(waker),
         }
     }
-}
-
-impl Cancel<AutoResetWait> for MutexState<(), PollWaker> {
-    type Left = Option<PollWaker>;
-
-    ghost cancels = { CancelsAt Cancels };
 
     #[inline(always)]
     fn cancel(&mut self, slot: Slot) -> Option<PollWaker> {

@@ -2,22 +2,10 @@
 ghost use Rattle.std.specs.Prelude.{◌≡◌, ℕ, Some, None};
 ghost use Rattle.fi_sync.specs.Waiting.{name_after};
 
+use crate::slot_future::PollSlot;
 use fi_parts::Slot;
 use std::fmt;
 use std::marker::{Model, PhantomData};
-
-/// A state whose futures of the kind `K` can be cancelled by slot.
-pub trait Cancel<K> {
-    /// What a cancelled future leaves: the waker that it had, and of a send the value that it still owned.
-    type Left: Drop;
-
-    /// A cancel under this name may leave this and go on from old to new.
-    ghost cancels: { Self → ℕ → Self.Left → Self → Type 0 };
-
-    /// Cancels the future of this kind under this slot. Nothing is done where none lives there.
-    fn cancel(&mut self, slot: Slot) -> Self::Left
-        ensures { cancels self.old slot.0 result self.new };
-}
 
 /// The slot of a future of the kind `K`. It has no `Drop`: only a cancel takes it, so a future whose drop does not
 /// unregister it does not compile.
@@ -60,7 +48,7 @@ impl<K> Claim<K> {
 
     /// Cancels the future, which gives its slot back.
     #[inline(always)]
-    pub fn cancel<S: Cancel<K>>(self, state: &mut S) -> S::Left
+    pub fn cancel<S: PollSlot<K>>(self, state: &mut S) -> S::Left
         ensures { S.cancels state.old self result state.new }
     {
         let Claim { slot, kind: _ } = self;

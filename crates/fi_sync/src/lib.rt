@@ -32,7 +32,7 @@ pub use auto_reset_event::{
 pub use blocking::{Blocking, wait_for};
 pub use channel::stream::ChannelStream;
 pub use channel::{Channel, GenericChannel, UnbufferedChannel};
-pub use claim::{Cancel, Claim, Fate};
+pub use claim::{Claim, Fate};
 pub use event::ManualResetEvent;
 pub use event::future::{OwnedWaitForEventFuture, WaitForEventFuture};
 pub use fi_channels::{ChannelReceive, ChannelSend, ChannelStreaming, EventWait};

@@ -8,7 +8,7 @@ ghost use Rattle.fi_sync.specs.Waiting.{HadToWait, IsLeft, IsSettled};
 
 mod taken_apart;
 
-use crate::claim::{Cancel, Claim, Fate};
+use crate::claim::{Claim, Fate};
 use crate::slot_future::{PollSlot, SlotPolled};
 use crate::wakes::{Guarded, HasOutbox};
 use fi_parts::{Refused, Slot};
@@ -128,7 +128,7 @@ impl<S: HasOutbox, R: Wait> Monitor<S, R> {
     #[inline(always)]
     pub fn cancel<K>(&self, claim: Claim<K>) -> S::Left
     where
-        S: Cancel<K>,
+        S: PollSlot<K>,
         ensures { IsLeft S.cancels claim result }
     {
         let cancel = |state: &mut S, claim: Claim<K>| -> S::Left

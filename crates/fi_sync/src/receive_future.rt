@@ -4,7 +4,6 @@ ghost use Rattle.fi_parts.specs.Polled.{LeavesWhere};
 ghost use Rattle.fi_parts.specs.declared.errors.Fault.{Fault};
 ghost use Rattle.fi_sync.specs.Waiting.{PollsOrRefuses, WouldWait, leftover_after};
 
-use crate::claim::Cancel;
 use crate::monitor::Monitor;
 use crate::slot_future::{PollSlot, SlotFuture, SlotPolled, no_slot};
 use crate::wakes::PollWaker;
@@ -21,11 +20,16 @@ pub type ChannelReceiveFuture<'a, C, R> = SlotFuture<&'a Monitor<C, R>, ChannelR
 impl<C: ChannelReceiveAccess<Waker = PollWaker>> PollSlot<ChannelReceive> for C {
     type Output = Result<Option<C::Item>, Fault>;
 
+    type Left = Option<PollWaker>;
+
     ghost polls = { PollsOrRefuses C.is_pollable C.receives (Err Fault.NoSlot) };
 
     ghost would_wait = { WouldWait (PollsOrRefuses C.is_pollable C.receives (Err Fault.NoSlot)) };
 
     ghost leaves = { λ old name waker answer. leftover_after answer (C.waker_of old name) waker };
+
+    ghost cancels = { λ old name left new. LeavesWhere (C.is_receiving old name) (C.cancels old name new)
+        (C.waker_of old name) old left new };
 
     #[inline(always)]
     fn poll_slot(&mut self, slot: Slot, waker: PollWaker) -> SlotPolled<Self::Output> {
@@ -37,13 +41,6 @@ impl<C: ChannelReceiveAccess<Waker = PollWaker>> PollSlot<ChannelReceive> for C 
             Err(waker) => no_slot(waker),
         }
     }
-}
-
-impl<C: ChannelReceiveAccess<Waker = PollWaker>> Cancel<ChannelReceive> for C {
-    type Left = Option<PollWaker>;
-
-    ghost cancels = { λ old name left new. LeavesWhere (C.is_receiving old name) (C.cancels old name new)
-        (C.waker_of old name) old left new };
 
     #[inline(always)]
     fn cancel(&mut self, slot: Slot) -> Option<PollWaker> {

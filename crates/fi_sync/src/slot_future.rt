@@ -11,7 +11,7 @@ ghost use Rattle.fi_parts.specs.declared.errors.Slot.{Slot};
 ghost use Rattle.fi_parts.specs.declared.phase.Leftover.{Leftover};
 ghost use Rattle.fi_sync.specs.Waiting.{ends, is_final, polled, IsAnswer, IsGiven, IsLeftBy, IsEndedBy};
 
-use crate::claim::{Cancel, Claim};
+use crate::claim::Claim;
 use crate::monitor::HasMonitor;
 use crate::wakes::PollWaker;
 use fi_parts::{Fault, FutureKind, Leftover, Refused, Slot};
@@ -88,10 +88,13 @@ fn keep(waker: Option<Waker>, spare: &mut Option<Waker>, second: &mut Option<Wak
     }
 }
 
-/// A state whose futures of the kind `K` are polled under their slots.
-pub trait PollSlot<K>: Cancel<K> {
+/// A state whose futures of the kind `K` are polled and cancelled under their slots.
+pub trait PollSlot<K> {
     /// What a poll gives that is ready.
     type Output: PollOutput;
+
+    /// What a cancelled future leaves: the waker that it had, and of a send the value that it still owned.
+    type Left: Drop;
 
     /// A poll under this name with this waker, or without one, may answer this and go on from old to new.
     ghost polls: { Self → ℕ → Option Waker → Poll Self.Output → Self → Type 0 };
@@ -101,6 +104,9 @@ pub trait PollSlot<K>: Cancel<K> {
 
     /// The wakers of no more use after such a poll.
     ghost leaves: { Self → ℕ → Option Waker → Poll Self.Output → Leftover (Option Waker) };
+
+    /// A cancel under this name may leave this and go on from old to new.
+    ghost cancels: { Self → ℕ → Self.Left → Self → Type 0 };
 
     /// Polls the future of this kind under this slot. It is refused with `NoSlot` where none lives there that can be polled; then
     /// the waker comes back and nothing has changed.
@@ -112,6 +118,10 @@ pub trait PollSlot<K>: Cancel<K> {
         ensures waits { IfSome result (λ polled. OnPending polled.0 (is_some waker ≡ true)) }
         ensures lacks { IfNone result ((waker ≡ None) × (self.new ≡ self.old)) }
         ensures put_off { IfNone result (would_wait self.old slot.0) };
+
+    /// Cancels the future of this kind under this slot. Nothing is done where none lives there.
+    fn cancel(&mut self, slot: Slot) -> Self::Left
+        ensures { cancels self.old slot.0 result self.new };
 }
 
 /// A future of the kind `K` of a primitive that threads share, which it reaches by a reference or an `Arc`. The poll that ends it
@@ -204,7 +214,7 @@ where
     }
 
     /// Cancels the future, and answers what it leaves; None if it had ended before. Afterwards it has ended.
-    pub(crate) fn withdraw(&mut self) -> Option<<M::State as Cancel<K>>::Left>
+    pub(crate) fn withdraw(&mut self) -> Option<<M::State as PollSlot<K>>::Left>
         ensures ended { self.new ≡ record { source = self.old.source; name = None; has_ended = true } }
         ensures left { IfSome result (λ left. IsLeftBy M.State.cancels self.old.name left) }
         ensures lives { self.old.has_ended ≡ false → is_some result ≡ true }

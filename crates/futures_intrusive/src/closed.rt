@@ -9,7 +9,7 @@ ghost use Rattle.futures_intrusive.specs.Ends.{OnClosed};
 use crate::counted_ends::{ClosesByEnds, CountedEnds};
 use crate::ends::{End, SharedFutureOf, Side, future_of};
 use fi_parts::{Fault, Slot};
-use fi_sync::{Cancel, EventWait, FutureKind, PollSlot, PollWaker, SlotPolled};
+use fi_sync::{EventWait, FutureKind, PollSlot, PollWaker, SlotPolled};
 use std::sync::Wait;
 
 /// Waits until a channel is closed.
@@ -37,18 +37,10 @@ impl<S: ClosesByEnds> CountedEnds<S> {
     }
 }
 
-impl<S: ClosesByEnds> Cancel<ClosedWait> for CountedEnds<S> {
-    type Left = Option<PollWaker>;
-
-    ghost cancels = { λ old name left new. OnClosed (λ before after. CancelsAt Cancels before name left after) old new };
-
-    fn cancel(&mut self, slot: Slot) -> Option<PollWaker> {
-        self.closed.leave(slot)
-    }
-}
-
 impl<S: ClosesByEnds> PollSlot<ClosedWait> for CountedEnds<S> {
     type Output = Result<(), Fault>;
+
+    type Left = Option<PollWaker>;
 
     ghost polls = { λ old name waker answer new.
         OnClosed (λ before after. PollsAt can_be_polled Polls before name waker answer after) old new };
@@ -57,8 +49,14 @@ impl<S: ClosesByEnds> PollSlot<ClosedWait> for CountedEnds<S> {
 
     ghost leaves = { λ ends. leftover_at ends.closed };
 
+    ghost cancels = { λ old name left new. OnClosed (λ before after. CancelsAt Cancels before name left after) old new };
+
     fn poll_slot(&mut self, slot: Slot, waker: PollWaker) -> SlotPolled<Self::Output> {
         PollSlot::<EventWait>::poll_slot(&mut self.closed, slot, waker)
+    }
+
+    fn cancel(&mut self, slot: Slot) -> Option<PollWaker> {
+        self.closed.leave(slot)
     }
 }
 

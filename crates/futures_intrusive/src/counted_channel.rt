@@ -13,7 +13,7 @@ use crate::ends::EndNames;
 use fi_channels::{ChannelReceiveAccess, ChannelState, TryReceiveError, TrySendError};
 use fi_parts::buffer::RingBuf;
 use fi_parts::{CloseStatus, Fault, NoRoom, Slot};
-use fi_sync::{Cancel, ChannelStreaming, PollSlot, PollWaker, SlotPolled};
+use fi_sync::{ChannelStreaming, PollSlot, PollWaker, SlotPolled};
 
 impl<T: Drop, B: RingBuf<Item = T>> EndNames for ChannelState<T, B, PollWaker> {
     fn sender() -> &'static str {
@@ -79,32 +79,20 @@ impl<T: Drop, B: RingBuf<Item = T>> ReceivesClosed for ChannelState<T, B, PollWa
     ghost cancels_stay_closed = { receive_cancels };
 }
 
-impl<T: Drop, B: RingBuf<Item = T>> Cancel<ChannelStreaming>
+impl<T: Drop, B: RingBuf<Item = T>> PollSlot<ChannelStreaming>
     for CountedEnds<ChannelState<T, B, PollWaker>> {
     ghost use Rattle.std.specs.Prelude.{is_some};
     ghost use Rattle.fi_channels.specs.Channel.{CancelsReceive};
     ghost use Rattle.fi_channels.specs.ChannelWords.{receive_phase, displaced_receive};
     ghost use Rattle.fi_parts.specs.Polled.{LeavesWhere};
-    ghost use Rattle.futures_intrusive.specs.Ends.{OnState};
-
-    type Left = Option<PollWaker>;
-
-    ghost cancels = { λ old name left new. LeavesWhere (is_some (receive_phase old.state name))
-        (OnState (λ before after. CancelsReceive before name after) old new) (displaced_receive old.state name) old left new };
-
-    fn cancel(&mut self, slot: Slot) -> Option<PollWaker> {
-        self.state.leave_receive(slot)
-    }
-}
-
-impl<T: Drop, B: RingBuf<Item = T>> PollSlot<ChannelStreaming>
-    for CountedEnds<ChannelState<T, B, PollWaker>> {
-    ghost use Rattle.fi_channels.specs.ChannelWords.{displaced_receive};
     ghost use Rattle.fi_sync.specs.Streams.{leftover_of_next};
     ghost use Rattle.fi_sync.specs.Waiting.{WouldWait};
+    ghost use Rattle.futures_intrusive.specs.Ends.{OnState};
     ghost use Rattle.futures_intrusive.specs.SharedStreams.{PollsSharedStream};
 
     type Output = Option<Result<T, Fault>>;
+
+    type Left = Option<PollWaker>;
 
     ghost polls = { PollsSharedStream };
 
@@ -112,8 +100,15 @@ impl<T: Drop, B: RingBuf<Item = T>> PollSlot<ChannelStreaming>
 
     ghost leaves = { λ old name waker answer. leftover_of_next answer (displaced_receive old.state name) waker };
 
+    ghost cancels = { λ old name left new. LeavesWhere (is_some (receive_phase old.state name))
+        (OnState (λ before after. CancelsReceive before name after) old new) (displaced_receive old.state name) old left new };
+
     fn poll_slot(&mut self, slot: Slot, waker: PollWaker) -> SlotPolled<Self::Output> {
         PollSlot::<ChannelStreaming>::poll_slot(&mut self.state, slot, waker)
+    }
+
+    fn cancel(&mut self, slot: Slot) -> Option<PollWaker> {
+        self.state.leave_receive(slot)
     }
 }
 

@@ -230,14 +230,6 @@ impl<S: SendsClosed> ChannelSendAccess for CountedEnds<S> {
 
     ghost others_stay = { λ name old new. S.others_stay name old.state new.state };
 
-    fn can_send(&self, slot: Slot) -> bool {
-        self.state.can_send(slot)
-    }
-
-    fn has_send(&self, slot: Slot) -> bool {
-        self.state.has_send(slot)
-    }
-
     fn send_would_wait(&self, slot: Slot) -> bool {
         self.state.send_would_wait(slot)
     }
@@ -274,14 +266,6 @@ impl<S: ReceivesClosed> ChannelReceiveAccess for CountedEnds<S> {
     ghost cancels = { λ old name new. OnState (λ before after. S.cancels before name after) old new };
 
     ghost others_stay = { λ name old new. S.others_stay name old.state new.state };
-
-    fn can_receive(&self, slot: Slot) -> bool {
-        self.state.can_receive(slot)
-    }
-
-    fn has_receive(&self, slot: Slot) -> bool {
-        self.state.has_receive(slot)
-    }
 
     fn receive_would_wait(&self, slot: Slot) -> bool {
         self.state.receive_would_wait(slot)

@@ -2,7 +2,7 @@
 use fi_channels::{
     ChannelReceiveAccess, EventState, OneshotBroadcastState, OneshotState, StateBroadcastState,
 };
-use fi_parts::{ChannelSendError, CloseStatus, Slot, StateId};
+use fi_parts::{ChannelSendError, CloseStatus, StateId};
 use futures::task::Poll;
 
 #[test]
@@ -13,34 +13,28 @@ fn a_wait_by_slot(rt: HostRuntime) {
     event.set();
     assert!(rt; is_pending);
     assert_eq!(rt; event.wake_count(), 1);
-    assert!(rt; event.is_live(other));
     assert_eq!(rt; event.leave(other), Some(1));
-}
-
-// Whether a receive lives under this slot, whose waker was taken out. It is cancelled.
-fn leaves<C: ChannelReceiveAccess<Waker = u64>>(channel: &mut C, slot: Slot) -> bool {
-    channel.has_receive(slot) && channel.remove_receive_waiter(slot).is_none()
+    assert!(rt; event.stage(other).is_none());
 }
 
 #[test]
 fn a_receive_by_slot(rt: HostRuntime) {
     let mut channel: OneshotState<u32, u64> = OneshotState::new(rt.alloc());
     let slot = channel.claim_receive().expect(&rt, "room");
-    let is_pending = channel.can_receive(slot)
-        && channel.receive_or_register(slot, 1).0.is_pending();
+    let is_pending = matches!(channel.receive_checked(slot, 1), Ok((Poll::Pending, _)));
     assert!(rt; is_pending);
     assert_eq!(rt; channel.close(), CloseStatus::NewlyClosed);
     assert_eq!(rt; channel.wake_count(), 1);
     assert_eq!(rt; channel.next_wake(), Some(1));
-    assert!(rt; leaves(&mut channel, slot));
+    assert_eq!(rt; channel.leave_receive(slot), None);
+    assert!(rt; channel.stage(slot).is_none());
 }
 
 #[test]
 fn a_broadcast_by_slot(rt: HostRuntime) {
     let mut channel: OneshotBroadcastState<u32, u64> = OneshotBroadcastState::new(rt.alloc());
     let slot = channel.claim_receive().expect(&rt, "room");
-    let is_pending = channel.can_receive(slot)
-        && channel.receive_or_register(slot, 1).0.is_pending();
+    let is_pending = matches!(channel.receive_checked(slot, 1), Ok((Poll::Pending, _)));
     assert!(rt; is_pending);
     assert_eq!(rt; channel.send(5), Ok(()));
     assert_eq!(rt; channel.send(6), Err(ChannelSendError(6)));
@@ -51,11 +45,11 @@ fn a_broadcast_by_slot(rt: HostRuntime) {
 fn a_state_receive_by_slot(rt: HostRuntime) {
     let mut channel: StateBroadcastState<u32, u64> = StateBroadcastState::new(rt.alloc());
     let slot = channel.claim_receive(StateId::new()).expect(&rt, "room");
-    let is_pending = channel.can_receive(slot)
-        && channel.receive_or_register(slot, 1).0.is_pending();
+    let is_pending = matches!(channel.receive_checked(slot, 1), Ok((Poll::Pending, _)));
     assert!(rt; is_pending);
     assert_eq!(rt; channel.close(), CloseStatus::NewlyClosed);
     assert_eq!(rt; channel.wake_count(), 1);
     assert_eq!(rt; channel.next_wake(), Some(1));
-    assert!(rt; leaves(&mut channel, slot));
+    assert_eq!(rt; channel.leave_receive(slot), None);
+    assert!(rt; channel.stage(slot).is_none());
 }

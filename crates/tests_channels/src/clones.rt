@@ -1,6 +1,6 @@
 //! Deliveries whose clone is refused memory, and then allowed.
 use fi_channels::{ChannelReceiveAccess, LocalOneshotBroadcastChannel, LocalStateBroadcastChannel};
-use fi_parts::{Fault, Slot, StateId};
+use fi_parts::{Fault, Slot, Stage, StateId};
 use futures::task::Poll;
 use std::alloc::AllocError;
 use std::sync::atomic::{AtomicBool, Ordering};
@@ -89,7 +89,7 @@ fn a_refused_clone_leaves_the_pair(rt: HostRuntime) {
         && channel.wake_count() == 1;
     let value = item_in(polled(&mut channel, slot, 9).expect(&rt, "third")).expect(&rt, "value");
     assert!(rt; was_refused && value.number == 5);
-    assert!(rt; channel.wake_count() == 0 && !channel.can_receive(slot));
+    assert!(rt; channel.wake_count() == 0 && channel.stage(slot) == Some(Stage::Ended));
 }
 
 #[test]
@@ -105,7 +105,7 @@ fn a_refused_clone_leaves_the_waker(rt: HostRuntime) {
     let state = item_in(polled(&mut channel, slot, 9).expect(&rt, "third"));
     let (number, value) = state.expect(&rt, "state");
     assert!(rt; was_refused && number.value() == 1 && value.number == 5);
-    assert!(rt; !channel.can_receive(slot));
+    assert!(rt; channel.stage(slot) == Some(Stage::Ended));
 }
 
 #[test]

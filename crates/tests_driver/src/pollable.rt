@@ -1,7 +1,7 @@
 //! What drivers ask of futures: that they may be polled at any time, and that sends can be cancelled.
 
 use fi_sync::{
-    Cancel, ChannelSend, CountedSemaphore, HasMonitor, MutexLockFuture, PollSlot, PollWaker,
+    ChannelSend, CountedSemaphore, HasMonitor, MutexLockFuture, PollSlot, PollWaker,
     SemaphoreAcquireFutureOf, SlotFuture,
 };
 use futures::Future;
@@ -36,7 +36,7 @@ pub trait Withdraw: Drop {
 
 impl<M: HasMonitor> Withdraw for SlotFuture<M, ChannelSend>
 where
-    M::State: PollSlot<ChannelSend> + Cancel<ChannelSend, Left = (Option<u64>, Option<PollWaker>)>,
+    M::State: PollSlot<ChannelSend, Left = (Option<u64>, Option<PollWaker>)>,
 {
     fn withdraw(&mut self) -> Option<u64> {
         self.cancel()

@@ -15,5 +15,7 @@ fn a_guard_writes_the_value(rt: HostRuntime) {
     }
     let is_ended = future.is_terminated();
     future.cancel(&mut mutex);
-    assert!(rt; read == 7 && is_ended && !mutex.is_live(slot) && mutex.try_take() == Some(8));
+    assert!(rt;
+        read == 7 && is_ended && mutex.stage(slot).is_none() && mutex.try_take() == Some(8)
+    );
 }

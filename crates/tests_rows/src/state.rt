@@ -29,7 +29,10 @@ try-receive 1 -> none
 try-receive 0 -> some 1 9
 send 8 -> ok
 try-receive 2 -> none
-try-receive 1 -> some 2 8",
+try-receive 1 -> some 2 8
+send 7 -> ok
+try-receive 2 -> some 3 7
+try-receive 3 -> none",
     },
     Row {
         name: "state_broadcast_tries",

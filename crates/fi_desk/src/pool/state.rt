@@ -305,7 +305,7 @@ impl<W: Drop> PoolFields<W> {
         ensures stepped { Step (machine_of self.old) (calls.Cancel slot) result (machine_of self.new) }
         ensures is_pool { IsPool self.new }
     {
-        if !self.drained.is_live(slot) {
+        if self.drained.stage(slot).is_none() {
             return Answer::Refused(Fault::NoSlot);
         }
         self.drained.leave(slot);

@@ -118,11 +118,16 @@ impl<T> PollOutput for Option<Result<T, Fault>> {
 impl<T: Drop, B: RingBuf<Item = T>> PollSlot<ChannelStreaming> for ChannelState<T, B, PollWaker> {
     type Output = Option<Result<T, Fault>>;
 
+    type Left = Option<PollWaker>;
+
     ghost polls = { PollsStream };
 
     ghost would_wait = { WouldWait PollsStream };
 
     ghost leaves = { λ old name waker answer. leftover_of_next answer (displaced_receive old name) waker };
+
+    ghost cancels = { λ old name left new. LeavesWhere (is_some (receive_phase old name)) (CancelsReceive old name new)
+        (displaced_receive old name) old left new };
 
     fn poll_slot(&mut self, slot: Slot, waker: PollWaker) -> SlotPolled<Self::Output> {
         if waker.is_none() && self.next_would_wait(slot) {
@@ -140,13 +145,6 @@ impl<T: Drop, B: RingBuf<Item = T>> PollSlot<ChannelStreaming> for ChannelState<
             }
         }
     }
-}
-
-impl<T: Drop, B: RingBuf<Item = T>> Cancel<ChannelStreaming> for ChannelState<T, B, PollWaker> {
-    type Left = Option<PollWaker>;
-
-    ghost cancels = { λ old name left new. LeavesWhere (is_some (receive_phase old name)) (CancelsReceive old name new)
-        (displaced_receive old name) old left new };
 
     fn cancel(&mut self, slot: Slot) -> Option<PollWaker> {
         self.leave_receive(slot)

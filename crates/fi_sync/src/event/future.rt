@@ -2,7 +2,6 @@
 ghost use Rattle.fi_channels.specs.Event.{can_be_polled, Polls, Cancels};
 ghost use Rattle.fi_sync.specs.Waiting.{PollsAt, WouldWait, leftover_at, CancelsAt};
 
-use crate::claim::Cancel;
 use crate::event::ManualResetEvent;
 use crate::monitor::Monitor;
 use crate::slot_future::{PollSlot, SlotFuture, SlotPolled, no_slot};
@@ -25,11 +24,15 @@ pub type OwnedWaitForEventFuture<R> = SlotFuture<Arc<ManualResetEvent<R>, Global
 impl PollSlot<EventWait> for EventState<PollWaker> {
     type Output = Result<(), Fault>;
 
+    type Left = Option<PollWaker>;
+
     ghost polls = { PollsAt can_be_polled Polls };
 
     ghost would_wait = { WouldWait (PollsAt can_be_polled Polls) };
 
     ghost leaves = { leftover_at };
+
+    ghost cancels = { CancelsAt Cancels };
 
     #[inline(always)]
     fn poll_slot(&mut self, slot: Slot, waker: PollWaker) -> SlotPolled<Self::Output> {
@@ -42,12 +45,6 @@ impl PollSlot<EventWait> for EventState<PollWaker> {
             Err(waker) => no_slot(waker),
         }
     }
-}
-
-impl Cancel<EventWait> for EventState<PollWaker> {
-    type Left = Option<PollWaker>;
-
-    ghost cancels = { CancelsAt Cancels };
 
     #[inline(always)]
     fn cancel(&mut self, slot: Slot) -> Option<PollWaker> {

@@ -5,7 +5,6 @@ ghost use Rattle.fi_locks.specs.Mutex.{opened, is_free, can_be_polled, Makes, Po
 ghost use Rattle.fi_sync.specs.Waiting.{PollsAt, WouldWait, leftover_at, CancelsAt};
 ghost use Rattle.fi_sync.specs.Blanks.{IsLockBlank};
 
-use crate::claim::Cancel;
 use crate::slot_future::{PollSlot, SlotPolled, no_slot};
 use crate::wakes::{HasOutbox, PollWaker};
 use fi_locks::{Grant, MutexLock, MutexState, Tally};
@@ -167,11 +166,15 @@ impl<T: Drop, L: Ledger> CountedMutex<T, L> {
 impl<T: Drop, L: Ledger> PollSlot<MutexLock> for CountedMutex<T, L> {
     type Output = Result<Locked<T, L>, Fault>;
 
+    type Left = Option<PollWaker>;
+
     ghost polls = { PollsAt can_be_polled Polls };
 
     ghost would_wait = { WouldWait (PollsAt can_be_polled Polls) };
 
     ghost leaves = { leftover_at };
+
+    ghost cancels = { CancelsAt Cancels };
 
     #[inline(always)]
     fn poll_slot(&mut self, slot: Slot, waker: PollWaker) -> SlotPolled<Self::Output> {
@@ -190,12 +193,6 @@ impl<T: Drop, L: Ledger> PollSlot<MutexLock> for CountedMutex<T, L> {
             Err(waker) => no_slot(waker),
         }
     }
-}
-
-impl<T: Drop, L: Ledger> Cancel<MutexLock> for CountedMutex<T, L> {
-    type Left = Option<PollWaker>;
-
-    ghost cancels = { CancelsAt Cancels };
 
     #[inline(always)]
     fn cancel(&mut self, slot: Slot) -> Option<PollWaker> {

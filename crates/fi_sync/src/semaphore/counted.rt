@@ -7,7 +7,6 @@ ghost use Rattle.fi_sync.specs.Granted.{PollsAcquire, leftover_of_acquire, Cance
 ghost use Rattle.fi_sync.specs.Waiting.{WouldWait};
 ghost use Rattle.fi_sync.specs.Blanks.{IsPermitBlank};
 
-use crate::claim::Cancel;
 use crate::slot_future::{PollSlot, SlotPolled, no_slot};
 use crate::wakes::{HasOutbox, PollWaker};
 use fi_locks::{Grant, SemaphoreAcquire, SemaphoreState, Tally};
@@ -176,11 +175,15 @@ impl<L: Ledger> CountedSemaphore<L> {
 impl<L: Ledger> PollSlot<SemaphoreAcquire> for CountedSemaphore<L> {
     type Output = Result<Grant<L>, Fault>;
 
+    type Left = Option<PollWaker>;
+
     ghost polls = { PollsAcquire };
 
     ghost would_wait = { WouldWait PollsAcquire };
 
     ghost leaves = { leftover_of_acquire };
+
+    ghost cancels = { CancelsAcquire };
 
     #[inline(always)]
     fn poll_slot(&mut self, slot: Slot, waker: PollWaker) -> SlotPolled<Self::Output> {
@@ -207,12 +210,6 @@ impl<L: Ledger> PollSlot<SemaphoreAcquire> for CountedSemaphore<L> {
             Err(waker) => no_slot(waker),
         }
     }
-}
-
-impl<L: Ledger> Cancel<SemaphoreAcquire> for CountedSemaphore<L> {
-    type Left = Option<PollWaker>;
-
-    ghost cancels = { CancelsAcquire };
 
     #[inline(always)]
     fn cancel(&mut self, slot: Slot) -> Option<PollWaker> {

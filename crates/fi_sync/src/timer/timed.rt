@@ -9,7 +9,6 @@ ghost use Rattle.fi_locks.specs.Timer.{opened, can_be_polled, Makes, Checks, Can
 ghost use Rattle.fi_sync.specs.Timed.{DelaysTimed, PollsTimed, WaitsTimed, ChecksAndPlans, planned_for};
 ghost use Rattle.fi_sync.specs.Waiting.{PollsWhere, leftover_after};
 
-use crate::claim::Cancel;
 use crate::slot_future::{PollSlot, SlotPolled, no_slot};
 use crate::wakes::{HasOutbox, PollWaker};
 use fi_locks::TimerState;
@@ -209,6 +208,8 @@ impl<C: Clock> Timed<C> {
 impl<C: Clock> PollSlot<TimedWait> for Timed<C> {
     type Output = Result<(), Fault>;
 
+    type Left = Option<PollWaker>;
+
     // At some moment. A poll that the timer makes is never refused.
     ghost polls = { λ old name waker answer new. (new ≡ record old { timer = new.timer })
         × PollsWhere (can_be_polled (phase_at old.timer name))
@@ -217,6 +218,10 @@ impl<C: Clock> PollSlot<TimedWait> for Timed<C> {
     ghost would_wait = { λ old. WaitsTimed old.timer };
 
     ghost leaves = { λ old name waker answer. leftover_after answer (displaced_at old.timer name) waker };
+
+    ghost cancels = { λ old name left new. (new ≡ record old { timer = new.timer })
+        × LeavesWhere (is_some (phase_at old.timer name)) (Cancels old.timer name new.timer)
+        (displaced_at old.timer name) old left new };
 
     #[inline(always)]
     fn poll_slot(&mut self, slot: Slot, waker: PollWaker) -> SlotPolled<Self::Output> {
@@ -233,14 +238,6 @@ impl<C: Clock> PollSlot<TimedWait> for Timed<C> {
             Err(waker) => no_slot(waker),
         }
     }
-}
-
-impl<C: Clock> Cancel<TimedWait> for Timed<C> {
-    type Left = Option<PollWaker>;
-
-    ghost cancels = { λ old name left new. (new ≡ record old { timer = new.timer })
-        × LeavesWhere (is_some (phase_at old.timer name)) (Cancels old.timer name new.timer)
-        (displaced_at old.timer name) old left new };
 
     #[inline(always)]
     fn cancel(&mut self, slot: Slot) -> Option<PollWaker> {
