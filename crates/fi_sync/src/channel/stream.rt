@@ -10,7 +10,7 @@ ghost use Rattle.fi_parts.specs.declared.errors.Fault.{Fault};
 ghost use Rattle.fi_sync.specs.Streams.{PollsStream, IsStreamAnswer, leftover_of_next};
 ghost use Rattle.fi_sync.specs.Waiting.{polled, WouldWait};
 
-use crate::claim::{Cancel, Claim};
+use crate::claim::Claim;
 use crate::monitor::Monitor;
 use crate::slot_future::{PollOutput, PollSlot, SlotFuture, SlotPolled};
 use crate::wakes::PollWaker;
