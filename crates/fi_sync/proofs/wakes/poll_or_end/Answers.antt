@@ -11,7 +11,7 @@ returns-then-has_ended-clause-settled g c =
       subst (λ name. MatchOption c.poll_or_register-polled.result (c.poll_or_register-polled.new.state ≡ c.args.state.now)
           (λ polled. IsPolled g.S.PollSlot.polls name polled.0 c.args.state.now c.poll_or_register-polled.new.state))
           own c.poll_or_register-polled.ensures.polled,
-      subst (λ over. Befalls {K = g.row.K.Denot} g.S.Cancel.cancels over c.args.claim (Ended c.cancel-left.result)
+      subst (λ over. Befalls {K = g.row.K.Denot} g.S.PollSlot.cancels over c.args.claim (Ended c.cancel-left.result)
           c.poll_or_register-polled.new.state c.cancel-left.new.state) (sym over) c.cancel-left.ensures,
     )
 
@@ -23,6 +23,6 @@ returns-clause-settled g c =
       subst (λ name. MatchOption c.poll_or_register-polled.result (c.poll_or_register-polled.new.state ≡ c.args.state.now)
           (λ polled. IsPolled g.S.PollSlot.polls name polled.0 c.args.state.now c.poll_or_register-polled.new.state))
           own c.poll_or_register-polled.ensures.polled,
-      subst (λ over. Befalls {K = g.row.K.Denot} g.S.Cancel.cancels over c.args.claim (GoesOn c.args.claim)
+      subst (λ over. Befalls {K = g.row.K.Denot} g.S.PollSlot.cancels over c.args.claim (GoesOn c.args.claim)
           c.poll_or_register-polled.new.state c.poll_or_register-polled.new.state) (sym over) (refl, refl),
     )
