@@ -131,10 +131,9 @@ impl<S: HasOutbox, R: Wait> Monitor<S, R> {
         S: PollSlot<K>,
         ensures { IsLeft S.cancels claim result }
     {
-        let cancel = |state: &mut S, claim: Claim<K>| -> S::Left
-            ensures { IsLeft S.cancels claim result }
-        { claim.cancel(state) };
-        self.call(claim, cancel)
+        let (left, owed) = self.state.cancel(&self.rt, claim);
+        owed.pay(&self.rt);
+        left
     }
 }
 

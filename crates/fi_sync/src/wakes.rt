@@ -116,6 +116,18 @@ impl<S: HasOutbox> Guarded<S> {
         (polled, fate, Owed::of(self, state))
     }
 
+    /// Cancels the future that has this claim, as `lend` makes a call.
+    #[inline(always)]
+    pub fn cancel<K, R: Wait>(&self, rt: &R, claim: Claim<K>) -> (S::Left, Owed<'_, S>)
+    where
+        S: PollSlot<K>,
+        ensures { (old : S) × (new : S) × S.cancels old claim result.0 new × (result.1 ≡ length (S.wakers new)) }
+    {
+        let state = &mut *self.state.lock(rt);
+        let left = claim.cancel(state);
+        (left, Owed::of(self, state))
+    }
+
     // Takes out the oldest waker, in a hold of the lock that is over when it comes back: a waker's wake and its drop could run its
     // owner's code (the kit's do not), which may take the same lock.
     #[inline(always)]
