@@ -1,73 +1,82 @@
--- The spare ticket of an outbox, which its list has and nobody else.
+-- The spare tickets of an outbox, which its list has and nobody else.
 use Rattle.std.proofs.Common.{◌≡◌, ◌≢◌, ◌⊎◌, ℕ, Bool, true, false, not, eqb, ◌||◌, ◌&&◌, List, [], ◌∷◌, ◌++◌, drop}
-use Rattle.std.proofs.Common.{Option, Some, None, is_some, refl, sym, ap, subst, ◌∙◌, inl, inr}
-use Rattle.std.proofs.lemmas.Bool.{eq-eqb, ne_eqb, cases_eq, both_ways, true≢false, false≢true, or_left, or_parts}
-use Rattle.std.proofs.lemmas.Bool.{and_parts, and_from, not_from_true, not_from_false, false_from_ne_true}
+use Rattle.std.proofs.Common.{refl, sym, ap, subst, ◌∙◌, inl, inr}
+use Rattle.std.proofs.lemmas.Bool.{eq-eqb, ne_eqb, cases_eq, both_ways, or_left, or_right, or_parts}
+use Rattle.std.proofs.lemmas.Bool.{and_parts, and_from, not_from_false, false_from_ne_true, false≢true}
+use Rattle.std.proofs.lemmas.List.{append-nil}
 use Rattle.std.specs.Ordering.{nat_cmp}
 use Rattle.std.specs.Cmp.{nat_cmp_total}
 use Rattle.std.specs.FinSet as set
+use Rattle.fi_parts.specs.Order.{holds, Apart}
 use Rattle.fi_parts.specs.Pairs.{OutboxModel, with_tickets, has, without_pair}
 use Rattle.fi_parts.specs.OutboxList.{tickets_left, IsSpare}
 use Rattle.fi_parts.proofs.Pairs.{contains_inserted, contains_removed, has-push, has-without}
+use Rattle.fi_parts.proofs.Queues.{holds-push, Apart-push}
+use Rattle.fi_parts.proofs.Slots.{Apart-front, apart_middle}
 
 same_tickets : (a b : set.FinSet nat_cmp) → ((q : ℕ) → set.contains a q ≡ set.contains b q) → a ≡ b
 same_tickets a b same = set.same_set nat_cmp_total set.nat_cmp-IsAntisymmetric _ _ same
 
--- what a set without x has is not x
-apart : (ts : set.FinSet nat_cmp) (x t : ℕ) → set.contains (set.remove ts x) t ≡ true → (t ≢ x) × (set.contains ts t ≡ true)
-apart ts x t at =
-    let parts = and_parts (not (eqb t x)) (set.contains ts t) (sym (contains_removed ts x t) ∙ at) in
-    (λ is. false≢true (sym (not_from_true (eqb t x) (eq-eqb t x is)) ∙ parts.0), parts.1)
+-- who has a ticket: who is in the list, and not spare
+pub contains_left : (ts : set.FinSet nat_cmp) (xs : List ℕ) (t : ℕ)
+    → set.contains (tickets_left ts xs) t ≡ (not (holds t xs) && set.contains ts t)
+unfolding tickets_left
+contains_left ts [] t = refl
+contains_left ts (x ∷ xs) t =
+    contains_left (set.remove ts x) xs t ∙ ap (λ b. not (holds t xs) && b) (contains_removed ts x t)
+    ∙ together (holds t xs) (eqb t x) (set.contains ts t)
+  where
+    together : (a b c : Bool) → (not a && (not b && c)) ≡ (not (b || a) && c)
+    together true true c = refl
+    together true false c = refl
+    together false true c = refl
+    together false false c = refl
 
-still : (ts : set.FinSet nat_cmp) (x t : ℕ) → t ≢ x → set.contains ts t ≡ true → set.contains (set.remove ts x) t ≡ true
-still ts x t ne at =
-    contains_removed ts x t ∙ and_from (not (eqb t x)) (set.contains ts t) (not_from_false (eqb t x) (ne_eqb t x ne)) at
+pub left_none : (ts : set.FinSet nat_cmp) → tickets_left ts [] ≡ ts
+unfolding tickets_left
+left_none ts = refl
 
--- a ticket that somebody has is one of the list's
-pub in_list : (ts : set.FinSet nat_cmp) (spare : Option ℕ) (t : ℕ) → set.contains (tickets_left ts spare) t ≡ true
-    → set.contains ts t ≡ true
-in_list ts None t at = at
-in_list ts (Some x) t at = (apart ts x t at).1
+-- a ticket that somebody has is one of the list's, and not spare
+pub taken : (ts : set.FinSet nat_cmp) (xs : List ℕ) (t : ℕ) → set.contains (tickets_left ts xs) t ≡ true
+    → (holds t xs ≡ false) × (set.contains ts t ≡ true)
+taken ts xs t at =
+    let parts = and_parts (not (holds t xs)) (set.contains ts t) (sym (contains_left ts xs t) ∙ at) in
+    (turned (holds t xs) parts.0, parts.1)
+  where
+    turned : (b : Bool) → not b ≡ true → b ≡ false
+    turned true is = absurd (false≢true is)
+    turned false is = refl
 
-pub none_left : (ts : set.FinSet nat_cmp) (spare : Option ℕ) → is_some spare ≡ false → tickets_left ts spare ≡ ts
-none_left ts None none = refl
-none_left ts (Some x) none = absurd (true≢false none)
+pub in_list : (ts : set.FinSet nat_cmp) (xs : List ℕ) (t : ℕ) → set.contains (tickets_left ts xs) t ≡ true → set.contains ts t ≡ true
+in_list ts xs t at = (taken ts xs t at).1
 
-pub not_left : (ts : set.FinSet nat_cmp) (spare : Option ℕ) (t : ℕ) → set.contains ts t ≡ false
-    → set.contains (tickets_left ts spare) t ≡ false
-not_left ts spare t off =
-    false_from_ne_true (set.contains (tickets_left ts spare) t) (λ at. both_ways (set.contains ts t) off (in_list ts spare t at))
+pub not_left : (ts : set.FinSet nat_cmp) (xs : List ℕ) (t : ℕ) → set.contains ts t ≡ false → set.contains (tickets_left ts xs) t ≡ false
+not_left ts xs t off =
+    false_from_ne_true (set.contains (tickets_left ts xs) t) (λ at. both_ways (set.contains ts t) off (in_list ts xs t at))
 
-pub spare_is_free : (ts : set.FinSet nat_cmp) (spare : Option ℕ) (x : ℕ) → spare ≡ Some x
-    → set.contains (tickets_left ts spare) x ≡ false
-spare_is_free ts spare x is =
-    rw is (false_from_ne_true (set.contains (set.remove ts x) x) (λ at. (apart ts x x at).0 refl))
+pub left_from : (ts : set.FinSet nat_cmp) (xs : List ℕ) (t : ℕ) → holds t xs ≡ false → set.contains ts t ≡ true
+    → set.contains (tickets_left ts xs) t ≡ true
+left_from ts xs t off at = contains_left ts xs t ∙ and_from (not (holds t xs)) (set.contains ts t) (not_from_false (holds t xs) off) at
 
 -- what was claimed of the list is claimed of what is left
-pub left_inserted : (ts : set.FinSet nat_cmp) (spare : Option ℕ) (t : ℕ) → set.contains ts t ≡ false
-    → ((x : ℕ) → spare ≡ Some x → set.contains ts x ≡ true)
-    → tickets_left (set.insert ts t) spare ≡ set.insert (tickets_left ts spare) t
-left_inserted ts None t off held = refl
-left_inserted ts (Some x) t off held = same_tickets _ _ each
+pub left_inserted : (ts : set.FinSet nat_cmp) (xs : List ℕ) (t : ℕ) → holds t xs ≡ false
+    → tickets_left (set.insert ts t) xs ≡ set.insert (tickets_left ts xs) t
+left_inserted ts xs t off = same_tickets _ _ each
   where
-    ne : x ≢ t
-    ne is = both_ways (set.contains ts t) off (subst (λ k. set.contains ts k ≡ true) is (held x refl))
-
-    each : (q : ℕ) → set.contains (set.remove (set.insert ts t) x) q ≡ set.contains (set.insert (set.remove ts x) t) q
+    each : (q : ℕ) → set.contains (tickets_left (set.insert ts t) xs) q ≡ set.contains (set.insert (tickets_left ts xs) t) q
     each q =
-        contains_removed (set.insert ts t) x q ∙ ap (λ b. not (eqb q x) && b) (contains_inserted ts t q)
+        contains_left (set.insert ts t) xs q ∙ ap (λ b. not (holds q xs) && b) (contains_inserted ts t q)
         ∙ turned (cases_eq q t)
-        ∙ sym (contains_inserted (set.remove ts x) t q ∙ ap (λ b. eqb q t || b) (contains_removed ts x q))
+        ∙ sym (contains_inserted (tickets_left ts xs) t q ∙ ap (λ b. eqb q t || b) (contains_left ts xs q))
       where
-        turned : ((q ≡ t) ⊎ (q ≢ t)) → (not (eqb q x) && (eqb q t || set.contains ts q)) ≡ (eqb q t || (not (eqb q x) && set.contains ts q))
-        turned (inl is) = rw (eq-eqb q t is, ne_eqb q x (λ e. ne (sym e ∙ is))) refl
+        turned : ((q ≡ t) ⊎ (q ≢ t))
+            → (not (holds q xs) && (eqb q t || set.contains ts q)) ≡ (eqb q t || (not (holds q xs) && set.contains ts q))
+        turned (inl is) = rw (eq-eqb q t is, ap (λ k. holds k xs) is ∙ off) refl
         turned (inr other) = rw (ne_eqb q t other) refl
 
 -- what is given back to the list is given back to what is left
-pub left_removed : (ts : set.FinSet nat_cmp) (spare : Option ℕ) (t : ℕ) → tickets_left (set.remove ts t) spare
-    ≡ set.remove (tickets_left ts spare) t
-left_removed ts None t = refl
-left_removed ts (Some x) t = same_tickets _ _ each
+pub left_removed : (ts : set.FinSet nat_cmp) (xs : List ℕ) (t : ℕ) → tickets_left (set.remove ts t) xs ≡ set.remove (tickets_left ts xs) t
+left_removed ts xs t = same_tickets _ _ each
   where
     swapped : (a b c : Bool) → (not a && (not b && c)) ≡ (not b && (not a && c))
     swapped true true c = refl
@@ -75,123 +84,207 @@ left_removed ts (Some x) t = same_tickets _ _ each
     swapped false true c = refl
     swapped false false c = refl
 
-    each : (q : ℕ) → set.contains (set.remove (set.remove ts t) x) q ≡ set.contains (set.remove (set.remove ts x) t) q
+    each : (q : ℕ) → set.contains (tickets_left (set.remove ts t) xs) q ≡ set.contains (set.remove (tickets_left ts xs) t) q
     each q =
-        contains_removed (set.remove ts t) x q ∙ ap (λ b. not (eqb q x) && b) (contains_removed ts t q)
-        ∙ swapped (eqb q x) (eqb q t) (set.contains ts q)
-        ∙ sym (contains_removed (set.remove ts x) t q ∙ ap (λ b. not (eqb q t) && b) (contains_removed ts x q))
+        contains_left (set.remove ts t) xs q ∙ ap (λ b. not (holds q xs) && b) (contains_removed ts t q)
+        ∙ swapped (holds q xs) (eqb q t) (set.contains ts q)
+        ∙ sym (contains_removed (tickets_left ts xs) t q ∙ ap (λ b. not (eqb q t) && b) (contains_left ts xs q))
+
+-- a spare ticket more is one less that somebody has
+pub left_pushed : (ts : set.FinSet nat_cmp) (xs : List ℕ) (t : ℕ) → tickets_left ts (xs ++ t ∷ []) ≡ set.remove (tickets_left ts xs) t
+left_pushed ts xs t = same_tickets _ _ each
+  where
+    apart : (a b c : Bool) → (not (a || b) && c) ≡ (not a && (not b && c))
+    apart true b c = refl
+    apart false true c = refl
+    apart false false c = refl
+
+    each : (q : ℕ) → set.contains (tickets_left ts (xs ++ t ∷ [])) q ≡ set.contains (set.remove (tickets_left ts xs) t) q
+    each q =
+        contains_left ts (xs ++ t ∷ []) q ∙ ap (λ b. not b && set.contains ts q) (holds-push q xs t)
+        ∙ apart (eqb q t) (holds q xs) (set.contains ts q)
+        ∙ sym (contains_removed (tickets_left ts xs) t q ∙ ap (λ b. not (eqb q t) && b) (contains_left ts xs q))
+
+-- one spare ticket less is one more that somebody has
+pub left_popped : (ts : set.FinSet nat_cmp) (xs : List ℕ) (x : ℕ) → holds x xs ≡ false → set.contains ts x ≡ true
+    → tickets_left ts xs ≡ set.insert (tickets_left ts (xs ++ x ∷ [])) x
+left_popped ts xs x off at = same_tickets _ _ each
+  where
+    each : (q : ℕ) → set.contains (tickets_left ts xs) q ≡ set.contains (set.insert (tickets_left ts (xs ++ x ∷ [])) x) q
+    each q =
+        kept (cases_eq q x)
+        ∙ sym (contains_inserted (tickets_left ts (xs ++ x ∷ [])) x q
+        ∙ ap (λ b. eqb q x || b) (ap (λ m. set.contains m q) (left_pushed ts xs x) ∙ contains_removed (tickets_left ts xs) x q))
+      where
+        kept : ((q ≡ x) ⊎ (q ≢ x))
+            → set.contains (tickets_left ts xs) q ≡ (eqb q x || (not (eqb q x) && set.contains (tickets_left ts xs) q))
+        kept (inl same) =
+            ap (set.contains (tickets_left ts xs)) same ∙ left_from ts xs x off at ∙ sym (or_left (eqb q x) _ (eq-eqb q x same))
+        kept (inr other) = rw (ne_eqb q x other) refl
 
 module _ {W : Type 0} where
-  pub spare_held : (ts : set.FinSet nat_cmp) (ps : List (ℕ × W)) (spare : Option ℕ) (x : ℕ) → spare ≡ Some x → IsSpare ts ps spare
-      → (set.contains ts x ≡ true) × (has x ps ≡ false)
-  spare_held ts ps spare x is held = subst (IsSpare ts ps) is held
+  -- the spare tickets after each change of the list
+  pub none_spare : (ts : set.FinSet nat_cmp) (ps : List (ℕ × W)) → IsSpare ts ps []
+  none_spare ts ps = record {
+    held = λ x at. absurd (both_ways false refl at);
+    idle = λ x at. absurd (both_ways false refl at);
+    once = tt;
+  }
 
-  -- with the spare ticket claimed all are somebody's
-  pub spare_claimed : (ts : set.FinSet nat_cmp) (ps : List (ℕ × W)) (spare : Option ℕ) (x : ℕ) → spare ≡ Some x → IsSpare ts ps spare
-      → ts ≡ set.insert (tickets_left ts spare) x
-  spare_claimed ts ps spare x is held = rw is (same_tickets ts (set.insert (set.remove ts x) x) each)
+  pub not_spare : (ts : set.FinSet nat_cmp) (ps : List (ℕ × W)) (xs : List ℕ) (t : ℕ) → IsSpare ts ps xs → set.contains ts t ≡ false
+      → holds t xs ≡ false
+  not_spare ts ps xs t spare off = false_from_ne_true (holds t xs) (λ at. both_ways (set.contains ts t) off (spare.held t at))
+
+  pub spare_inserted : (ts : set.FinSet nat_cmp) (ps : List (ℕ × W)) (xs : List ℕ) (t : ℕ) → IsSpare ts ps xs
+      → IsSpare (set.insert ts t) ps xs
+  spare_inserted ts ps xs t spare = record {
+    held = λ x at. contains_inserted ts t x ∙ or_right (eqb x t) _ (spare.held x at);
+    idle = spare.idle;
+    once = spare.once;
+  }
+
+  pub spare_removed : (ts : set.FinSet nat_cmp) (ps : List (ℕ × W)) (xs : List ℕ) (t : ℕ) → IsSpare ts ps xs
+      → set.contains (tickets_left ts xs) t ≡ true → IsSpare (set.remove ts t) ps xs
+  spare_removed ts ps xs t spare at = record {
+    held =
+        λ x here. contains_removed ts t x
+        ∙ and_from (not (eqb x t)) (set.contains ts x)
+        (not_from_false (eqb x t) (ne_eqb x t (λ is. both_ways (holds t xs) (taken ts xs t at).0 (subst (λ k. holds k xs ≡ true) is here))))
+        (spare.held x here);
+    idle = spare.idle;
+    once = spare.once;
+  }
+
+  pub spare_pushed : (ts : set.FinSet nat_cmp) (ps : List (ℕ × W)) (xs : List ℕ) (t : ℕ) (w : W) → IsSpare ts ps xs
+      → set.contains (tickets_left ts xs) t ≡ true → IsSpare ts (ps ++ (t, w) ∷ []) xs
+  spare_pushed ts ps xs t w spare at = record {
+    held = spare.held;
+    idle =
+        λ x here. has-push x ps t w
+        ∙ rw (
+          spare.idle x here,
+          ne_eqb x t (λ is. both_ways (holds t xs) (taken ts xs t at).0 (subst (λ k. holds k xs ≡ true) is here)),
+        ) refl;
+    once = spare.once;
+  }
+
+  pub spare_without : (ts : set.FinSet nat_cmp) (ps : List (ℕ × W)) (xs : List ℕ) (t : ℕ) → IsSpare ts ps xs
+      → IsSpare ts (without_pair t ps) xs
+  spare_without ts ps xs t spare = record {
+    held = spare.held;
+    idle =
+        λ x here. false_from_ne_true (has x (without_pair t ps)) (λ at. both_ways (has x ps) (spare.idle x here) (has-without t x ps at));
+    once = spare.once;
+  }
+
+  pub spare_dropped : (ts : set.FinSet nat_cmp) (ps : List (ℕ × W)) (xs : List ℕ) → IsSpare ts ps xs → IsSpare ts (drop 1 ps) xs
+  spare_dropped ts [] xs spare = spare
+  spare_dropped ts (p ∷ ps) xs spare = record {
+    held = spare.held;
+    idle = λ x here. (or_parts (eqb x p.0) (has x ps) (spare.idle x here)).1;
+    once = spare.once;
+  }
+
+  pub spare_moved : (ts ts' : set.FinSet nat_cmp) (ps ps' : List (ℕ × W)) (xs : List ℕ) → ts' ≡ ts → ps' ≡ ps → IsSpare ts ps xs
+      → IsSpare ts' ps' xs
+  spare_moved ts ts' ps ps' xs tickets pairs spare = rw (tickets, pairs) spare
+
+  -- a ticket that is given back is a spare one
+  pub spare_kept : (ts : set.FinSet nat_cmp) (ps : List (ℕ × W)) (xs : List ℕ) (t : ℕ) → IsSpare ts ps xs
+      → set.contains (tickets_left ts xs) t ≡ true → has t ps ≡ false → IsSpare ts ps (xs ++ t ∷ [])
+  spare_kept ts ps xs t spare at off = record {
+    held = λ x here. either x here (λ k. set.contains ts k ≡ true) (taken ts xs t at).1 (spare.held x);
+    idle = λ x here. either x here (λ k. has k ps ≡ false) off (spare.idle x);
+    once = Apart-push xs t spare.once (taken ts xs t at).0;
+  }
     where
-      each : (q : ℕ) → set.contains ts q ≡ set.contains (set.insert (set.remove ts x) x) q
-      each q =
-          sym (contains_inserted (set.remove ts x) x q ∙ ap (λ b. eqb q x || b) (contains_removed ts x q) ∙ kept (cases_eq q x))
-        where
-          kept : ((q ≡ x) ⊎ (q ≢ x)) → (eqb q x || (not (eqb q x) && set.contains ts q)) ≡ set.contains ts q
-          kept (inl same) =
-              or_left (eqb q x) _ (eq-eqb q x same)
-              ∙ sym (ap (set.contains ts) same ∙ (spare_held ts ps spare x is held).0)
-          kept (inr other) = rw (ne_eqb q x other) refl
+      either : (x : ℕ) → holds x (xs ++ t ∷ []) ≡ true → (P : ℕ → Type 0) → P t → (holds x xs ≡ true → P x) → P x
+      either x here P at_t there = elim (cases_eq x t) [
+        | inl is ↦ subst P (sym is) at_t
+        | inr other ↦ there (sym (ap (λ b. b || holds x xs) (ne_eqb x t other)) ∙ sym (holds-push x xs t) ∙ here)
+      ]
 
-  -- the spare ticket after each change of the list
-  pub spare_inserted : (ts : set.FinSet nat_cmp) (ps : List (ℕ × W)) (spare : Option ℕ) (t : ℕ) → IsSpare ts ps spare
-      → IsSpare (set.insert ts t) ps spare
-  spare_inserted ts ps None t held = tt
-  spare_inserted ts ps (Some x) t held = (contains_inserted ts t x ∙ or_there (eqb x t) held.0, held.1)
-    where
-      or_there : (b : Bool) {c : Bool} → c ≡ true → (b || c) ≡ true
-      or_there true at = refl
-      or_there false at = at
+  -- the youngest spare one is claimed
+  pub spare_claimed : (ts : set.FinSet nat_cmp) (ps : List (ℕ × W)) (xs : List ℕ) (x : ℕ) → IsSpare ts ps (xs ++ x ∷ []) → IsSpare ts ps xs
+  spare_claimed ts ps xs x spare = record {
+    held = λ k here. spare.held k (holds-push k xs x ∙ or_right (eqb k x) _ here);
+    idle = λ k here. spare.idle k (holds-push k xs x ∙ or_right (eqb k x) _ here);
+    once = Apart-front xs (x ∷ []) spare.once;
+  }
 
-  pub spare_removed : (ts : set.FinSet nat_cmp) (ps : List (ℕ × W)) (spare : Option ℕ) (t : ℕ) → IsSpare ts ps spare
-      → set.contains (tickets_left ts spare) t ≡ true → IsSpare (set.remove ts t) ps spare
-  spare_removed ts ps None t held at = tt
-  spare_removed ts ps (Some x) t held at = (still ts t x (λ is. (apart ts x t at).0 (sym is)) held.0, held.1)
-
-  pub spare_pushed : (ts : set.FinSet nat_cmp) (ps : List (ℕ × W)) (spare : Option ℕ) (t : ℕ) (w : W) → IsSpare ts ps spare
-      → set.contains (tickets_left ts spare) t ≡ true → IsSpare ts (ps ++ (t, w) ∷ []) spare
-  spare_pushed ts ps None t w held at = tt
-  spare_pushed ts ps (Some x) t w held at =
-      (held.0, has-push x ps t w ∙ rw (held.1, ne_eqb x t (λ is. (apart ts x t at).0 (sym is))) refl)
-
-  pub spare_without : (ts : set.FinSet nat_cmp) (ps : List (ℕ × W)) (spare : Option ℕ) (t : ℕ) → IsSpare ts ps spare
-      → IsSpare ts (without_pair t ps) spare
-  spare_without ts ps None t held = tt
-  spare_without ts ps (Some x) t held =
-      (held.0, false_from_ne_true (has x (without_pair t ps)) (λ at. both_ways (has x ps) held.1 (has-without t x ps at)))
-
-  pub spare_dropped : (ts : set.FinSet nat_cmp) (ps : List (ℕ × W)) (spare : Option ℕ) → IsSpare ts ps spare
-      → IsSpare ts (drop 1 ps) spare
-  spare_dropped ts ps None held = tt
-  spare_dropped ts [] (Some x) held = held
-  spare_dropped ts (p ∷ ps) (Some x) held = (held.0, (or_parts (eqb x p.0) (has x ps) held.1).1)
-
-  pub spare_moved : (ts ts' : set.FinSet nat_cmp) (ps ps' : List (ℕ × W)) (spare : Option ℕ) → ts' ≡ ts → ps' ≡ ps → IsSpare ts ps spare
-      → IsSpare ts' ps' spare
-  spare_moved ts ts' ps ps' spare tickets pairs held = rw (tickets, pairs) held
-
-  -- who has a pair is not the spare ticket
-  pub left_live : (ts : set.FinSet nat_cmp) (ps : List (ℕ × W)) (spare : Option ℕ) → IsSpare ts ps spare
-      → ((t : ℕ) → has t ps ≡ true → set.contains ts t ≡ true) → (t : ℕ) → has t ps ≡ true
-      → set.contains (tickets_left ts spare) t ≡ true
-  left_live ts ps None held live t at = live t at
-  left_live ts ps (Some x) held live t at =
-      still ts x t (λ is. both_ways (has x ps) held.1 (subst (λ k. has k ps ≡ true) is at)) (live t at)
+  -- who has a pair is no spare ticket
+  pub left_live : (ts : set.FinSet nat_cmp) (ps : List (ℕ × W)) (xs : List ℕ) → IsSpare ts ps xs
+      → ((t : ℕ) → has t ps ≡ true → set.contains ts t ≡ true) → (t : ℕ) → has t ps ≡ true → set.contains (tickets_left ts xs) t ≡ true
+  left_live ts ps xs spare live t at =
+      left_from ts xs t (false_from_ne_true (holds t xs) (λ here. both_ways (has t ps) (spare.idle t here) at)) (live t at)
 
   -- an outbox as it is seen, where its list is this
-  abbrev pub left_of : OutboxModel W → Option ℕ → OutboxModel W
-  left_of b spare = record { tickets = tickets_left b.tickets spare; pairs = b.pairs; visits = b.visits }
+  abbrev pub left_of : OutboxModel W → List ℕ → OutboxModel W
+  left_of b xs = record { tickets = tickets_left b.tickets xs; pairs = b.pairs; visits = b.visits }
 
   -- a ticket was claimed of the list
-  pub record LeftClaimed (b n : OutboxModel W) (spare : Option ℕ) (t : ℕ) : Type 0 where
-    pub held : IsSpare n.tickets n.pairs spare
-    pub view : left_of n spare ≡ with_tickets (left_of b spare) (set.insert (tickets_left b.tickets spare) t)
-    pub live : set.contains (tickets_left n.tickets spare) t ≡ true
+  pub record LeftClaimed (b n : OutboxModel W) (xs : List ℕ) (t : ℕ) : Type 0 where
+    pub held : IsSpare n.tickets n.pairs xs
+    pub view : left_of n xs ≡ with_tickets (left_of b xs) (set.insert (tickets_left b.tickets xs) t)
+    pub live : set.contains (tickets_left n.tickets xs) t ≡ true
 
-  pub LeftClaimed-at : (b n : OutboxModel W) (spare : Option ℕ) (t : ℕ) → IsSpare b.tickets b.pairs spare
-      → set.contains b.tickets t ≡ false → n ≡ with_tickets b (set.insert b.tickets t) → LeftClaimed b n spare t
-  LeftClaimed-at b n spare t held off is =
-      let left = left_inserted b.tickets spare t off (λ x some. (spare_held b.tickets b.pairs spare x some held).0) in
+  pub LeftClaimed-at : (b n : OutboxModel W) (xs : List ℕ) (t : ℕ) → IsSpare b.tickets b.pairs xs
+      → set.contains b.tickets t ≡ false → n ≡ with_tickets b (set.insert b.tickets t) → LeftClaimed b n xs t
+  LeftClaimed-at b n xs t spare off is =
+      let left = left_inserted b.tickets xs t (not_spare b.tickets b.pairs xs t spare off) in
       rw is (record {
-        held = spare_inserted b.tickets b.pairs spare t held;
+        held = spare_inserted b.tickets b.pairs xs t spare;
         view = λ i. record { tickets = left i; pairs = b.pairs; visits = b.visits };
         live =
-            ap (λ ts. set.contains ts t) left ∙ contains_inserted (tickets_left b.tickets spare) t t
+            ap (λ ts. set.contains ts t) left ∙ contains_inserted (tickets_left b.tickets xs) t t
             ∙ or_left (eqb t t) _ (eq-eqb t t refl);
       })
 
   -- a ticket was given back to the list
-  pub record LeftFreed (b n : OutboxModel W) (spare : Option ℕ) (t : ℕ) : Type 0 where
-    pub held : IsSpare n.tickets n.pairs spare
-    pub view : left_of n spare ≡ with_tickets (left_of b spare) (set.remove (tickets_left b.tickets spare) t)
+  pub record LeftFreed (b n : OutboxModel W) (xs : List ℕ) (t : ℕ) : Type 0 where
+    pub held : IsSpare n.tickets n.pairs xs
+    pub view : left_of n xs ≡ with_tickets (left_of b xs) (set.remove (tickets_left b.tickets xs) t)
 
-  pub LeftFreed-at : (b n : OutboxModel W) (spare : Option ℕ) (t : ℕ) → IsSpare b.tickets b.pairs spare
-      → set.contains (tickets_left b.tickets spare) t ≡ true → n ≡ with_tickets b (set.remove b.tickets t) → LeftFreed b n spare t
-  LeftFreed-at b n spare t held at is =
-      let left = left_removed b.tickets spare t in
+  pub LeftFreed-at : (b n : OutboxModel W) (xs : List ℕ) (t : ℕ) → IsSpare b.tickets b.pairs xs
+      → set.contains (tickets_left b.tickets xs) t ≡ true → n ≡ with_tickets b (set.remove b.tickets t) → LeftFreed b n xs t
+  LeftFreed-at b n xs t spare at is =
+      let left = left_removed b.tickets xs t in
       rw is (record {
-        held = spare_removed b.tickets b.pairs spare t held at;
+        held = spare_removed b.tickets b.pairs xs t spare at;
         view = λ i. record { tickets = left i; pairs = b.pairs; visits = b.visits };
       })
 
-  -- the ticket is the spare one now, where there was none
-  pub left_kept : (b : OutboxModel W) (spare : Option ℕ) (t : ℕ) → is_some spare ≡ false → left_of b (Some t)
-      ≡ with_tickets (left_of b spare) (set.remove (tickets_left b.tickets spare) t)
-  left_kept b spare t none =
-      let all = none_left b.tickets spare none in
-      λ i. record { tickets = set.remove (sym all i) t; pairs = b.pairs; visits = b.visits }
+  -- a ticket is spare now
+  pub left_kept : (b : OutboxModel W) (xs : List ℕ) (t : ℕ) → left_of b (xs ++ t ∷ [])
+      ≡ with_tickets (left_of b xs) (set.remove (tickets_left b.tickets xs) t)
+  left_kept b xs t =
+      let left = left_pushed b.tickets xs t in
+      λ i. record { tickets = left i; pairs = b.pairs; visits = b.visits }
 
-  -- the spare ticket is somebody's now
-  pub left_claimed : (b : OutboxModel W) (spare : Option ℕ) (x : ℕ) → spare ≡ Some x → IsSpare b.tickets b.pairs spare
-      → left_of b None ≡ with_tickets (left_of b spare) (set.insert (tickets_left b.tickets spare) x)
-  left_claimed b spare x is held =
-      let all = spare_claimed b.tickets b.pairs spare x is held in
-      λ i. record { tickets = all i; pairs = b.pairs; visits = b.visits }
+  -- a spare ticket is somebody's now
+  pub record SpareClaimed (b : OutboxModel W) (was xs : List ℕ) (x : ℕ) : Type 0 where
+    pub held : IsSpare b.tickets b.pairs xs
+    pub view : left_of b xs ≡ with_tickets (left_of b was) (set.insert (tickets_left b.tickets was) x)
+    pub was_free : set.contains (tickets_left b.tickets was) x ≡ false
+    pub live : set.contains (tickets_left b.tickets xs) x ≡ true
+    pub idle : has x b.pairs ≡ false
+
+  pub SpareClaimed-at : (b : OutboxModel W) (was xs : List ℕ) (x : ℕ) → was ≡ xs ++ x ∷ [] → IsSpare b.tickets b.pairs was
+      → SpareClaimed b was xs x
+  SpareClaimed-at b was xs x is spare =
+      let all = subst (IsSpare b.tickets b.pairs) is spare in
+      let here = holds-push x xs x ∙ or_left (eqb x x) (holds x xs) (eq-eqb x x refl) in
+      let off = not_before all.once in
+      let left = left_popped b.tickets xs x off (all.held x here) in
+      rw is (record {
+        held = spare_claimed b.tickets b.pairs xs x all;
+        view = λ i. record { tickets = left i; pairs = b.pairs; visits = b.visits };
+        was_free =
+            false_from_ne_true (set.contains (tickets_left b.tickets (xs ++ x ∷ [])) x)
+            (λ at. both_ways (holds x (xs ++ x ∷ [])) (taken b.tickets (xs ++ x ∷ []) x at).0 here);
+        live = left_from b.tickets xs x off (all.held x here);
+        idle = all.idle x here;
+      })
+    where
+      not_before : Apart (xs ++ x ∷ []) → holds x xs ≡ false
+      not_before once = ap (holds x) (sym (append-nil xs)) ∙ apart_middle xs x [] once
