@@ -21,7 +21,7 @@ fn a_wait_by_slot(rt: HostRuntime) {
 fn a_receive_by_slot(rt: HostRuntime) {
     let mut channel: OneshotState<u32, u64> = OneshotState::new(rt.alloc());
     let slot = channel.claim_receive().expect(&rt, "room");
-    let is_pending = channel.receive_or_register(slot, 1).0.is_pending();
+    let is_pending = matches!(channel.receive_checked(slot, 1), Ok((Poll::Pending, _)));
     assert!(rt; is_pending);
     assert_eq!(rt; channel.close(), CloseStatus::NewlyClosed);
     assert_eq!(rt; channel.wake_count(), 1);
@@ -39,6 +39,8 @@ fn a_broadcast_by_slot(rt: HostRuntime) {
     assert_eq!(rt; channel.send(5), Ok(()));
     assert_eq!(rt; channel.send(6), Err(ChannelSendError(6)));
     assert_eq!(rt; channel.next_wake(), Some(1));
+    let later = channel.claim_receive().expect(&rt, "room");
+    assert!(rt; channel.receive_or_register(later, 2).0.is_ready());
 }
 
 #[test]
