@@ -4,13 +4,13 @@ ghost use Rattle.std.specs.Option.{option_map};
 ghost use Rattle.futures.specs.Poll.{OnPending};
 ghost use Rattle.fi_parts.specs.Buffer.{empty};
 ghost use Rattle.fi_parts.specs.Stages.{stage_of, AppendsQueue};
-ghost use Rattle.fi_channels.specs.Polled.{unused_after, Answered, displaced_by, WouldBeReady, LeavesWhere};
+ghost use Rattle.fi_channels.specs.Polled.{unused_after, Answered, displaced_by, IsRefused, WouldBeReady, LeavesWhere};
 ghost use Rattle.fi_channels.specs.Channel.{MakesSend, MakesReceive, PollsSend, PollsReceive, PollsNext, CancelsSend};
 ghost use Rattle.fi_channels.specs.Channel.{CancelsReceive, TriesSend, TriesReceive, Closes, Wakes, IsSound};
 ghost use Rattle.fi_channels.specs.Channel.{OwesNoWake};
 ghost use Rattle.fi_channels.specs.ChannelWords as words;
 ghost use Rattle.fi_channels.specs.ChannelWords.{opened, send_phase, receive_phase, kind_of, displaced_send};
-ghost use Rattle.fi_channels.specs.ChannelWords.{displaced_receive, displaced_by_send, has_room, next_of};
+ghost use Rattle.fi_channels.specs.ChannelWords.{displaced_receive, displaced_by_send, has_room};
 ghost use Rattle.fi_channels.specs.ChannelStays.{AllStay, OtherSendsStay, OtherReceivesStay, IsApartFromSends, IsApartFromReceives};
 ghost use Rattle.fi_channels.specs.Cleared.{ClosesAndClears, NoSendWaits};
 ghost use Rattle.fi_channels.specs.declared.channel.fields.ReceiveKind.TheVariants.{Single, Stream};
@@ -28,7 +28,7 @@ use crate::channel::two_sides::{Receives, Sends};
 use crate::receive_future::LocalReceiveFuture;
 use crate::send_future::LocalSendFuture;
 use fi_parts::buffer::{ArrayBuf, RingBuf};
-use fi_parts::{CloseStatus, Fault, Leftover, NoRoom, Phase, Refused, Slot, Stage};
+use fi_parts::{CloseStatus, Fault, Leftover, NoRoom, NotPolled, Refused, Slot, Stage};
 use futures::task::Poll;
 use std::alloc::Global;
 use std::fmt;
@@ -50,7 +50,10 @@ use std::marker::Model;
 ///
 /// let mut channel: ChannelState<u64, ArrayBuf<u64, 1>, u64> = ChannelState::new(rt.alloc());
 /// let slot = channel.claim_send(5).ok().expect(&rt, "memory");
-/// let is_sent = matches!(channel.send_checked(slot, 1), Ok((Poll::Ready(Ok(())), _)));
+/// let is_sent = matches!(
+///     channel.poll_send(slot, 1, true),
+///     Ok((Poll::Ready(Ok(())), _))
+/// );
 /// channel.leave_send(slot);
 /// assert!(rt; is_sent && channel.try_receive() == Ok(5));
 /// ```
@@ -362,32 +365,15 @@ impl<T: Drop, B: RingBuf<Item = T>, W: Drop> ChannelState<T, B, W> {
         self.fields.waiters.queue::<Receives>(slots)
     }
 
-    /// Returns `true` if a poll of the stream under this slot would have to wait now, so that it needs a waker; `false` where none lives.
-    pub fn next_would_wait(&self, slot: Slot) -> bool
-        ensures waits { words.can_stream (kind_of self.now slot.0) (receive_phase self.now slot.0) ≡ true →
-            WouldBeReady (PollsNext self.now slot.0) (not result) }
-        ensures pollable { result ≡ true → words.can_stream (kind_of self.now slot.0) (receive_phase self.now slot.0) ≡ true }
-    {
-        let future = match self.fields.waiters.future::<Receives>(slot) {
-            Some(future) => future,
-            None => return false,
-        };
-        match (&future.asks, &future.phase) {
-            (ReceiveKind::Stream, Phase::Fresh | Phase::Told) => self.fields.is_open
-                && !self.has_next(),
-            (ReceiveKind::Stream, Phase::Registered(_)) => true,
-            _ => false,
-        }
-    }
-
-    /// Polls the stream under this slot, if one lives there: ready with its next item, or with None once the channel is closed and
-    /// empty, and ever after; else it is registered with this waker. The stream still lives, until it is cancelled (`leave_receive`).
-    /// If none lives there the waker comes back, and nothing has changed: so it asks its caller for nothing.
-    pub fn next_checked(
+    /// Polls the stream under this slot: ready with its next item, or with None once the channel is closed and empty, and ever after;
+    /// else it is registered with this waker. The stream still lives, until it is cancelled (`leave_receive`). It is refused where none
+    /// lives there, and where it would have to wait and may not; then nothing has changed: so it asks its caller for nothing.
+    pub fn poll_next(
         &mut self,
         slot: Slot,
         waker: W,
-    ) -> Result<(Poll<Option<T>>, Leftover<W>), W>
+        may_wait: bool,
+    ) -> Result<(Poll<Option<T>>, Leftover<W>), NotPolled<W>>
         ensures polled { IfOk result (λ polled. PollsNext self.old slot.0 waker polled.0 self.new) }
         ensures displaced { IfOk result (λ polled. polled.1.displaced ≡ displaced_receive self.old slot.0) }
         ensures unused { IfOk result (λ polled. polled.1.unused ≡ unused_after polled.0 waker) }
@@ -395,24 +381,13 @@ impl<T: Drop, B: RingBuf<Item = T>, W: Drop> ChannelState<T, B, W> {
             (λ _. words.can_stream (kind_of self.new slot.0) (receive_phase self.new slot.0) ≡ true) }
         ensures others { OtherReceivesStay slot.0 self.old self.new }
         ensures pollable { OnOk result (words.can_stream (kind_of self.old slot.0) (receive_phase self.old slot.0) ≡ true) }
-        ensures refused { OnErr result
-            ((words.can_stream (kind_of self.old slot.0) (receive_phase self.old slot.0) ≡ false) × (self.new ≡ self.old)) }
-        ensures handed_back { IfErr result (λ back. back ≡ waker) }
+        ensures waits { IfOk result (λ polled. OnPending polled.0 (may_wait ≡ true)) }
+        ensures unchanged { OnErr result (self.new ≡ self.old) }
+        ensures refused { IfErr result (λ why. IsRefused why waker
+            (words.can_stream (kind_of self.old slot.0) (receive_phase self.old slot.0)) may_wait
+            (WouldBeReady (PollsNext self.old slot.0) false)) }
     {
-        self.fields.next_checked(slot, waker)
-    }
-
-    // Whether there is a value to be received: one that is buffered, or of a send that waits.
-    fn has_next(&self) -> bool
-        ensures { result ≡ is_some (next_of self.now) }
-    {
-        if !self.fields.buffer.is_empty() {
-            return true;
-        }
-        match self.fields.waiters.oldest_asks::<Sends>() {
-            Some(value) => value.is_some(),
-            None => false,
-        }
+        self.fields.poll_next(slot, waker, may_wait)
     }
 }
 
@@ -438,19 +413,13 @@ impl<T: Drop, B: RingBuf<Item = T>, W: Drop> ChannelSendAccess for ChannelState<
 
     ghost others_stay = { channel_stays.OtherSendsStay };
 
-    fn send_would_wait(&self, slot: Slot) -> bool
-        ensures waits { WouldBeReady (PollsSend self.now slot.0) (not result) }
-        ensures pollable { result ≡ true → words.can_send (send_phase self.now slot.0) ≡ true }
-    {
-        match self.fields.waiters.phase::<Sends>(slot) {
-            Some(Phase::Fresh) => self.fields.is_open && !self.fields.buffer.can_push(),
-            Some(Phase::Registered(_)) => true,
-            None | Some(Phase::Told | Phase::Complete | Phase::Ended) => false,
-        }
-    }
-
     #[inline(always)]
-    fn send_checked(&mut self, slot: Slot, waker: W) -> Result<Sent<T, W>, W>
+    fn poll_send(
+        &mut self,
+        slot: Slot,
+        waker: W,
+        may_wait: bool,
+    ) -> Result<Sent<T, W>, NotPolled<W>>
         ensures polled { IfOk result (λ polled. PollsSend self.old slot.0 waker polled.0 self.new) }
         ensures displaced { IfOk result
             (λ polled. polled.1.displaced ≡ displaced_by_send polled.0 (displaced_send self.old slot.0)) }
@@ -459,10 +428,12 @@ impl<T: Drop, B: RingBuf<Item = T>, W: Drop> ChannelSendAccess for ChannelState<
         ensures pending { IfOk result (λ polled. OnPending polled.0 (words.can_send (send_phase self.new slot.0) ≡ true)) }
         ensures others { OtherSendsStay slot.0 self.old self.new }
         ensures sendable { OnOk result (words.can_send (send_phase self.old slot.0) ≡ true) }
-        ensures refused { OnErr result ((words.can_send (send_phase self.old slot.0) ≡ false) × (self.new ≡ self.old)) }
-        ensures handed_back { IfErr result (λ back. back ≡ waker) }
+        ensures waits { IfOk result (λ polled. OnPending polled.0 (may_wait ≡ true)) }
+        ensures unchanged { OnErr result (self.new ≡ self.old) }
+        ensures refused { IfErr result (λ why. IsRefused why waker (words.can_send (send_phase self.old slot.0)) may_wait
+            (WouldBeReady (PollsSend self.old slot.0) false)) }
     {
-        self.fields.send_checked(slot, waker)
+        self.fields.poll_send(slot, waker, may_wait)
     }
 
     #[inline(always)]
@@ -500,24 +471,13 @@ impl<T: Drop, B: RingBuf<Item = T>, W: Drop> ChannelReceiveAccess for ChannelSta
 
     ghost others_stay = { channel_stays.OtherReceivesStay };
 
-    fn receive_would_wait(&self, slot: Slot) -> bool
-        ensures waits { words.can_receive (kind_of self.now slot.0) (receive_phase self.now slot.0) ≡ true →
-            WouldBeReady (λ waker. Answered (PollsReceive self.now slot.0 waker) (λ fault state. ⊥)) (not result) }
-        ensures pollable { result ≡ true → words.can_receive (kind_of self.now slot.0) (receive_phase self.now slot.0) ≡ true }
-    {
-        let Some(future) = self.fields.waiters.future::<Receives>(slot) else {
-            return false;
-        };
-        match (&future.asks, &future.phase) {
-            (ReceiveKind::Single, Phase::Fresh | Phase::Told) => self.fields.is_open
-                && !self.has_next(),
-            (ReceiveKind::Single, Phase::Registered(_)) => true,
-            _ => false,
-        }
-    }
-
     #[inline(always)]
-    fn receive_checked(&mut self, slot: Slot, waker: W) -> Result<Received<T, W>, W>
+    fn poll_receive(
+        &mut self,
+        slot: Slot,
+        waker: W,
+        may_wait: bool,
+    ) -> Result<Received<T, W>, NotPolled<W>>
         ensures polled { IfOk result
             (λ polled. Answered (PollsReceive self.old slot.0 waker) (λ fault state. ⊥) polled.0 self.new) }
         ensures displaced { IfOk result (λ polled. polled.1.displaced ≡ displaced_by polled.0 (displaced_receive self.old slot.0)) }
@@ -527,11 +487,13 @@ impl<T: Drop, B: RingBuf<Item = T>, W: Drop> ChannelReceiveAccess for ChannelSta
             (words.can_receive (kind_of self.new slot.0) (receive_phase self.new slot.0) ≡ true)) }
         ensures others { OtherReceivesStay slot.0 self.old self.new }
         ensures pollable { OnOk result (words.can_receive (kind_of self.old slot.0) (receive_phase self.old slot.0) ≡ true) }
-        ensures refused { OnErr result
-            ((words.can_receive (kind_of self.old slot.0) (receive_phase self.old slot.0) ≡ false) × (self.new ≡ self.old)) }
-        ensures handed_back { IfErr result (λ back. back ≡ waker) }
+        ensures waits { IfOk result (λ polled. OnPending polled.0 (may_wait ≡ true)) }
+        ensures unchanged { OnErr result (self.new ≡ self.old) }
+        ensures refused { IfErr result (λ why. IsRefused why waker
+            (words.can_receive (kind_of self.old slot.0) (receive_phase self.old slot.0)) may_wait
+            (WouldBeReady (λ waker. Answered (PollsReceive self.old slot.0 waker) (λ fault state. ⊥)) false)) }
     {
-        let (answer, leftover) = self.fields.receive_checked(slot, waker)?;
+        let (answer, leftover) = self.fields.poll_receive(slot, waker, may_wait)?;
         match answer {
             Poll::Pending => Ok((Poll::Pending, leftover)),
             Poll::Ready(item) => Ok((Poll::Ready(Ok(item)), leftover)),

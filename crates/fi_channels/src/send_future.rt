@@ -1,7 +1,7 @@
 //! The sends of a channel.
 use crate::access::ChannelSendAccess;
 use crate::channel::errors::SendFault;
-use fi_parts::{FutureKind, FuturesOf, LocalFuture, Slot};
+use fi_parts::{FutureKind, FuturesOf, LocalFuture, NotPolled, Slot};
 use futures::task::Poll;
 
 /// The kind of a channel's sends: ready once the value is stored or was taken, and ready with the value where the channel is closed.
@@ -56,8 +56,12 @@ where
         _at: (),
         waker: C::Waker,
     ) -> Option<Poll<Result<(), SendFault<C::Item>>>> {
-        let (answer, _leftover) = channel.send_checked(slot, waker).ok()?;
-        Some(answer)
+        match channel.poll_send(slot, waker, true) {
+            Ok((answer, _leftover)) => Some(answer),
+            Err(NotPolled::NoFuture(_)) => None,
+            // It may wait.
+            Err(NotPolled::WouldWait(_)) => unreachable!(),
+        }
     }
 
     fn ends(answer: &Poll<Result<(), SendFault<C::Item>>>) -> bool {

@@ -3,7 +3,7 @@ ghost use Rattle.std.specs.Prelude.{◌≡◌, ◌&&◌, not, true, false, Optio
 ghost use Rattle.std.specs.Prelude.{OnOk};
 ghost use Rattle.std.specs.Option.{option_map};
 ghost use Rattle.fi_parts.specs.Machine.{phase_at, displaced_at};
-ghost use Rattle.fi_parts.specs.Polled.{unused_after, WouldBeReady, LeavesWhere};
+ghost use Rattle.fi_parts.specs.Polled.{unused_after, WouldBeReady, IsRefused, LeavesWhere};
 ghost use Rattle.fi_parts.specs.Order.{holds};
 ghost use Rattle.fi_parts.specs.Waiting.{IsLive, IsOrderedBy, displaced, is_queued, is_registered, may_be_named, phase_of};
 ghost use Rattle.fi_parts.specs.Effects.{TakesEffect};
@@ -21,7 +21,7 @@ pub mod guard;
 
 use crate::mutex::future::LocalMutexLockFuture;
 use crate::mutex::guard::LocalMutexGuard;
-use fi_parts::{Fault, Leftover, Phase, Refused, Slot, Stage, Waits, last_waker};
+use fi_parts::{Fault, Leftover, NotPolled, Phase, Refused, Slot, Stage, Waits, last_waker};
 use futures::task::Poll;
 use std::alloc::Global;
 use std::fmt;
@@ -43,9 +43,9 @@ use std::marker::Model;
 /// let mut mutex: MutexState<u64, u64> = MutexState::new(rt.alloc(), 7, true); // a fair one
 /// let is_taken = mutex.try_take() == Some(7); // the value is lent out: the mutex is locked
 /// let slot = mutex.claim_lock()?;
-/// let waits = matches!(mutex.poll_checked(slot, 1), Ok((Poll::Pending, _)));
+/// let waits = matches!(mutex.poll(slot, 1, true), Ok((Poll::Pending, _)));
 /// let is_woken = mutex.unlock(8) == Ok(()) && mutex.next_wake() == Some(1);
-/// let is_locked = matches!(mutex.poll_checked(slot, 2), Ok((Poll::Ready(8), _)));
+/// let is_locked = matches!(mutex.poll(slot, 2, false), Ok((Poll::Ready(8), _)));
 /// mutex.leave(slot);
 /// assert!(rt; is_taken && waits && is_woken && is_locked);
 /// ```
@@ -281,42 +281,34 @@ impl<T: Drop, W: Drop> MutexState<T, W> {
         self.locks.queue(slots)
     }
 
-    /// Returns `true` if a poll of the future under this slot would have to wait now, so that it needs a waker; `false` where none may be
-    /// polled.
-    pub fn would_wait(&self, slot: Slot) -> bool
-        ensures waits { WouldBeReady (Polls self.now slot.0) (not result) }
-        ensures pollable { result ≡ true → can_be_polled (phase_at self.now slot.0) ≡ true }
-    {
-        match self.locks.phase(slot) {
-            Some(Phase::Fresh) => self.value.is_none() || self.is_promised(),
-            Some(Phase::Registered(_)) => self.value.is_none() || self.is_fair,
-            Some(Phase::Told) => self.value.is_none(),
-            None | Some(Phase::Complete | Phase::Ended) => false,
-        }
-    }
-
     /// Polls the future under this slot, if one lives there that has not ended: ready with the value where the mutex is free for it,
-    /// else registered with this waker. The value is given back by `unlock`. The wakers of no more use come back. If there is no such
-    /// future the waker comes back, and nothing has changed: so it asks its caller for nothing.
+    /// else registered with this waker. The value is given back by `unlock`. The wakers of no more use come back. It is refused where
+    /// there is no such future, and where it would have to wait and may not; then nothing has changed. So it asks its caller for nothing.
     #[inline(always)]
-    pub fn poll_checked(&mut self, slot: Slot, waker: W) -> Result<(Poll<T>, Leftover<W>), W>
+    pub fn poll(
+        &mut self,
+        slot: Slot,
+        waker: W,
+        may_wait: bool,
+    ) -> Result<(Poll<T>, Leftover<W>), NotPolled<W>>
         ensures polled { IfOk result (λ polled. Polls self.old slot.0 waker polled.0 self.new) }
         ensures displaced { IfOk result (λ polled. polled.1.displaced ≡ displaced_at self.old slot.0) }
         ensures unused { IfOk result (λ polled. polled.1.unused ≡ unused_after polled.0 waker) }
         ensures live { IfOk result (λ _. is_some (phase_at self.new slot.0) ≡ true) }
         ensures pending { IfOk result (λ polled. OnPending polled.0 (can_be_polled (phase_at self.new slot.0) ≡ true)) }
         ensures locked { IfOk result (λ polled. IsLockedIfReady polled.0 self.new) }
-        ensures refused { OnErr result ((can_be_polled (phase_at self.old slot.0) ≡ false) × (self.new ≡ self.old)) }
-        ensures handed_back { IfErr result (λ back. back ≡ waker) }
+        ensures waits { IfOk result (λ polled. OnPending polled.0 (may_wait ≡ true)) }
+        ensures unchanged { OnErr result (self.new ≡ self.old) }
+        ensures refused { IfErr result (λ why. IsRefused why waker (can_be_polled (phase_at self.old slot.0)) may_wait
+            (WouldBeReady (Polls self.old slot.0) false)) }
         ensures others { OthersStay can_be_polled slot.0 self.old self.new }
     {
-        let polled = match self.locks.phase(slot) {
-            Some(Phase::Fresh) => self.poll_fresh(slot, waker),
-            Some(Phase::Registered(_)) => self.poll_registered(slot, waker),
-            Some(Phase::Told) => self.poll_told(slot, waker),
-            None | Some(Phase::Complete | Phase::Ended) => return Err(waker),
-        };
-        Ok(polled)
+        match self.locks.phase(slot) {
+            Some(Phase::Fresh) => self.poll_fresh(slot, waker, may_wait),
+            Some(Phase::Registered(_)) => self.poll_registered(slot, waker, may_wait),
+            Some(Phase::Told) => self.poll_told(slot, waker, may_wait),
+            None | Some(Phase::Complete | Phase::Ended) => Err(NotPolled::NoFuture(waker)),
+        }
     }
 
     /// Cancels the future under this slot, if one lives there, and gives back the waker that it had. If it was told, the oldest queued
@@ -349,47 +341,78 @@ impl<T: Drop, W: Drop> MutexState<T, W> {
     }
 
     #[inline(always)]
-    fn poll_fresh(&mut self, slot: Slot, waker: W) -> (Poll<T>, Leftover<W>)
+    fn poll_fresh(
+        &mut self,
+        slot: Slot,
+        waker: W,
+        may_wait: bool,
+    ) -> Result<(Poll<T>, Leftover<W>), NotPolled<W>>
         requires { phase_at self.old slot.0 ≡ Some phases.Fresh }
-        ensures polled { Polls self.old slot.0 waker result.0 self.new }
-        ensures displaced { result.1.displaced ≡ displaced_at self.old slot.0 }
-        ensures unused { result.1.unused ≡ unused_after result.0 waker }
+        ensures polled { IfOk result (λ polled. Polls self.old slot.0 waker polled.0 self.new) }
+        ensures displaced { IfOk result (λ polled. polled.1.displaced ≡ displaced_at self.old slot.0) }
+        ensures unused { IfOk result (λ polled. polled.1.unused ≡ unused_after polled.0 waker) }
+        ensures waits { IfOk result (λ polled. OnPending polled.0 (may_wait ≡ true)) }
+        ensures unchanged { OnErr result (self.new ≡ self.old) }
+        ensures refused { IfErr result (λ why. IsRefused why waker true may_wait (WouldBeReady (Polls self.old slot.0) false)) }
     {
         if !self.is_promised() {
             if let Some(value) = self.value.take() {
-                return grant(&mut self.locks, slot, false, value, waker);
+                return Ok(grant(&mut self.locks, slot, false, value, waker));
             }
         }
-        register(&mut self.locks, slot, waker)
+        if !may_wait {
+            return Err(NotPolled::WouldWait(waker));
+        }
+        Ok(register(&mut self.locks, slot, waker))
     }
 
     #[inline(always)]
-    fn poll_registered(&mut self, slot: Slot, waker: W) -> (Poll<T>, Leftover<W>)
+    fn poll_registered(
+        &mut self,
+        slot: Slot,
+        waker: W,
+        may_wait: bool,
+    ) -> Result<(Poll<T>, Leftover<W>), NotPolled<W>>
         requires { is_registered (phase_at self.old slot.0) ≡ true }
-        ensures polled { Polls self.old slot.0 waker result.0 self.new }
-        ensures displaced { result.1.displaced ≡ displaced_at self.old slot.0 }
-        ensures unused { result.1.unused ≡ unused_after result.0 waker }
+        ensures polled { IfOk result (λ polled. Polls self.old slot.0 waker polled.0 self.new) }
+        ensures displaced { IfOk result (λ polled. polled.1.displaced ≡ displaced_at self.old slot.0) }
+        ensures unused { IfOk result (λ polled. polled.1.unused ≡ unused_after polled.0 waker) }
+        ensures waits { IfOk result (λ polled. OnPending polled.0 (may_wait ≡ true)) }
+        ensures unchanged { OnErr result (self.new ≡ self.old) }
+        ensures refused { IfErr result (λ why. IsRefused why waker true may_wait (WouldBeReady (Polls self.old slot.0) false)) }
     {
         if !self.is_fair {
             if let Some(value) = self.value.take() {
-                return grant(&mut self.locks, slot, true, value, waker);
+                return Ok(grant(&mut self.locks, slot, true, value, waker));
             }
+        }
+        if !may_wait {
+            return Err(NotPolled::WouldWait(waker));
         }
         self.locks.take_out(slot);
         let before = self.locks.set_phase(slot, Phase::Registered(waker));
-        (Poll::Pending, Leftover::of(before, None))
+        Ok((Poll::Pending, Leftover::of(before, None)))
     }
 
     #[inline(always)]
-    fn poll_told(&mut self, slot: Slot, waker: W) -> (Poll<T>, Leftover<W>)
+    fn poll_told(
+        &mut self,
+        slot: Slot,
+        waker: W,
+        may_wait: bool,
+    ) -> Result<(Poll<T>, Leftover<W>), NotPolled<W>>
         requires { phase_at self.old slot.0 ≡ Some phases.Told }
-        ensures polled { Polls self.old slot.0 waker result.0 self.new }
-        ensures displaced { result.1.displaced ≡ displaced_at self.old slot.0 }
-        ensures unused { result.1.unused ≡ unused_after result.0 waker }
+        ensures polled { IfOk result (λ polled. Polls self.old slot.0 waker polled.0 self.new) }
+        ensures displaced { IfOk result (λ polled. polled.1.displaced ≡ displaced_at self.old slot.0) }
+        ensures unused { IfOk result (λ polled. polled.1.unused ≡ unused_after polled.0 waker) }
+        ensures waits { IfOk result (λ polled. OnPending polled.0 (may_wait ≡ true)) }
+        ensures unchanged { OnErr result (self.new ≡ self.old) }
+        ensures refused { IfErr result (λ why. IsRefused why waker true may_wait (WouldBeReady (Polls self.old slot.0) false)) }
     {
         match self.value.take() {
-            Some(value) => grant(&mut self.locks, slot, self.is_fair, value, waker),
-            None => register(&mut self.locks, slot, waker),
+            Some(value) => Ok(grant(&mut self.locks, slot, self.is_fair, value, waker)),
+            None if !may_wait => Err(NotPolled::WouldWait(waker)),
+            None => Ok(register(&mut self.locks, slot, waker)),
         }
     }
 }

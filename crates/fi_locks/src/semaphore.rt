@@ -5,7 +5,7 @@ ghost use Rattle.std.specs.Option.{option_map};
 ghost use Rattle.fi_parts.specs.Effects.{TakesEffect};
 ghost use Rattle.fi_parts.specs.Effects.WaiterEffect.{EndsPlaced};
 ghost use Rattle.fi_parts.specs.Machine.{phase_at, displaced_at};
-ghost use Rattle.fi_parts.specs.Polled.{unused_after, WouldBeReady, LeavesWhere};
+ghost use Rattle.fi_parts.specs.Polled.{unused_after, WouldBeReady, IsRefused, LeavesWhere};
 ghost use Rattle.fi_parts.specs.Waiting.{phase_of, displaced, is_registered, is_queued, IsOrderedBy};
 ghost use Rattle.fi_parts.specs.declared.phase.Phase.TheVariants as phases;
 ghost use Rattle.fi_locks.specs.Semaphore.{opened, can_be_polled, need_of, can_take, at_own};
@@ -21,7 +21,7 @@ pub mod future;
 
 use crate::semaphore::asked::Asked;
 use crate::semaphore::future::{LocalSemaphoreAcquireFuture, LocalSemaphoreReleaser};
-use fi_parts::{Fault, Leftover, Phase, Refused, Slot, Stage, Waits, last_waker};
+use fi_parts::{Fault, Leftover, NotPolled, Phase, Refused, Slot, Stage, Waits, last_waker};
 use futures::task::Poll;
 use std::alloc::Global;
 use std::fmt;
@@ -45,9 +45,9 @@ use std::marker::Model;
 ///
 /// let mut permits: SemaphoreState<u64> = SemaphoreState::new(rt.alloc(), true, 1); // fair, with one permit
 /// let slot = permits.claim_acquire(2)?;
-/// let waits = matches!(permits.poll_checked(slot, 1), Ok((Poll::Pending, _)));
+/// let waits = matches!(permits.poll(slot, 1, true), Ok((Poll::Pending, _)));
 /// let is_woken = permits.release(1) == Ok(()) && permits.next_wake() == Some(1);
-/// let is_granted = matches!(permits.poll_checked(slot, 2), Ok((Poll::Ready(2), _)));
+/// let is_granted = matches!(permits.poll(slot, 2, false), Ok((Poll::Ready(2), _)));
 /// permits.leave(slot);
 /// assert!(rt; waits && is_woken && is_granted && permits.held() == 2);
 /// ```
@@ -386,50 +386,38 @@ impl<W: Drop> SemaphoreState<W> {
         self.waits.queue(slots)
     }
 
-    /// Returns `true` if a poll of the future under this slot would have to wait now, so that it needs a waker; `false` where none may be
-    /// polled.
-    pub fn would_wait(&self, slot: Slot) -> bool
-        ensures waits { WouldBeReady (Polls self.now slot.0) (not result) }
-        ensures pollable { result ≡ true → can_be_polled (phase_at self.now slot.0) ≡ true }
-    {
-        let future = match self.waits.future(slot) {
-            Some(future) => future,
-            None => return false,
-        };
-        match &future.phase {
-            Phase::Fresh => !self.can_take(future.asks),
-            Phase::Registered(_) => self.permits.is_fair || self.permits.free < future.asks,
-            Phase::Told => self.permits.free < future.asks,
-            Phase::Complete | Phase::Ended => false,
-        }
-    }
-
     /// Polls the future under this slot, if one lives there that has not ended: ready with the permits that it needs if they are
-    /// granted, else registered with this waker. The wakers of no more use come back. If there is no such future the waker comes back,
-    /// and nothing has changed: so it asks its caller for nothing.
+    /// granted, else registered with this waker. The wakers of no more use come back. It is refused where there is no such future, and
+    /// where it would have to wait and may not; then nothing has changed. So it asks its caller for nothing.
     #[inline(always)]
-    pub fn poll_checked(&mut self, slot: Slot, waker: W) -> Result<(Poll<usize>, Leftover<W>), W>
+    pub fn poll(
+        &mut self,
+        slot: Slot,
+        waker: W,
+        may_wait: bool,
+    ) -> Result<(Poll<usize>, Leftover<W>), NotPolled<W>>
         ensures polled { IfOk result (λ polled. Polls self.old slot.0 waker polled.0 self.new) }
         ensures held { IfOk result (λ polled. AreHeld polled.0 self.new.own.held) }
         ensures displaced { IfOk result (λ polled. polled.1.displaced ≡ displaced_at self.old slot.0) }
         ensures unused { IfOk result (λ polled. polled.1.unused ≡ unused_after polled.0 waker) }
         ensures live { IfOk result (λ _. is_some (phase_at self.new slot.0) ≡ true) }
         ensures pending { IfOk result (λ polled. OnPending polled.0 (can_be_polled (phase_at self.new slot.0) ≡ true)) }
-        ensures refused { OnErr result ((can_be_polled (phase_at self.old slot.0) ≡ false) × (self.new ≡ self.old)) }
-        ensures handed_back { IfErr result (λ back. back ≡ waker) }
+        ensures waits { IfOk result (λ polled. OnPending polled.0 (may_wait ≡ true)) }
+        ensures unchanged { OnErr result (self.new ≡ self.old) }
+        ensures refused { IfErr result (λ why. IsRefused why waker (can_be_polled (phase_at self.old slot.0)) may_wait
+            (WouldBeReady (Polls self.old slot.0) false)) }
         ensures others { OthersStay can_be_polled slot.0 self.old self.new }
     {
         let Some(future) = self.waits.future(slot) else {
-            return Err(waker);
+            return Err(NotPolled::NoFuture(waker));
         };
         let need = future.asks;
-        let polled = match &future.phase {
-            Phase::Fresh => self.poll_fresh(slot, need, waker),
-            Phase::Registered(_) => self.poll_registered(slot, need, waker),
-            Phase::Told => self.poll_told(slot, need, waker),
-            Phase::Complete | Phase::Ended => return Err(waker),
-        };
-        Ok(polled)
+        match &future.phase {
+            Phase::Fresh => self.poll_fresh(slot, need, waker, may_wait),
+            Phase::Registered(_) => self.poll_registered(slot, need, waker, may_wait),
+            Phase::Told => self.poll_told(slot, need, waker, may_wait),
+            Phase::Complete | Phase::Ended => Err(NotPolled::NoFuture(waker)),
+        }
     }
 
     /// Cancels the future under this slot, if one lives there, and gives back the waker that it had. A notice that it had not used is
@@ -515,57 +503,93 @@ impl<W: Drop> SemaphoreState<W> {
     }
 
     #[inline(always)]
-    fn poll_fresh(&mut self, slot: Slot, need: usize, waker: W) -> (Poll<usize>, Leftover<W>)
+    fn poll_fresh(
+        &mut self,
+        slot: Slot,
+        need: usize,
+        waker: W,
+        may_wait: bool,
+    ) -> Result<(Poll<usize>, Leftover<W>), NotPolled<W>>
         requires need { need ≡ need_of self.old.waiting.side slot.0 }
         requires fresh { phase_at self.old slot.0 ≡ Some phases.Fresh }
-        ensures polled { Polls self.old slot.0 waker result.0 self.new }
-        ensures displaced { result.1.displaced ≡ displaced_at self.old slot.0 }
-        ensures unused { result.1.unused ≡ unused_after result.0 waker }
+        ensures polled { IfOk result (λ polled. Polls self.old slot.0 waker polled.0 self.new) }
+        ensures displaced { IfOk result (λ polled. polled.1.displaced ≡ displaced_at self.old slot.0) }
+        ensures unused { IfOk result (λ polled. polled.1.unused ≡ unused_after polled.0 waker) }
+        ensures waits { IfOk result (λ polled. OnPending polled.0 (may_wait ≡ true)) }
+        ensures unchanged { OnErr result (self.new ≡ self.old) }
+        ensures refused { IfErr result (λ why. IsRefused why waker true may_wait (WouldBeReady (Polls self.old slot.0) false)) }
     {
         if !self.can_take(need) {
+            if !may_wait {
+                return Err(NotPolled::WouldWait(waker));
+            }
             let named = self.waits.take_out(slot);
             self.waits.register(slot, waker);
             self.marks.untold = self.marks.untold.or(Some(slot));
-            return (Poll::Pending, Leftover::of(named, None));
+            return Ok((Poll::Pending, Leftover::of(named, None)));
         }
         self.permits.free -= need;
         self.permits.held += need;
         let named = self.waits.take_out(slot);
         self.waits.set_phase(slot, Phase::Ended);
-        (Poll::Ready(need), Leftover::of(named, Some(waker)))
+        Ok((Poll::Ready(need), Leftover::of(named, Some(waker))))
     }
 
     #[inline(always)]
-    fn poll_registered(&mut self, slot: Slot, need: usize, waker: W) -> (Poll<usize>, Leftover<W>)
+    fn poll_registered(
+        &mut self,
+        slot: Slot,
+        need: usize,
+        waker: W,
+        may_wait: bool,
+    ) -> Result<(Poll<usize>, Leftover<W>), NotPolled<W>>
         requires need { need ≡ need_of self.old.waiting.side slot.0 }
         requires registered { is_registered (phase_at self.old slot.0) ≡ true }
-        ensures polled { Polls self.old slot.0 waker result.0 self.new }
-        ensures displaced { result.1.displaced ≡ displaced_at self.old slot.0 }
-        ensures unused { result.1.unused ≡ unused_after result.0 waker }
+        ensures polled { IfOk result (λ polled. Polls self.old slot.0 waker polled.0 self.new) }
+        ensures displaced { IfOk result (λ polled. polled.1.displaced ≡ displaced_at self.old slot.0) }
+        ensures unused { IfOk result (λ polled. polled.1.unused ≡ unused_after polled.0 waker) }
+        ensures waits { IfOk result (λ polled. OnPending polled.0 (may_wait ≡ true)) }
+        ensures unchanged { OnErr result (self.new ≡ self.old) }
+        ensures refused { IfErr result (λ why. IsRefused why waker true may_wait (WouldBeReady (Polls self.old slot.0) false)) }
     {
         if self.permits.is_fair || need > self.permits.free {
+            if !may_wait {
+                return Err(NotPolled::WouldWait(waker));
+            }
             self.waits.take_out(slot);
             let before = self.waits.set_phase(slot, Phase::Registered(waker));
-            return (Poll::Pending, Leftover::of(before, None));
+            return Ok((Poll::Pending, Leftover::of(before, None)));
         }
         self.permits.free -= need;
         self.permits.held += need;
         let before = end(&mut self.waits, slot);
-        (Poll::Ready(need), Leftover::of(before, Some(waker)))
+        Ok((Poll::Ready(need), Leftover::of(before, Some(waker))))
     }
 
     #[inline(always)]
-    fn poll_told(&mut self, slot: Slot, need: usize, waker: W) -> (Poll<usize>, Leftover<W>)
+    fn poll_told(
+        &mut self,
+        slot: Slot,
+        need: usize,
+        waker: W,
+        may_wait: bool,
+    ) -> Result<(Poll<usize>, Leftover<W>), NotPolled<W>>
         requires need { need ≡ need_of self.old.waiting.side slot.0 }
         requires told { phase_at self.old slot.0 ≡ Some phases.Told }
-        ensures polled { Polls self.old slot.0 waker result.0 self.new }
-        ensures displaced { result.1.displaced ≡ displaced_at self.old slot.0 }
-        ensures unused { result.1.unused ≡ unused_after result.0 waker }
+        ensures polled { IfOk result (λ polled. Polls self.old slot.0 waker polled.0 self.new) }
+        ensures displaced { IfOk result (λ polled. polled.1.displaced ≡ displaced_at self.old slot.0) }
+        ensures unused { IfOk result (λ polled. polled.1.unused ≡ unused_after polled.0 waker) }
+        ensures waits { IfOk result (λ polled. OnPending polled.0 (may_wait ≡ true)) }
+        ensures unchanged { OnErr result (self.new ≡ self.old) }
+        ensures refused { IfErr result (λ why. IsRefused why waker true may_wait (WouldBeReady (Polls self.old slot.0) false)) }
     {
         if need > self.permits.free {
+            if !may_wait {
+                return Err(NotPolled::WouldWait(waker));
+            }
             let named = self.waits.take_out(slot);
             self.waits.register(slot, waker);
-            return (Poll::Pending, Leftover::of(named, None));
+            return Ok((Poll::Pending, Leftover::of(named, None)));
         }
         self.permits.free -= need;
         self.permits.held += need;
@@ -577,6 +601,6 @@ impl<W: Drop> SemaphoreState<W> {
             &mut self.marks,
             &mut self.waits,
         );
-        (Poll::Ready(need), Leftover::of(named, Some(waker)))
+        Ok((Poll::Ready(need), Leftover::of(named, Some(waker))))
     }
 }

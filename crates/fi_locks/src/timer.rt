@@ -5,7 +5,7 @@ ghost use Rattle.std.specs.Duration.{as_nanos};
 ghost use Rattle.fi_parts.specs.Waiting.{asks_of, is_registered};
 ghost use Rattle.fi_parts.specs.Machine.{phase_at, displaced_at};
 ghost use Rattle.fi_parts.specs.Deadlines.{IsNextExpiry, is_fresh, expiry_of};
-ghost use Rattle.fi_parts.specs.Polled.{unused_after, WouldBeReady, LeavesWhere};
+ghost use Rattle.fi_parts.specs.Polled.{unused_after, WouldBeReady, IsRefused, LeavesWhere};
 ghost use Rattle.futures.specs.Poll.{OnPending};
 ghost use Rattle.fi_parts.specs.Stays.{AllStay, OthersStay, IsApart};
 ghost use Rattle.fi_parts.specs.Stages.{stage_of};
@@ -15,7 +15,7 @@ ghost use Rattle.fi_locks.specs.Timer.{IsSound, OwesNoWake};
 pub mod future;
 
 use crate::timer::future::LocalTimerFuture;
-use fi_parts::{Deadlines, Fault, Leftover, Phase, Slot, Stage, whole_millis};
+use fi_parts::{Deadlines, Fault, Leftover, NotPolled, Phase, Slot, Stage, whole_millis};
 use futures::task::Poll;
 use std::alloc::Global;
 use std::fmt;
@@ -37,10 +37,10 @@ use std::time::Duration;
 ///
 /// let mut timer: TimerState<u64> = TimerState::new(rt.alloc());
 /// let slot = timer.claim_deadline(10)?;
-/// let waits = matches!(timer.poll_checked(slot, 9, 1), Ok((Poll::Pending, _))); // at the moment 9
+/// let waits = matches!(timer.poll(slot, 9, 1, true), Ok((Poll::Pending, _))); // at the moment 9
 /// timer.check_expirations(10);
 /// let is_woken = timer.next_wake() == Some(1);
-/// let is_over = matches!(timer.poll_checked(slot, 10, 2), Ok((Poll::Ready(()), _)));
+/// let is_over = matches!(timer.poll(slot, 10, 2, false), Ok((Poll::Ready(()), _)));
 /// timer.leave(slot);
 /// assert!(rt; waits && is_woken && is_over);
 /// ```
@@ -218,46 +218,36 @@ impl<W: Drop> TimerState<W> {
         self.deadlines.stage(slot)
     }
 
-    /// Returns `true` if a poll of the future under this slot would have to wait at this moment, so that it needs a waker; `false` where
-    /// none may be polled.
-    pub fn would_wait(&self, slot: Slot, now: u64) -> bool
-        ensures waits { WouldBeReady (Polls self.now slot.0 now) (not result) }
-        ensures pollable { result ≡ true → can_be_polled (phase_at self.now slot.0) ≡ true }
-    {
-        let future = match self.deadlines.future(slot) {
-            Some(future) => future,
-            None => return false,
-        };
-        match &future.phase {
-            Phase::Fresh => now < future.asks.expiry,
-            Phase::Registered(_) => true,
-            Phase::Told | Phase::Complete | Phase::Ended => false,
-        }
-    }
-
     /// Polls the future under this slot at this moment, if one lives there that has not ended: ready where it was told, or where it is
-    /// fresh and its expiry is not after the moment; else registered with this waker. The wakers of no more use come back. If there is
-    /// none the waker comes back, and nothing has changed: so it asks its caller for nothing.
+    /// fresh and its expiry is not after the moment; else registered with this waker. The wakers of no more use come back. It is refused
+    /// where there is no such future, and where it would have to wait and may not; then nothing has changed. So it asks its caller for
+    /// nothing.
     #[inline(always)]
-    pub fn poll_checked(
+    pub fn poll(
         &mut self,
         slot: Slot,
         now: u64,
         waker: W,
-    ) -> Result<(Poll<()>, Leftover<W>), W>
+        may_wait: bool,
+    ) -> Result<(Poll<()>, Leftover<W>), NotPolled<W>>
         ensures polled { IfOk result (λ polled. Polls self.old slot.0 now waker polled.0 self.new) }
         ensures displaced { IfOk result (λ polled. polled.1.displaced ≡ displaced_at self.old slot.0) }
         ensures unused { IfOk result (λ polled. polled.1.unused ≡ unused_after polled.0 waker) }
         ensures live { IfOk result (λ _. is_some (phase_at self.new slot.0) ≡ true) }
         ensures pending { IfOk result (λ polled. OnPending polled.0 (can_be_polled (phase_at self.new slot.0) ≡ true)) }
-        ensures refused { OnErr result ((can_be_polled (phase_at self.old slot.0) ≡ false) × (self.new ≡ self.old)) }
-        ensures handed_back { IfErr result (λ back. back ≡ waker) }
+        ensures waits { IfOk result (λ polled. OnPending polled.0 (may_wait ≡ true)) }
+        ensures unchanged { OnErr result (self.new ≡ self.old) }
+        ensures refused { IfErr result (λ why. IsRefused why waker (can_be_polled (phase_at self.old slot.0)) may_wait
+            (WouldBeReady (Polls self.old slot.0 now) false)) }
         ensures others { OthersStay can_be_polled slot.0 self.old self.new }
     {
         let (is_registered, is_early) = match self.standing(slot, now) {
             Some(standing) => standing,
-            None => return Err(waker),
+            None => return Err(NotPolled::NoFuture(waker)),
         };
+        if !may_wait && (is_registered || is_early) {
+            return Err(NotPolled::WouldWait(waker));
+        }
         let named = self.deadlines.take_out(slot);
         if is_registered {
             let before = self.deadlines.set_phase(slot, Phase::Registered(waker));

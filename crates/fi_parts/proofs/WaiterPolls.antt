@@ -7,12 +7,29 @@ use Rattle.futures.specs.declared.task.Poll.TheVariants.{Pending}
 use Rattle.fi_parts.specs.declared.phase.LiveFuture.{LiveFuture}
 use Rattle.fi_parts.specs.declared.phase.Phase.{Phase}
 use Rattle.fi_parts.specs.declared.phase.Phase.TheVariants.{Fresh, Registered, Told, Complete, Ended}
-use Rattle.fi_parts.specs.declared.phase.PollStep.TheVariants.{Stays, Joins}
+use Rattle.fi_parts.specs.declared.phase.PollStep.{PollStep}
+use Rattle.fi_parts.specs.declared.phase.PollStep.TheVariants.{Stays, Joins, Ends as EndsWith}
 use Rattle.fi_parts.specs.PlaceRules.{registered_rule}
 use Rattle.fi_parts.specs.Waiting.{Waiters, Waiting, with_phase, phase_of, is_registered, registered, stays, IsLive, IsOrdered}
-use Rattle.fi_parts.specs.WaiterPolls.{phase_after_poll, poll_step, waiters_after_poll, PollsWaiter}
+use Rattle.fi_parts.specs.WaiterPolls.{phase_after_poll, has_to_wait, poll_step, OnWaits, waiters_after_poll, PollsWaiter}
 use Rattle.fi_parts.proofs.Pairs.{without_no_pair}
 use Rattle.fi_parts.proofs.Waiting.{no_pair, get-with_phase}
+
+module _ {W : Type 0} where
+  -- whoever need not wait ends
+  pub never_waits : (ends : Bool) (phase : Phase W) (waker : W) (P : Type 0) → has_to_wait ends (Some phase) ≡ false →
+      OnWaits (poll_step ends phase waker) P
+  never_waits false Fresh waker P is_not = cc
+  never_waits true Fresh waker P is_not = tt
+  never_waits ends (Registered w) waker P is_not = cc
+  never_waits ends Told waker P is_not = tt
+  never_waits ends Complete waker P is_not = tt
+  never_waits ends Ended waker P is_not = tt
+
+  pub may_wait_on : (step : PollStep W) (P : Type 0) → P → OnWaits step P
+  may_wait_on (Stays w) P p = p
+  may_wait_on Joins P p = p
+  may_wait_on (EndsWith w) P p = tt
 
 module _ {D W : Type 0} where
   -- one that joins the queue was not registered, and is now

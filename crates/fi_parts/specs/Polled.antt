@@ -4,6 +4,8 @@ use Rattle.futures.specs.declared.task.Poll.{Poll}
 use Rattle.futures.specs.declared.task.Poll.TheVariants.{Ready, Pending}
 use Rattle.fi_parts.specs.declared.phase.Phase.{Phase}
 use Rattle.fi_parts.specs.declared.phase.Phase.TheVariants.{Fresh, Registered, Told, Complete}
+use Rattle.fi_parts.specs.declared.phase.NotPolled.{NotPolled}
+use Rattle.fi_parts.specs.declared.phase.NotPolled.TheVariants.{NoFuture, WouldWait}
 
 -- A future outside its primitive: its name there, and whether it was polled to its end.
 pub record LocalFuture : Type 0 where
@@ -23,6 +25,11 @@ unused_after Pending waker = None
 abbrev pub WouldBeReady : {A S W : Type 0} → (W → Poll A → S → Type 0) → Bool → Type 0
 WouldBeReady {A} {S} {W} polls is_ready_now =
     (waker : W) (answer : Poll A) (new : S) → polls waker answer new → is_ready answer ≡ is_ready_now
+
+-- Why a poll with this waker was refused: no future could be polled, or it would have had to wait, which was not allowed.
+abbrev pub IsRefused : {W : Type 0} → NotPolled W → W → (pollable may_wait : Bool) → (waits : Type 0) → Type 0
+IsRefused (NoFuture back) waker pollable may_wait waits = (back ≡ waker) × (pollable ≡ false)
+IsRefused (WouldWait back) waker pollable may_wait waits = (back ≡ waker) × (pollable ≡ true) × (may_wait ≡ false) × waits
 
 -- A cancel where the future lives, which leaves the waker that it had; else nothing changes, and nothing is left.
 abbrev pub LeavesWhere : {S W : Type 0} → Bool → Type 0 → Option W → S → Option W → S → Type 0

@@ -1,6 +1,6 @@
 -- What a poll does to a future: a registered one stays registered with its newest waker, a fresh one is registered unless the poll
 -- ends it, and any other ends.
-use Rattle.std.specs.Prelude.{◌≡◌, ℕ, Bool, false, Option, Some, None}
+use Rattle.std.specs.Prelude.{◌≡◌, ⊤, ℕ, Bool, true, false, Option, Some, None}
 use Rattle.futures.specs.declared.task.Poll.{Poll}
 use Rattle.futures.specs.declared.task.Poll.TheVariants.{Ready, Pending}
 use Rattle.fi_parts.specs.declared.phase.Phase.{Phase}
@@ -18,11 +18,22 @@ module _ {W : Type 0} where
   phase_after_poll false Fresh waker = Registered waker
   phase_after_poll ends phase waker = Ended
 
+  -- A poll of a future of this phase has to wait.
+  abbrev pub has_to_wait : Bool → Option (Phase W) → Bool
+  has_to_wait ends (Some (Registered before)) = true
+  has_to_wait false (Some Fresh) = true
+  has_to_wait ends phase = false
+
   -- what the poll did, and the waker that it hands back
   abbrev pub poll_step : Bool → Phase W → W → PollStep W
   poll_step ends (Registered before) waker = Stays before
   poll_step false Fresh waker = Joins
   poll_step ends phase waker = EndsWith waker
+
+  -- Where the poll left its future waiting, this holds.
+  abbrev pub OnWaits : PollStep W → Type 0 → Type 0
+  OnWaits (EndsWith waker) Holds = ⊤
+  OnWaits step Holds = Holds
 
 module _ {D W : Type 0} where
   -- the futures after a poll of the one under this name, which had this phase

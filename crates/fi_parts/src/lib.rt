@@ -40,6 +40,6 @@ pub use list::LinkedList;
 pub use local_future::LocalFuture;
 pub use memory::Refused;
 pub use outbox::{Outbox, Ticket};
-pub use phase::{Leftover, LiveFuture, Notice, Phase, Stage};
+pub use phase::{Leftover, LiveFuture, NotPolled, Notice, Phase, Stage};
 pub use wait_queue::{Ticketed, WaitQueue, last_waker, release, waker_from};
 pub use waits::Waits;

@@ -11,9 +11,9 @@ ghost use Rattle.fi_parts.specs.NamedPairs.{waker_in_pair};
 ghost use Rattle.fi_parts.specs.Waiting.{with_phase, exchange, phase_of, IsLive, insert_fresh, registered};
 ghost use Rattle.fi_parts.specs.Waiting.{without_future, asks_of, is_registered, waker_in, waker_or};
 ghost use Rattle.fi_parts.specs.WaitQueueModel.{empty_wait_queue};
-ghost use Rattle.fi_parts.specs.Polled.{can_be_polled};
+ghost use Rattle.fi_parts.specs.Polled.{can_be_polled, IsRefused};
 ghost use Rattle.fi_parts.specs.Stages.{stage_of, AppendsQueue};
-ghost use Rattle.fi_parts.specs.WaiterPolls.{poll_step, waiters_after_poll};
+ghost use Rattle.fi_parts.specs.WaiterPolls.{has_to_wait, poll_step, waiters_after_poll, OnWaits};
 ghost use Rattle.fi_parts.specs.WaitQueuePolls.{phase_in_entry, PollsEntry};
 ghost use Rattle.fi_parts.specs.declared.wait_queue.Ticketed.{Ticketed};
 
@@ -21,7 +21,7 @@ use crate::errors::{NoRoom, Slot};
 use crate::list::LinkedList;
 use crate::memory::{Refused, push};
 use crate::outbox::{Outbox, Ticket};
-use crate::phase::{LiveFuture, Phase, PollStep, Stage};
+use crate::phase::{LiveFuture, NotPolled, Phase, PollStep, Stage};
 use std::alloc::Global;
 use std::marker::Model;
 use std::{fmt, mem};
@@ -136,22 +136,29 @@ fn set_youngest<D: Drop, W: Drop>(list: &mut LinkedList<Ticketed<D, W>>, phase: 
     entry.future.phase = phase;
 }
 
-// Polls a future, which is looked up once. The waker comes back where none lives under this slot that has not ended.
+// Polls a future, which is looked up once. It is refused where none lives under this slot that has not ended, and where it would have to
+// wait and may not.
 fn poll_phase<D: Drop, W: Drop>(
     list: &mut LinkedList<Ticketed<D, W>>,
     slot: Slot,
     waker: W,
     ends: bool,
-) -> Result<PollStep<W>, W>
+    may_wait: bool,
+) -> Result<PollStep<W>, NotPolled<W>>
     ensures polled { IfOk result (λ step. PollsEntry list.old slot.0 waker ends step list.new) }
-    ensures refused { OnErr result ((can_be_polled (phase_in_entry (item list.old slot.0)) ≡ false) × (list.new ≡ list.old)) }
-    ensures handed_back { IfErr result (λ back. back ≡ waker) }
+    ensures waits { IfOk result (λ step. OnWaits step (may_wait ≡ true)) }
+    ensures unchanged { OnErr result (list.new ≡ list.old) }
+    ensures refused { IfErr result (λ why. IsRefused why waker (can_be_polled (phase_in_entry (item list.old slot.0))) may_wait
+        (has_to_wait ends (phase_in_entry (item list.old slot.0)) ≡ true)) }
 {
     let Some(entry) = list.get_mut(slot) else {
-        return Err(waker);
+        return Err(NotPolled::NoFuture(waker));
     };
     if entry.future.phase.is_over() {
-        return Err(waker);
+        return Err(NotPolled::NoFuture(waker));
+    }
+    if !may_wait && entry.future.phase.has_to_wait(ends) {
+        return Err(NotPolled::WouldWait(waker));
     }
     Ok(entry.future.phase.poll(waker, ends))
 }
@@ -296,19 +303,27 @@ impl<D: Drop, W: Drop> WaitQueue<D, W> {
     }
 
     /// Polls a future. A registered one keeps its place with this newer waker; a fresh one is registered and goes to the queue's
-    /// end, unless it ends with this poll; any other ends. Where none lives under this slot that has not ended, the waker comes back
-    /// and nothing has changed.
-    pub fn poll(&mut self, slot: Slot, waker: W, ends: bool) -> Result<PollStep<W>, W>
+    /// end, unless it ends with this poll; any other ends. It is refused where none lives under this slot that has not ended, and where it
+    /// would have to wait and may not; then nothing has changed.
+    pub fn poll(
+        &mut self,
+        slot: Slot,
+        waker: W,
+        ends: bool,
+        may_wait: bool,
+    ) -> Result<PollStep<W>, NotPolled<W>>
         requires { is_registered (phase_of self.old.side slot.0) ≡ false → holds slot.0 self.old.side.queue ≡ false }
         ensures polled { IfOk result (λ step. (before : Phase W) × (phase_of self.old.side slot.0 ≡ Some before)
             × (can_be_polled (Some before) ≡ true) × (step ≡ poll_step ends before waker)
             × (self.new ≡ record self.old { side = waiters_after_poll ends before self.old.side slot.0 waker })) }
-        ensures refused { OnErr result ((can_be_polled (phase_of self.old.side slot.0) ≡ false) × (self.new ≡ self.old)) }
-        ensures handed_back { IfErr result (λ back. back ≡ waker) }
+        ensures waits { IfOk result (λ step. OnWaits step (may_wait ≡ true)) }
+        ensures unchanged { OnErr result (self.new ≡ self.old) }
+        ensures refused { IfErr result (λ why. IsRefused why waker (can_be_polled (phase_of self.old.side slot.0)) may_wait
+            (has_to_wait ends (phase_of self.old.side slot.0) ≡ true)) }
     {
-        let step = match poll_phase(&mut self.list, slot, waker, ends) {
+        let step = match poll_phase(&mut self.list, slot, waker, ends, may_wait) {
             Ok(step) => step,
-            Err(waker) => return Err(waker),
+            Err(refused) => return Err(refused),
         };
         if let PollStep::Joins = &step {
             self.list.add_front(slot);

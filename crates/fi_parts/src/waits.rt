@@ -4,12 +4,13 @@ ghost use Rattle.std.specs.Prelude.{IfOk, OnErr, IfErr, IfSome, IfNone, OnSome, 
 ghost use Rattle.std.specs.Prelude.{OnOk};
 ghost use Rattle.std.specs.Option.{option_map};
 ghost use Rattle.std.specs.FinMap as map;
+ghost use Rattle.futures.specs.Poll.{OnPending};
 ghost use Rattle.fi_parts.specs.Order.{holds, without};
 ghost use Rattle.fi_parts.specs.Pairs.{has, waker_of, without_pair, oldest};
 ghost use Rattle.fi_parts.specs.Noticed.{phase_after};
-ghost use Rattle.fi_parts.specs.Polled.{unused_after, can_be_polled};
+ghost use Rattle.fi_parts.specs.Polled.{unused_after, can_be_polled, IsRefused};
 ghost use Rattle.fi_parts.specs.Stages.{stage_of, AppendsQueue};
-ghost use Rattle.fi_parts.specs.WaiterPolls.{PollsWaiter};
+ghost use Rattle.fi_parts.specs.WaiterPolls.{has_to_wait, PollsWaiter};
 ghost use Rattle.fi_parts.specs.Waiting.{with_phase, exchange, phase_of, IsLive, IsOrdered, IsOrderedBy, is_queued};
 ghost use Rattle.fi_parts.specs.Waiting.{told_one, is_registered, no_futures, insert_fresh, registered, without_future};
 ghost use Rattle.fi_parts.specs.Waiting.{pair, asks_of, waker_in, notify_all, displaced};
@@ -17,7 +18,7 @@ ghost use Rattle.fi_parts.specs.Waiting.{pair, asks_of, waker_in, notify_all, di
 use crate::errors::{NoRoom, Slot};
 use crate::memory::Refused;
 use crate::outbox::Outbox;
-use crate::phase::{Leftover, LiveFuture, Notice, Phase, PollStep, Stage};
+use crate::phase::{Leftover, LiveFuture, NotPolled, Notice, Phase, PollStep, Stage};
 use crate::wait_queue::{WaitQueue, last_waker, release, waker_from};
 use futures::task::Poll;
 use std::alloc::Global;
@@ -124,34 +125,37 @@ impl<D: Drop, W: Drop> Waits<D, W> {
     }
 
     /// Polls a future with this waker: a registered one stays pending and keeps its place; a fresh one is registered and goes to the
-    /// queue's end, unless it `ends` with this poll; any other ends. The wakers of no more use come back. Where none lives under this
-    /// slot that has not ended, this waker comes back and nothing has changed.
+    /// queue's end, unless it `ends` with this poll; any other ends. The wakers of no more use come back. It is refused where none lives
+    /// under this slot that has not ended, and where it would have to wait and may not; then nothing has changed.
     ///
     /// One look-up tests the future and changes its phase. Joining the queue takes one more, and so does the ticket of one that joins or
     /// ends, while somebody is named to be woken.
     #[inline(always)]
-    pub fn poll_checked(
+    pub fn poll(
         &mut self,
         slot: Slot,
         waker: W,
         ends: bool,
-    ) -> Result<(Poll<()>, Leftover<W>), W>
+        may_wait: bool,
+    ) -> Result<(Poll<()>, Leftover<W>), NotPolled<W>>
         requires ordered { IsOrdered self.old.side self.old.out }
         ensures polled { IfOk result (λ polled. PollsWaiter (phase_of self.old.side slot.0) ends self.old slot.0 waker polled.0 self.new) }
         ensures displaced { IfOk result (λ polled. polled.1.displaced ≡ displaced self.old.side self.old.out slot.0) }
         ensures unused { IfOk result (λ polled. polled.1.unused ≡ unused_after polled.0 waker) }
         ensures live { IfOk result (λ _. can_be_polled (phase_of self.old.side slot.0) ≡ true) }
-        ensures refused { OnErr result ((can_be_polled (phase_of self.old.side slot.0) ≡ false) × (self.new ≡ self.old)) }
-        ensures handed_back { IfErr result (λ back. back ≡ waker) }
+        ensures waits { IfOk result (λ polled. OnPending polled.0 (may_wait ≡ true)) }
+        ensures unchanged { OnErr result (self.new ≡ self.old) }
+        ensures refused { IfErr result (λ why. IsRefused why waker (can_be_polled (phase_of self.old.side slot.0)) may_wait
+            (has_to_wait ends (phase_of self.old.side slot.0) ≡ true)) }
     {
-        match self.wait_queue.poll(slot, waker, ends) {
+        match self.wait_queue.poll(slot, waker, ends, may_wait) {
             Ok(PollStep::Stays(before)) => Ok((Poll::Pending, Leftover::of(Some(before), None))),
             Ok(PollStep::Joins) => Ok((Poll::Pending, Leftover::of(self.take_out(slot), None))),
             Ok(PollStep::Ends(waker)) => Ok((
                 Poll::Ready(()),
                 Leftover::of(self.take_out(slot), Some(waker)),
             )),
-            Err(waker) => Err(waker),
+            Err(refused) => Err(refused),
         }
     }
 

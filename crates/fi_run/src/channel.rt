@@ -16,7 +16,7 @@ use fi_channels::{
     ChannelReceiveAccess, ChannelSendAccess, ChannelState, SendFault, TryReceiveError, TrySendError,
 };
 use fi_parts::buffer::RingBuf;
-use fi_parts::{CloseStatus, Fault, Slot};
+use fi_parts::{CloseStatus, Fault, NotPolled, Slot};
 use futures::task::Poll;
 use std::alloc::Global;
 
@@ -177,8 +177,11 @@ fn poll_send<T: Drop, B: RingBuf<Item = T>, W: Drop>(
 ) -> Answer<T, W>
     ensures { Step channel.old (calls.PollSend slot waker) result channel.new }
 {
-    let Ok((answer, _leftover)) = channel.send_checked(slot, waker) else {
-        return Answer::Refused(Fault::NoSlot);
+    let answer = match channel.poll_send(slot, waker, true) {
+        Ok((answer, _leftover)) => answer,
+        Err(NotPolled::NoFuture(_)) => return Answer::Refused(Fault::NoSlot),
+        // It may wait.
+        Err(NotPolled::WouldWait(_)) => unreachable!(),
     };
     match answer {
         Poll::Pending => Answer::Pending,
@@ -195,8 +198,11 @@ fn poll_receive<T: Drop, B: RingBuf<Item = T>, W: Drop>(
 ) -> Answer<T, W>
     ensures { Step channel.old (calls.PollReceive slot waker) result channel.new }
 {
-    let Ok((answer, _leftover)) = channel.receive_checked(slot, waker) else {
-        return Answer::Refused(Fault::NoSlot);
+    let answer = match channel.poll_receive(slot, waker, true) {
+        Ok((answer, _leftover)) => answer,
+        Err(NotPolled::NoFuture(_)) => return Answer::Refused(Fault::NoSlot),
+        // It may wait.
+        Err(NotPolled::WouldWait(_)) => unreachable!(),
     };
     match answer {
         Poll::Pending => Answer::Pending,
@@ -214,8 +220,11 @@ fn poll_next<T: Drop, B: RingBuf<Item = T>, W: Drop>(
 ) -> Answer<T, W>
     ensures { Step channel.old (calls.PollNext slot waker) result channel.new }
 {
-    let Ok((answer, _leftover)) = channel.next_checked(slot, waker) else {
-        return Answer::Refused(Fault::NoSlot);
+    let answer = match channel.poll_next(slot, waker, true) {
+        Ok((answer, _leftover)) => answer,
+        Err(NotPolled::NoFuture(_)) => return Answer::Refused(Fault::NoSlot),
+        // It may wait.
+        Err(NotPolled::WouldWait(_)) => unreachable!(),
     };
     match answer {
         Poll::Pending => Answer::Pending,

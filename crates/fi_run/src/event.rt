@@ -9,7 +9,7 @@ ghost use Rattle.fi_run.specs.declared.event.EventCall.{EventCall};
 use crate::answer::Answer;
 use crate::runs::{Primitive, every_run};
 use fi_channels::EventState;
-use fi_parts::{Fault, Slot};
+use fi_parts::{Fault, NotPolled, Slot};
 use futures::task::Poll;
 use std::alloc::Global;
 
@@ -108,10 +108,12 @@ impl<W: Drop> Primitive for EventState<W> {
                 Ok(slot) => Answer::Made(slot),
                 Err(fault) => Answer::Refused(fault),
             },
-            EventCall::Poll(slot, waker) => match self.poll_checked(slot, waker) {
+            EventCall::Poll(slot, waker) => match self.poll(slot, waker, true) {
                 Ok((Poll::Ready(_), _)) => Answer::Ready,
                 Ok((Poll::Pending, _)) => Answer::Pending,
-                Err(_) => Answer::Refused(Fault::NoSlot),
+                Err(NotPolled::NoFuture(_)) => Answer::Refused(Fault::NoSlot),
+                // It may wait.
+                Err(NotPolled::WouldWait(_)) => unreachable!(),
             },
             EventCall::Cancel(slot) => {
                 if self.stage(slot).is_none() {

@@ -9,7 +9,7 @@ ghost use Rattle.fi_run.specs.declared.mutex.MutexCall.{MutexCall};
 use crate::answer::Answer;
 use crate::runs::{Primitive, every_run};
 use fi_locks::MutexState;
-use fi_parts::{Fault, Slot};
+use fi_parts::{Fault, NotPolled, Slot};
 use futures::task::Poll;
 use std::alloc::Global;
 
@@ -108,12 +108,14 @@ impl<T: Drop, W: Drop> Primitive for MutexState<T, W> {
                 Ok(slot) => Answer::Made(slot),
                 Err(fault) => Answer::Refused(fault),
             },
-            MutexCall::Poll(slot, waker) => match self.poll_checked(slot, waker) {
+            MutexCall::Poll(slot, waker) => match self.poll(slot, waker, true) {
                 Ok((answer, _)) => match answer {
                     Poll::Ready(value) => Answer::Item(value),
                     Poll::Pending => Answer::Pending,
                 },
-                Err(_) => Answer::Refused(Fault::NoSlot),
+                Err(NotPolled::NoFuture(_)) => Answer::Refused(Fault::NoSlot),
+                // It may wait.
+                Err(NotPolled::WouldWait(_)) => unreachable!(),
             },
             MutexCall::Cancel(slot) => {
                 if self.stage(slot).is_none() {

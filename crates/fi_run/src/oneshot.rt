@@ -16,7 +16,7 @@ use crate::runs::{Primitive, every_run};
 use fi_channels::{
     ChannelReceiveAccess, GivesValue, OneValueState, OneshotBroadcastState, OneshotState,
 };
-use fi_parts::{ChannelSendError, CloseStatus, Fault, Slot};
+use fi_parts::{ChannelSendError, CloseStatus, Fault, NotPolled, Slot};
 use futures::task::Poll;
 use std::alloc::Global;
 
@@ -115,8 +115,11 @@ impl<T: Drop, W: Drop, G: GivesValue<T>> Primitive for OneValueState<T, W, G> {
                 Err(fault) => Answer::Refused(fault),
             },
             OneshotCall::Poll(slot, waker) => {
-                let Ok((answer, _leftover)) = self.receive_checked(slot, waker) else {
-                    return Answer::Refused(Fault::NoSlot);
+                let answer = match self.poll_receive(slot, waker, true) {
+                    Ok((answer, _leftover)) => answer,
+                    Err(NotPolled::NoFuture(_)) => return Answer::Refused(Fault::NoSlot),
+                    // It may wait.
+                    Err(NotPolled::WouldWait(_)) => unreachable!(),
                 };
                 match answer {
                     Poll::Ready(Ok(Some(value))) => Answer::Item(value),

@@ -10,7 +10,7 @@ ghost use Rattle.fi_run.specs.declared.semaphore.SemaphoreCall.TheVariants as ca
 use crate::answer::Answer;
 use crate::runs::{Primitive, every_run};
 use fi_locks::SemaphoreState;
-use fi_parts::{Fault, Slot};
+use fi_parts::{Fault, NotPolled, Slot};
 use futures::task::Poll;
 use std::alloc::Global;
 
@@ -153,10 +153,12 @@ impl<W: Drop> Primitive for SemaphoreState<W> {
 fn poll<W: Drop>(semaphore: &mut SemaphoreState<W>, slot: Slot, waker: W) -> Answer<u64, W>
     ensures { Step semaphore.old (calls.Poll slot waker) result semaphore.new }
 {
-    match semaphore.poll_checked(slot, waker) {
+    match semaphore.poll(slot, waker, true) {
         Ok((Poll::Ready(_), _)) => Answer::Ready,
         Ok((Poll::Pending, _)) => Answer::Pending,
-        Err(_) => Answer::Refused(Fault::NoSlot),
+        Err(NotPolled::NoFuture(_)) => Answer::Refused(Fault::NoSlot),
+        // It may wait.
+        Err(NotPolled::WouldWait(_)) => unreachable!(),
     }
 }
 

@@ -10,7 +10,7 @@ ghost use Rattle.fi_run.specs.declared.state.StateCall.{StateCall};
 use crate::answer::Answer;
 use crate::runs::{Primitive, every_run};
 use fi_channels::{ChannelReceiveAccess, StateBroadcastState};
-use fi_parts::{ChannelSendError, CloseStatus, Fault, Slot, StateId};
+use fi_parts::{ChannelSendError, CloseStatus, Fault, NotPolled, Slot, StateId};
 use futures::task::Poll;
 use std::alloc::Global;
 
@@ -109,8 +109,11 @@ impl<T: Clone, W: Drop> Primitive for StateBroadcastState<T, W> {
                 Err(fault) => Answer::Refused(fault),
             },
             StateCall::Poll(slot, waker) => {
-                let Ok((answer, _leftover)) = self.receive_checked(slot, waker) else {
-                    return Answer::Refused(Fault::NoSlot);
+                let answer = match self.poll_receive(slot, waker, true) {
+                    Ok((answer, _leftover)) => answer,
+                    Err(NotPolled::NoFuture(_)) => return Answer::Refused(Fault::NoSlot),
+                    // It may wait.
+                    Err(NotPolled::WouldWait(_)) => unreachable!(),
                 };
                 match answer {
                     Poll::Ready(answer) => received(answer),

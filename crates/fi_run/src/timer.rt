@@ -9,7 +9,7 @@ ghost use Rattle.fi_run.specs.declared.timer.TimerCall.{TimerCall};
 use crate::answer::Answer;
 use crate::runs::{Primitive, every_run};
 use fi_locks::TimerState;
-use fi_parts::{Fault, Slot};
+use fi_parts::{Fault, NotPolled, Slot};
 use futures::task::Poll;
 use std::alloc::Global;
 use std::time::Duration;
@@ -116,10 +116,12 @@ impl<W: Drop> Primitive for TimerState<W> {
                 Ok(slot) => Answer::Made(slot),
                 Err(fault) => Answer::Refused(fault),
             },
-            TimerCall::Poll(slot, now, waker) => match self.poll_checked(slot, now, waker) {
+            TimerCall::Poll(slot, now, waker) => match self.poll(slot, now, waker, true) {
                 Ok((Poll::Ready(_), _)) => Answer::Ready,
                 Ok((Poll::Pending, _)) => Answer::Pending,
-                Err(_) => Answer::Refused(Fault::NoSlot),
+                Err(NotPolled::NoFuture(_)) => Answer::Refused(Fault::NoSlot),
+                // It may wait.
+                Err(NotPolled::WouldWait(_)) => unreachable!(),
             },
             TimerCall::Cancel(slot) => {
                 if self.stage(slot).is_none() {

@@ -13,7 +13,7 @@ use crate::slot_future::{PollSlot, SlotFuture, SlotPolled, no_slot};
 use crate::wakes::{HasOutbox, PollWaker};
 use fi_locks::MutexState;
 use fi_parts::memory::share;
-use fi_parts::{Fault, FutureKind, Slot};
+use fi_parts::{Fault, FutureKind, NotPolled, Slot};
 use futures::task::Poll;
 use std::alloc::Global;
 use std::fmt;
@@ -205,13 +205,12 @@ impl PollSlot<AutoResetWait> for MutexState<(), PollWaker> {
 
     #[inline(always)]
     fn poll_slot(&mut self, slot: Slot, waker: PollWaker) -> SlotPolled<Self::Output> {
-        if waker.is_none() && self.would_wait(slot) {
-            return None;
-        }
-        match self.poll_checked(slot, waker) {
+        let may_wait = waker.is_some();
+        match self.poll(slot, waker, may_wait) {
             Ok((Poll::Ready(()), leftover)) => Some((Poll::Ready(Ok(())), leftover)),
             Ok((Poll::Pending, leftover)) => Some((Poll::Pending, leftover)),
-            Err(waker) => no_slot(waker),
+            Err(NotPolled::NoFuture(waker)) => no_slot(waker),
+            Err(NotPolled::WouldWait(_none)) => None,
         }
     }
 

@@ -8,7 +8,7 @@ use crate::monitor::Monitor;
 use crate::slot_future::{PollSlot, SlotFuture, SlotPolled, no_slot};
 use crate::wakes::PollWaker;
 use fi_channels::{ChannelReceive, ChannelReceiveAccess};
-use fi_parts::{Fault, Slot};
+use fi_parts::{Fault, NotPolled, Slot};
 
 /// Receives one value from a channel, or None if none will come. Its drop unregisters it; if it was told of a value, the oldest
 /// receive that waits is told in its place.
@@ -33,12 +33,11 @@ impl<C: ChannelReceiveAccess<Waker = PollWaker>> PollSlot<ChannelReceive> for C 
 
     #[inline(always)]
     fn poll_slot(&mut self, slot: Slot, waker: PollWaker) -> SlotPolled<Self::Output> {
-        if waker.is_none() && self.receive_would_wait(slot) {
-            return None;
-        }
-        match self.receive_checked(slot, waker) {
+        let may_wait = waker.is_some();
+        match self.poll_receive(slot, waker, may_wait) {
             Ok(polled) => Some(polled),
-            Err(waker) => no_slot(waker),
+            Err(NotPolled::NoFuture(waker)) => no_slot(waker),
+            Err(NotPolled::WouldWait(_none)) => None,
         }
     }
 

@@ -9,7 +9,7 @@ ghost use Rattle.futures_intrusive.specs.Ends.{Counted, Closing, KeepsEnds, Stay
 ghost use Rattle.futures_intrusive.specs.Ends.{AddsSender, AddsReceiver, DropsSender, DropsReceiver};
 
 use fi_channels::{ChannelReceiveAccess, ChannelSendAccess, EndCount, EventState, Received, Sent};
-use fi_parts::{Fault, Slot};
+use fi_parts::{Fault, NotPolled, Slot};
 use fi_sync::{HasOutbox, PollWaker};
 use std::alloc::Global;
 use std::fmt;
@@ -230,17 +230,14 @@ impl<S: SendsClosed> ChannelSendAccess for CountedEnds<S> {
 
     ghost others_stay = { λ name old new. S.others_stay name old.state new.state };
 
-    fn send_would_wait(&self, slot: Slot) -> bool {
-        self.state.send_would_wait(slot)
-    }
-
     #[inline(always)]
-    fn send_checked(
+    fn poll_send(
         &mut self,
         slot: Slot,
         waker: PollWaker,
-    ) -> Result<Sent<S::Item, PollWaker>, PollWaker> {
-        self.state.send_checked(slot, waker)
+        may_wait: bool,
+    ) -> Result<Sent<S::Item, PollWaker>, NotPolled<PollWaker>> {
+        self.state.poll_send(slot, waker, may_wait)
     }
 
     #[inline(always)]
@@ -267,17 +264,14 @@ impl<S: ReceivesClosed> ChannelReceiveAccess for CountedEnds<S> {
 
     ghost others_stay = { λ name old new. S.others_stay name old.state new.state };
 
-    fn receive_would_wait(&self, slot: Slot) -> bool {
-        self.state.receive_would_wait(slot)
-    }
-
     #[inline(always)]
-    fn receive_checked(
+    fn poll_receive(
         &mut self,
         slot: Slot,
         waker: PollWaker,
-    ) -> Result<Received<S::Item, PollWaker>, PollWaker> {
-        self.state.receive_checked(slot, waker)
+        may_wait: bool,
+    ) -> Result<Received<S::Item, PollWaker>, NotPolled<PollWaker>> {
+        self.state.poll_receive(slot, waker, may_wait)
     }
 
     #[inline(always)]

@@ -32,4 +32,4 @@ mod state_stream;
 pub mod sync;
 pub mod timer;
 
-pub use fi_parts::{Fault, Leftover, NoRoom, Refused, Slot, Stage, memory};
+pub use fi_parts::{Fault, Leftover, NoRoom, NotPolled, Refused, Slot, Stage, memory};

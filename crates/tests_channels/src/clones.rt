@@ -39,7 +39,7 @@ fn polled<C: ChannelReceiveAccess>(
 where
     C::Waker: Drop,
 {
-    match channel.receive_checked(slot, waker) {
+    match channel.poll_receive(slot, waker, true) {
         Ok((answer, _)) => Some(answer),
         Err(_) => None,
     }

@@ -2,6 +2,8 @@
 #![tactic(auto)]
 
 #[cfg(test)]
+mod by_slot;
+#[cfg(test)]
 mod debug;
 #[cfg(test)]
 mod drops;

@@ -1,13 +1,14 @@
 //! The fields of a channel of many values, over any bounded buffer, and the calls on them.
-ghost use Rattle.std.specs.Prelude.{◌≡◌, not, true, false, Option, Some, None, IfOk, IfErr, OnOk, OnErr, is_some};
+ghost use Rattle.std.specs.Prelude.{◌≡◌, ◌&&◌, not, true, false, Option, Some, None, IfOk, IfErr, OnOk, OnErr, is_some};
+ghost use Rattle.futures.specs.Poll.{OnPending};
 ghost use Rattle.fi_parts.specs.Buffer.{Fits, empty};
 ghost use Rattle.fi_parts.specs.Waiting.{phase_of, asks_of, is_registered};
 ghost use Rattle.fi_parts.specs.declared.phase.Phase.TheVariants.{Fresh, Complete};
-ghost use Rattle.fi_channels.specs.Polled.{unused_after, LeavesWhere};
+ghost use Rattle.fi_channels.specs.Polled.{unused_after, IsRefused, WouldBeReady, LeavesWhere};
 ghost use Rattle.fi_channels.specs.Channel.{MakesSend, MakesReceive, PollsSend, CancelsSend, PollsReceive, PollsNext};
 ghost use Rattle.fi_channels.specs.Channel.{CancelsReceive, TriesSend, TriesReceive, Closes, IsSound};
 ghost use Rattle.fi_channels.specs.ChannelWords.{opened, can_send, can_take, can_receive, can_stream};
-ghost use Rattle.fi_channels.specs.ChannelWords.{displaced_by_send, displaced_send, displaced_receive};
+ghost use Rattle.fi_channels.specs.ChannelWords.{displaced_by_send, displaced_send, displaced_receive, next_of};
 ghost use Rattle.fi_channels.specs.ChannelFields.{machine_of, phase_given, Takes};
 ghost use Rattle.fi_channels.specs.Cleared.{ClosesAndClears};
 
@@ -15,7 +16,9 @@ use crate::access::Sent;
 use crate::channel::errors::{SendFault, TryReceiveError, TrySendError};
 use crate::channel::two_sides::{Receives, Sends, TwoSides};
 use fi_parts::buffer::RingBuf;
-use fi_parts::{CloseStatus, Fault, Leftover, LiveFuture, NoRoom, Notice, Phase, Slot, last_waker};
+use fi_parts::{
+    CloseStatus, Fault, Leftover, LiveFuture, NoRoom, NotPolled, Notice, Phase, Slot, last_waker,
+};
 use futures::task::Poll;
 use std::alloc::Global;
 
@@ -102,6 +105,26 @@ impl<T: Drop, B: RingBuf<Item = T>, W: Drop> ChannelFields<T, B, W> {
         }
     }
 
+    // Whether there is a value to be received: one that is buffered, or of a send that waits.
+    fn has_next(&self) -> bool
+        ensures { result ≡ is_some (next_of (machine_of B.bounded self.now)) }
+    {
+        if !self.buffer.is_empty() {
+            return true;
+        }
+        match self.waiters.oldest_asks::<Sends>() {
+            Some(value) => value.is_some(),
+            None => false,
+        }
+    }
+
+    // Whether a poll of a fresh or a told receive, or stream, has to wait: no value can be received, and the channel is open.
+    fn has_to_wait(&self) -> bool
+        ensures { result ≡ (self.now.is_open && not (is_some (next_of (machine_of B.bounded self.now)))) }
+    {
+        self.is_open && !self.has_next()
+    }
+
     // Takes the oldest value, and lets the oldest send that waits hand its value on; None if there is no value.
     #[inline(always)]
     fn take_next(&mut self) -> Option<T>
@@ -137,14 +160,16 @@ impl<T: Drop, B: RingBuf<Item = T>, W: Drop> ChannelFields<T, B, W> {
         Err(TryReceiveError::Closed)
     }
 
-    /// Polls a receive: it takes the oldest value, or is registered, or ends where none will come. Where no receive lives under this slot
-    /// that has not ended, the waker comes back and nothing has changed. One look-up decides which it is.
+    /// Polls a receive: it takes the oldest value, or is registered, or ends where none will come. It is refused where no receive lives
+    /// under this slot that has not ended, and where it would have to wait and may not; then nothing has changed. One look-up decides
+    /// which it is.
     #[inline(always)]
-    pub fn receive_checked(
+    pub fn poll_receive(
         &mut self,
         slot: Slot,
         waker: W,
-    ) -> Result<(Poll<Option<T>>, Leftover<W>), W>
+        may_wait: bool,
+    ) -> Result<(Poll<Option<T>>, Leftover<W>), NotPolled<W>>
         requires { IsSound (machine_of B.bounded self.old) }
         ensures polled { IfOk result
             (λ polled. PollsReceive (machine_of B.bounded self.old) slot.0 waker polled.0 (machine_of B.bounded self.new)) }
@@ -152,31 +177,41 @@ impl<T: Drop, B: RingBuf<Item = T>, W: Drop> ChannelFields<T, B, W> {
         ensures unused { IfOk result (λ polled. polled.1.unused ≡ unused_after polled.0 waker) }
         ensures live { OnOk result
             (can_receive (asks_of self.old.waiters.receives slot.0) (phase_of self.old.waiters.receives slot.0) ≡ true) }
-        ensures refused { OnErr result
-            ((can_receive (asks_of self.old.waiters.receives slot.0) (phase_of self.old.waiters.receives slot.0) ≡ false)
-            × (machine_of B.bounded self.new ≡ machine_of B.bounded self.old)) }
-        ensures handed_back { IfErr result (λ back. back ≡ waker) }
+        ensures waits { IfOk result (λ polled. OnPending polled.0 (may_wait ≡ true)) }
+        ensures unchanged { OnErr result (machine_of B.bounded self.new ≡ machine_of B.bounded self.old) }
+        ensures refused { IfErr result (λ why. IsRefused why waker
+            (can_receive (asks_of self.old.waiters.receives slot.0) (phase_of self.old.waiters.receives slot.0)) may_wait
+            (WouldBeReady (PollsReceive (machine_of B.bounded self.old) slot.0) false)) }
     {
         let future = match self.waiters.future::<Receives>(slot) {
             Some(future) => future,
-            None => return Err(waker),
+            None => return Err(NotPolled::NoFuture(waker)),
         };
         match (&future.asks, &future.phase) {
-            (ReceiveKind::Single, Phase::Registered(_)) => Ok(self.receive_registered(slot, waker)),
+            (ReceiveKind::Single, Phase::Registered(_)) => {
+                if !may_wait {
+                    return Err(NotPolled::WouldWait(waker));
+                }
+                Ok(self.receive_registered(slot, waker))
+            }
             (ReceiveKind::Single, Phase::Fresh | Phase::Told) => {
+                if !may_wait && self.has_to_wait() {
+                    return Err(NotPolled::WouldWait(waker));
+                }
                 Ok(self.receive_apart(slot, ReceiveKind::Single, waker))
             }
-            _ => Err(waker),
+            _ => Err(NotPolled::NoFuture(waker)),
         }
     }
 
-    /// Polls a stream: like a receive, but one that has ended ends again, ever after. Where no stream lives under this slot, the waker
-    /// comes back and nothing has changed. One look-up decides which it is.
-    pub fn next_checked(
+    /// Polls a stream: like a receive, but one that has ended ends again, ever after. It is refused where no stream lives under this slot,
+    /// and where it would have to wait and may not; then nothing has changed. One look-up decides which it is.
+    pub fn poll_next(
         &mut self,
         slot: Slot,
         waker: W,
-    ) -> Result<(Poll<Option<T>>, Leftover<W>), W>
+        may_wait: bool,
+    ) -> Result<(Poll<Option<T>>, Leftover<W>), NotPolled<W>>
         requires { IsSound (machine_of B.bounded self.old) }
         ensures polled { IfOk result
             (λ polled. PollsNext (machine_of B.bounded self.old) slot.0 waker polled.0 (machine_of B.bounded self.new)) }
@@ -184,19 +219,28 @@ impl<T: Drop, B: RingBuf<Item = T>, W: Drop> ChannelFields<T, B, W> {
         ensures unused { IfOk result (λ polled. polled.1.unused ≡ unused_after polled.0 waker) }
         ensures live { OnOk result
             (can_stream (asks_of self.old.waiters.receives slot.0) (phase_of self.old.waiters.receives slot.0) ≡ true) }
-        ensures refused { OnErr result
-            ((can_stream (asks_of self.old.waiters.receives slot.0) (phase_of self.old.waiters.receives slot.0) ≡ false)
-            × (machine_of B.bounded self.new ≡ machine_of B.bounded self.old)) }
-        ensures handed_back { IfErr result (λ back. back ≡ waker) }
+        ensures waits { IfOk result (λ polled. OnPending polled.0 (may_wait ≡ true)) }
+        ensures unchanged { OnErr result (machine_of B.bounded self.new ≡ machine_of B.bounded self.old) }
+        ensures refused { IfErr result (λ why. IsRefused why waker
+            (can_stream (asks_of self.old.waiters.receives slot.0) (phase_of self.old.waiters.receives slot.0)) may_wait
+            (WouldBeReady (PollsNext (machine_of B.bounded self.old) slot.0) false)) }
     {
         let future = match self.waiters.future::<Receives>(slot) {
             Some(future) => future,
-            None => return Err(waker),
+            None => return Err(NotPolled::NoFuture(waker)),
         };
         match (&future.asks, &future.phase) {
-            (ReceiveKind::Single, _) => Err(waker),
-            (ReceiveKind::Stream, Phase::Registered(_)) => Ok(self.receive_registered(slot, waker)),
+            (ReceiveKind::Single, _) => Err(NotPolled::NoFuture(waker)),
+            (ReceiveKind::Stream, Phase::Registered(_)) => {
+                if !may_wait {
+                    return Err(NotPolled::WouldWait(waker));
+                }
+                Ok(self.receive_registered(slot, waker))
+            }
             (ReceiveKind::Stream, Phase::Fresh | Phase::Told) => {
+                if !may_wait && self.has_to_wait() {
+                    return Err(NotPolled::WouldWait(waker));
+                }
                 Ok(self.receive_apart(slot, ReceiveKind::Stream, waker))
             }
             // No receive is complete.
@@ -296,10 +340,16 @@ impl<T: Drop, B: RingBuf<Item = T>, W: Drop> ChannelFields<T, B, W> {
     }
 
     /// Polls a send: its value is stored or waits with it, and the oldest receive is told; a closed channel hands it back.
-    /// Refused if there is no memory to store it; then nothing has changed, and the send still owns its value. Where no send lives under
-    /// this slot that has not ended, the waker comes back and nothing has changed. One look-up decides which it is.
+    /// It fails if there is no memory to store it; then nothing has changed, and the send still owns its value. It is refused where no send
+    /// lives under this slot that has not ended, and where it would have to wait and may not; then nothing has changed. One look-up decides
+    /// which it is.
     #[inline(always)]
-    pub fn send_checked(&mut self, slot: Slot, waker: W) -> Result<Sent<T, W>, W>
+    pub fn poll_send(
+        &mut self,
+        slot: Slot,
+        waker: W,
+        may_wait: bool,
+    ) -> Result<Sent<T, W>, NotPolled<W>>
         requires { IsSound (machine_of B.bounded self.old) }
         ensures polled { IfOk result
             (λ polled. PollsSend (machine_of B.bounded self.old) slot.0 waker polled.0 (machine_of B.bounded self.new)) }
@@ -307,15 +357,21 @@ impl<T: Drop, B: RingBuf<Item = T>, W: Drop> ChannelFields<T, B, W> {
             (λ polled. polled.1.displaced ≡ displaced_by_send polled.0 (displaced_send (machine_of B.bounded self.old) slot.0)) }
         ensures unused { IfOk result (λ polled. polled.1.unused ≡ unused_after polled.0 waker) }
         ensures live { OnOk result (can_send (phase_of self.old.waiters.sends slot.0) ≡ true) }
-        ensures refused { OnErr result ((can_send (phase_of self.old.waiters.sends slot.0) ≡ false)
-            × (machine_of B.bounded self.new ≡ machine_of B.bounded self.old)) }
-        ensures handed_back { IfErr result (λ back. back ≡ waker) }
+        ensures waits { IfOk result (λ polled. OnPending polled.0 (may_wait ≡ true)) }
+        ensures unchanged { OnErr result (machine_of B.bounded self.new ≡ machine_of B.bounded self.old) }
+        ensures refused { IfErr result (λ why. IsRefused why waker (can_send (phase_of self.old.waiters.sends slot.0)) may_wait
+            (WouldBeReady (PollsSend (machine_of B.bounded self.old) slot.0) false)) }
     {
         match self.waiters.phase::<Sends>(slot) {
-            Some(Phase::Fresh) => Ok(self.send_fresh(slot, waker)),
-            Some(Phase::Registered(_)) => Ok(self.send_registered(slot, waker)),
+            Some(Phase::Fresh) => self.send_fresh(slot, waker, may_wait),
+            Some(Phase::Registered(_)) => {
+                if !may_wait {
+                    return Err(NotPolled::WouldWait(waker));
+                }
+                Ok(self.send_registered(slot, waker))
+            }
             Some(Phase::Complete) => Ok(self.send_complete(slot, waker)),
-            None | Some(Phase::Told | Phase::Ended) => Err(waker),
+            None | Some(Phase::Told | Phase::Ended) => Err(NotPolled::NoFuture(waker)),
         }
     }
 
@@ -349,43 +405,57 @@ impl<T: Drop, B: RingBuf<Item = T>, W: Drop> ChannelFields<T, B, W> {
         (Poll::Pending, Leftover::of(before, None))
     }
 
-    // Polls a fresh send.
+    // Polls a fresh send. It is refused where it would have to wait and may not; then nothing has changed.
     #[inline(always)]
-    fn send_fresh(&mut self, slot: Slot, waker: W) -> Sent<T, W>
+    fn send_fresh(
+        &mut self,
+        slot: Slot,
+        waker: W,
+        may_wait: bool,
+    ) -> Result<Sent<T, W>, NotPolled<W>>
         requires sound { IsSound (machine_of B.bounded self.old) }
         requires fresh { phase_of self.old.waiters.sends slot.0 ≡ Some Fresh }
-        ensures polled { PollsSend (machine_of B.bounded self.old) slot.0 waker result.0 (machine_of B.bounded self.new) }
-        ensures displaced { result.1.displaced ≡ displaced_by_send result.0 (displaced_send (machine_of B.bounded self.old) slot.0) }
-        ensures unused { result.1.unused ≡ unused_after result.0 waker }
+        ensures polled { IfOk result
+            (λ polled. PollsSend (machine_of B.bounded self.old) slot.0 waker polled.0 (machine_of B.bounded self.new)) }
+        ensures displaced { IfOk result
+            (λ polled. polled.1.displaced ≡ displaced_by_send polled.0 (displaced_send (machine_of B.bounded self.old) slot.0)) }
+        ensures unused { IfOk result (λ polled. polled.1.unused ≡ unused_after polled.0 waker) }
+        ensures waits { IfOk result (λ polled. OnPending polled.0 (may_wait ≡ true)) }
+        ensures unchanged { OnErr result (machine_of B.bounded self.new ≡ machine_of B.bounded self.old) }
+        ensures refused { IfErr result (λ why. IsRefused why waker true may_wait
+            (WouldBeReady (PollsSend (machine_of B.bounded self.old) slot.0) false)) }
     {
         if !self.is_open {
             let named = self.waiters.take_out::<Sends>(slot);
             self.waiters.set_phase::<Sends>(slot, Phase::Ended);
             let value = self.waiters.exchange::<Sends>(slot, None).unwrap();
-            return (
+            return Ok((
                 Poll::Ready(Err(SendFault::Closed(value))),
                 Leftover::of(named, Some(waker)),
-            );
+            ));
         }
         if !self.buffer.can_push() {
+            if !may_wait {
+                return Err(NotPolled::WouldWait(waker));
+            }
             let named = self.waiters.take_out::<Sends>(slot);
             self.waiters.register::<Sends>(slot, waker);
             self.waiters.tell_oldest::<Receives>();
-            return (Poll::Pending, Leftover::of(named, None));
+            return Ok((Poll::Pending, Leftover::of(named, None)));
         }
         let value = self.waiters.exchange::<Sends>(slot, None).unwrap();
         if let Err(failed) = self.buffer.push(value) {
             let (value, refused) = failed.into_parts();
             self.waiters.exchange::<Sends>(slot, Some(value));
-            return (
+            return Ok((
                 Poll::Ready(Err(SendFault::Fault(Fault::from(refused)))),
                 Leftover::of(None, Some(waker)),
-            );
+            ));
         }
         let named = self.waiters.take_out::<Sends>(slot);
         self.waiters.set_phase::<Sends>(slot, Phase::Ended);
         self.waiters.tell_oldest::<Receives>();
-        (Poll::Ready(Ok(())), Leftover::of(named, Some(waker)))
+        Ok((Poll::Ready(Ok(())), Leftover::of(named, Some(waker))))
     }
 
     /// Removes a send. Returns the value that it still owned, and the waker that it had; nothing where none lives under this slot, and

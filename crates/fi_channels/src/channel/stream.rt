@@ -2,7 +2,7 @@
 use crate::access::ChannelReceiveAccess;
 use crate::channel::ChannelState;
 use fi_parts::buffer::RingBuf;
-use fi_parts::{FutureKind, FuturesOf, LocalFuture, Slot};
+use fi_parts::{FutureKind, FuturesOf, LocalFuture, NotPolled, Slot};
 use futures::task::Poll;
 
 /// The kind of a channel's streams: ready with the next value, or with None once the channel is closed and empty, and ever after.
@@ -57,8 +57,12 @@ impl<T: Drop, B: RingBuf<Item = T>, W: Drop> FuturesOf<ChannelState<T, B, W>> fo
         _at: (),
         waker: W,
     ) -> Option<Poll<Option<T>>> {
-        let (answer, _leftover) = channel.next_checked(slot, waker).ok()?;
-        Some(answer)
+        match channel.poll_next(slot, waker, true) {
+            Ok((answer, _leftover)) => Some(answer),
+            Err(NotPolled::NoFuture(_)) => None,
+            // It may wait.
+            Err(NotPolled::WouldWait(_)) => unreachable!(),
+        }
     }
 
     fn ends(answer: &Poll<Option<T>>) -> bool {

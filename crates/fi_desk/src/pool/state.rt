@@ -10,7 +10,7 @@ ghost use Rattle.fi_desk.specs.declared.pool.PoolCall.TheVariants as calls;
 use fi_channels::{ChannelState, EventState, TryReceiveError, TrySendError};
 use fi_locks::SemaphoreState;
 use fi_parts::buffer::GrowingHeapBuf;
-use fi_parts::{CloseStatus, Fault, Refused, Slot, Stage};
+use fi_parts::{CloseStatus, Fault, NotPolled, Refused, Slot, Stage};
 use fi_run::Answer;
 use futures::task::Poll;
 use std::alloc::Global;
@@ -293,10 +293,12 @@ impl<W: Drop> PoolFields<W> {
         ensures stepped { Step (machine_of self.old) (calls.Poll slot waker) result (machine_of self.new) }
         ensures is_pool { IsPool self.new }
     {
-        match self.drained.poll_checked(slot, waker) {
+        match self.drained.poll(slot, waker, true) {
             Ok((Poll::Ready(_), _)) => Answer::Ready,
             Ok((Poll::Pending, _)) => Answer::Pending,
-            Err(_) => Answer::Refused(Fault::NoSlot),
+            Err(NotPolled::NoFuture(_)) => Answer::Refused(Fault::NoSlot),
+            // It may wait.
+            Err(NotPolled::WouldWait(_)) => unreachable!(),
         }
     }
 

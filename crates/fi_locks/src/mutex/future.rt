@@ -1,7 +1,7 @@
 //! The futures of a mutex.
 use crate::mutex::MutexState;
 use crate::mutex::guard::LocalMutexGuard;
-use fi_parts::{FutureKind, FuturesOf, LocalFuture, Slot};
+use fi_parts::{FutureKind, FuturesOf, LocalFuture, NotPolled, Slot};
 use futures::task::Poll;
 
 /// The kind of a mutex's futures: ready with the guard of the mutex, once it is free for them. If one that was told is cancelled, the
@@ -58,7 +58,12 @@ impl<T: Drop, W: Drop> FuturesOf<MutexState<T, W>> for MutexLock {
         _at: (),
         waker: W,
     ) -> Option<Poll<LocalMutexGuard<T>>> {
-        let (answer, _leftover) = mutex.poll_checked(slot, waker).ok()?;
+        let (answer, _leftover) = match mutex.poll(slot, waker, true) {
+            Ok(polled) => polled,
+            Err(NotPolled::NoFuture(_)) => return None,
+            // It may wait.
+            Err(NotPolled::WouldWait(_)) => unreachable!(),
+        };
         match answer {
             Poll::Ready(value) => Some(Poll::Ready(LocalMutexGuard::of(value))),
             Poll::Pending => Some(Poll::Pending),

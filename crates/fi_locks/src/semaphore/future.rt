@@ -4,7 +4,7 @@ ghost use Rattle.fi_parts.specs.Stays.{AllStay};
 ghost use Rattle.fi_locks.specs.Semaphore.{can_be_polled, GivesBack, Disarms};
 
 use crate::semaphore::{LocalSemaphore, SemaphoreState};
-use fi_parts::{FutureKind, FuturesOf, LocalFuture, Slot};
+use fi_parts::{FutureKind, FuturesOf, LocalFuture, NotPolled, Slot};
 use futures::task::Poll;
 use std::marker::Model;
 use std::{fmt, mem};
@@ -64,7 +64,12 @@ impl<W: Drop> FuturesOf<SemaphoreState<W>> for SemaphoreAcquire {
         _at: (),
         waker: W,
     ) -> Option<Poll<LocalSemaphoreReleaser>> {
-        let (answer, _leftover) = semaphore.poll_checked(slot, waker).ok()?;
+        let (answer, _leftover) = match semaphore.poll(slot, waker, true) {
+            Ok(polled) => polled,
+            Err(NotPolled::NoFuture(_)) => return None,
+            // It may wait.
+            Err(NotPolled::WouldWait(_)) => unreachable!(),
+        };
         match answer {
             Poll::Ready(permits) => Some(Poll::Ready(LocalSemaphoreReleaser::of(permits))),
             Poll::Pending => Some(Poll::Pending),

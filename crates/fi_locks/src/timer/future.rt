@@ -1,6 +1,6 @@
 //! The futures of a timer.
 use crate::timer::TimerState;
-use fi_parts::{FutureKind, FuturesOf, LocalFuture, Slot};
+use fi_parts::{FutureKind, FuturesOf, LocalFuture, NotPolled, Slot};
 use futures::task::Poll;
 
 /// The kind of a timer's futures: ready once a check has told them, or at a first poll that is not before their expiry. A poll says
@@ -49,8 +49,12 @@ impl<W: Drop> FuturesOf<TimerState<W>> for TimerWait {
     ghost others_stay = { OthersStay can_be_polled };
 
     fn poll(timer: &mut TimerState<W>, slot: Slot, now: u64, waker: W) -> Option<Poll<()>> {
-        let (answer, _leftover) = timer.poll_checked(slot, now, waker).ok()?;
-        Some(answer)
+        match timer.poll(slot, now, waker, true) {
+            Ok((answer, _leftover)) => Some(answer),
+            Err(NotPolled::NoFuture(_)) => None,
+            // It may wait.
+            Err(NotPolled::WouldWait(_)) => unreachable!(),
+        }
     }
 
     fn ends(answer: &Poll<()>) -> bool {

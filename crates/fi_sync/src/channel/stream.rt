@@ -16,7 +16,7 @@ use crate::slot_future::{PollOutput, PollSlot, SlotFuture, SlotPolled};
 use crate::wakes::PollWaker;
 use fi_channels::{ChannelReceiveAccess, ChannelState, ChannelStreaming};
 use fi_parts::buffer::RingBuf;
-use fi_parts::{Fault, Leftover, Refused, Slot};
+use fi_parts::{Fault, Leftover, NotPolled, Refused, Slot};
 use futures::task::{Context, Poll};
 use futures::{Future, Stream};
 use std::fmt;
@@ -130,19 +130,18 @@ impl<T: Drop, B: RingBuf<Item = T>> PollSlot<ChannelStreaming> for ChannelState<
         (displaced_receive old name) old left new };
 
     fn poll_slot(&mut self, slot: Slot, waker: PollWaker) -> SlotPolled<Self::Output> {
-        if waker.is_none() && self.next_would_wait(slot) {
-            return None;
-        }
-        match self.next_checked(slot, waker) {
+        let may_wait = waker.is_some();
+        match self.poll_next(slot, waker, may_wait) {
             Ok((answer, leftover)) => match answer {
                 Poll::Ready(Some(item)) => Some((Poll::Ready(Some(Ok(item))), leftover)),
                 Poll::Ready(None) => Some((Poll::Ready(None), leftover)),
                 Poll::Pending => Some((Poll::Pending, leftover)),
             },
-            Err(waker) => {
+            Err(NotPolled::NoFuture(waker)) => {
                 let answer = Poll::Ready(Some(Err(Fault::NoSlot)));
                 Some((answer, Leftover::of(None, Some(waker))))
             }
+            Err(NotPolled::WouldWait(_none)) => None,
         }
     }
 

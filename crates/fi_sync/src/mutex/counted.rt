@@ -8,7 +8,7 @@ ghost use Rattle.fi_sync.specs.Blanks.{IsLockBlank};
 use crate::slot_future::{PollSlot, SlotPolled, no_slot};
 use crate::wakes::{HasOutbox, PollWaker};
 use fi_locks::{Grant, MutexLock, MutexState, Tally};
-use fi_parts::{Fault, Slot};
+use fi_parts::{Fault, NotPolled, Slot};
 use futures::task::Poll;
 use std::alloc::Global;
 use std::fmt;
@@ -178,11 +178,9 @@ impl<T: Drop, L: Ledger> PollSlot<MutexLock> for CountedMutex<T, L> {
 
     #[inline(always)]
     fn poll_slot(&mut self, slot: Slot, waker: PollWaker) -> SlotPolled<Self::Output> {
-        if waker.is_none() && self.state.would_wait(slot) {
-            return None;
-        }
+        let may_wait = waker.is_some();
         let CountedMutex { state, tally } = self;
-        match state.poll_checked(slot, waker) {
+        match state.poll(slot, waker, may_wait) {
             Ok((answer, leftover)) => match answer {
                 Poll::Ready(value) => {
                     let hold = tally.hand_out(1);
@@ -190,7 +188,8 @@ impl<T: Drop, L: Ledger> PollSlot<MutexLock> for CountedMutex<T, L> {
                 }
                 Poll::Pending => Some((Poll::Pending, leftover)),
             },
-            Err(waker) => no_slot(waker),
+            Err(NotPolled::NoFuture(waker)) => no_slot(waker),
+            Err(NotPolled::WouldWait(_none)) => None,
         }
     }
 

@@ -10,7 +10,7 @@ ghost use Rattle.fi_sync.specs.Blanks.{IsPermitBlank};
 use crate::slot_future::{PollSlot, SlotPolled, no_slot};
 use crate::wakes::{HasOutbox, PollWaker};
 use fi_locks::{Grant, SemaphoreAcquire, SemaphoreState, Tally};
-use fi_parts::{CloseStatus, Fault, Leftover, Slot};
+use fi_parts::{CloseStatus, Fault, Leftover, NotPolled, Slot};
 use futures::task::Poll;
 use std::alloc::Global;
 use std::fmt;
@@ -192,11 +192,9 @@ impl<L: Ledger> PollSlot<SemaphoreAcquire> for CountedSemaphore<L> {
             let answer = Poll::Ready(Err(Fault::Closed));
             return Some((answer, Leftover::of(None, Some(waker))));
         }
-        if waker.is_none() && self.state.would_wait(slot) {
-            return None;
-        }
+        let may_wait = waker.is_some();
         let CountedSemaphore { state, tally, .. } = self;
-        let polled = state.poll_checked(slot, waker);
+        let polled = state.poll(slot, waker, may_wait);
         // Of every semaphore it holds that its permits, free and held, fit `usize`.
         let _ = state.wake_count();
         match polled {
@@ -207,7 +205,8 @@ impl<L: Ledger> PollSlot<SemaphoreAcquire> for CountedSemaphore<L> {
                 }
                 Poll::Pending => Some((Poll::Pending, leftover)),
             },
-            Err(waker) => no_slot(waker),
+            Err(NotPolled::NoFuture(waker)) => no_slot(waker),
+            Err(NotPolled::WouldWait(_none)) => None,
         }
     }
 

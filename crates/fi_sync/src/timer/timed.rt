@@ -13,7 +13,7 @@ use crate::slot_future::{PollSlot, SlotPolled, no_slot};
 use crate::wakes::{HasOutbox, PollWaker};
 use fi_locks::TimerState;
 use fi_parts::memory::{share, shared};
-use fi_parts::{Clock, Fault, FutureKind, Refused, Slot};
+use fi_parts::{Clock, Fault, FutureKind, NotPolled, Refused, Slot};
 use futures::task::Poll;
 use std::alloc::Global;
 use std::fmt;
@@ -226,16 +226,15 @@ impl<C: Clock> PollSlot<TimedWait> for Timed<C> {
     #[inline(always)]
     fn poll_slot(&mut self, slot: Slot, waker: PollWaker) -> SlotPolled<Self::Output> {
         let now = self.clock.now();
-        if waker.is_none() && self.timer.would_wait(slot, now) {
-            return None;
-        }
-        match self.timer.poll_checked(slot, now, waker) {
+        let may_wait = waker.is_some();
+        match self.timer.poll(slot, now, waker, may_wait) {
             Ok((Poll::Ready(()), leftover)) => Some((Poll::Ready(Ok(())), leftover)),
             Ok((Poll::Pending, leftover)) => {
                 self.rouse();
                 Some((Poll::Pending, leftover))
             }
-            Err(waker) => no_slot(waker),
+            Err(NotPolled::NoFuture(waker)) => no_slot(waker),
+            Err(NotPolled::WouldWait(_none)) => None,
         }
     }
 

@@ -1,11 +1,11 @@
 //! Of what primitives are made of, and of clocks.
 
 use futures::task::Poll;
-use futures_intrusive::Leftover;
 use futures_intrusive::buffer::{ArrayBuf, GrowingHeapBuf, RingBuf};
 use futures_intrusive::list::LinkedList;
 use futures_intrusive::sync::EventState;
 use futures_intrusive::timer::{Clock, MockClock, StdClock};
+use futures_intrusive::{Leftover, NotPolled};
 use std::sync::Arc;
 use std::test::Fail;
 use std::thread;
@@ -55,11 +55,22 @@ fn growing_heap_buf(rt: HostRuntime) -> Result<(), Fail> {
 fn leftover(rt: HostRuntime) -> Result<(), Fail> {
     let mut event: EventState<u64> = EventState::new(rt.alloc(), false);
     let slot = event.claim_waiter()?;
-    assert!(rt; event.poll_checked(slot, 1).is_ok()); // registers the waker 1
-    let Ok((Poll::Pending, Leftover { displaced, unused })) = event.poll_checked(slot, 2) else {
+    assert!(rt; event.poll(slot, 1, true).is_ok()); // registers the waker 1
+    let Ok((Poll::Pending, Leftover { displaced, unused })) = event.poll(slot, 2, true) else {
         return Err("not pending".into());
     };
     assert!(rt; displaced == Some(1) && unused == None);
+    Ok(())
+}
+
+#[test]
+fn not_polled(rt: HostRuntime) -> Result<(), Fail> {
+    let mut event: EventState<u64> = EventState::new(rt.alloc(), false);
+    let slot = event.claim_waiter()?;
+    // A poll that may not wait asks whether it would have to.
+    assert!(rt; matches!(event.poll(slot, 1, false), Err(NotPolled::WouldWait(1))));
+    event.leave(slot);
+    assert!(rt; matches!(event.poll(slot, 2, true), Err(NotPolled::NoFuture(2))));
     Ok(())
 }
 

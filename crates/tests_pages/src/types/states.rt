@@ -23,7 +23,10 @@ fn send_fault(rt: HostRuntime) {
 fn channel_send_access(rt: HostRuntime) {
     let mut channel: ChannelState<u64, ArrayBuf<u64, 1>, u64> = ChannelState::new(rt.alloc());
     let slot = channel.claim_send(5).ok().expect(&rt, "memory");
-    let is_sent = matches!(channel.send_checked(slot, 1), Ok((Poll::Ready(Ok(())), _)));
+    let is_sent = matches!(
+        channel.poll_send(slot, 1, true),
+        Ok((Poll::Ready(Ok(())), _))
+    );
     channel.leave_send(slot);
     assert!(rt; is_sent && channel.try_receive() == Ok(5));
 }
@@ -32,10 +35,10 @@ fn channel_send_access(rt: HostRuntime) {
 fn channel_receive_access(rt: HostRuntime) -> Result<(), Fail> {
     let mut channel: LocalChannel<u64, 1, u64> = LocalChannel::new(rt.alloc());
     let slot = channel.claim_receive()?;
-    let waits = matches!(channel.receive_checked(slot, 1), Ok((Poll::Pending, _)));
+    let waits = matches!(channel.poll_receive(slot, 1, true), Ok((Poll::Pending, _)));
     let is_woken = channel.try_send(5).is_ok() && channel.next_wake() == Some(1);
     let comes = matches!(
-        channel.receive_checked(slot, 2),
+        channel.poll_receive(slot, 2, true),
         Ok((Poll::Ready(Ok(Some(5))), _))
     );
     channel.leave_receive(slot);
@@ -48,9 +51,9 @@ fn mutex_state(rt: HostRuntime) -> Result<(), Fail> {
     let mut mutex: MutexState<u64, u64> = MutexState::new(rt.alloc(), 7, true); // a fair one
     let is_taken = mutex.try_take() == Some(7); // the value is lent out: the mutex is locked
     let slot = mutex.claim_lock()?;
-    let waits = matches!(mutex.poll_checked(slot, 1), Ok((Poll::Pending, _)));
+    let waits = matches!(mutex.poll(slot, 1, true), Ok((Poll::Pending, _)));
     let is_woken = mutex.unlock(8) == Ok(()) && mutex.next_wake() == Some(1);
-    let is_locked = matches!(mutex.poll_checked(slot, 2), Ok((Poll::Ready(8), _)));
+    let is_locked = matches!(mutex.poll(slot, 2, false), Ok((Poll::Ready(8), _)));
     mutex.leave(slot);
     assert!(rt; is_taken && waits && is_woken && is_locked);
     Ok(())
@@ -60,9 +63,9 @@ fn mutex_state(rt: HostRuntime) -> Result<(), Fail> {
 fn semaphore_state(rt: HostRuntime) -> Result<(), Fail> {
     let mut permits: SemaphoreState<u64> = SemaphoreState::new(rt.alloc(), true, 1); // fair, with one permit
     let slot = permits.claim_acquire(2)?;
-    let waits = matches!(permits.poll_checked(slot, 1), Ok((Poll::Pending, _)));
+    let waits = matches!(permits.poll(slot, 1, true), Ok((Poll::Pending, _)));
     let is_woken = permits.release(1) == Ok(()) && permits.next_wake() == Some(1);
-    let is_granted = matches!(permits.poll_checked(slot, 2), Ok((Poll::Ready(2), _)));
+    let is_granted = matches!(permits.poll(slot, 2, false), Ok((Poll::Ready(2), _)));
     permits.leave(slot);
     assert!(rt; waits && is_woken && is_granted && permits.held() == 2);
     Ok(())
@@ -72,10 +75,10 @@ fn semaphore_state(rt: HostRuntime) -> Result<(), Fail> {
 fn timer_state(rt: HostRuntime) -> Result<(), Fail> {
     let mut timer: TimerState<u64> = TimerState::new(rt.alloc());
     let slot = timer.claim_deadline(10)?;
-    let waits = matches!(timer.poll_checked(slot, 9, 1), Ok((Poll::Pending, _))); // at the moment 9
+    let waits = matches!(timer.poll(slot, 9, 1, true), Ok((Poll::Pending, _))); // at the moment 9
     timer.check_expirations(10);
     let is_woken = timer.next_wake() == Some(1);
-    let is_over = matches!(timer.poll_checked(slot, 10, 2), Ok((Poll::Ready(()), _)));
+    let is_over = matches!(timer.poll(slot, 10, 2, false), Ok((Poll::Ready(()), _)));
     timer.leave(slot);
     assert!(rt; waits && is_woken && is_over);
     Ok(())

@@ -23,7 +23,7 @@ fn learn(
     asked: Slot,
     answer: &mut LocalOneshotChannel<u32, u64>,
 ) -> Option<Poll<Result<Option<u32>, Fault>>> {
-    let (answer, _leftover) = answer.receive_checked(asked, ASKER).ok()?;
+    let (answer, _leftover) = answer.poll_receive(asked, ASKER, true).ok()?;
     Some(answer)
 }
 

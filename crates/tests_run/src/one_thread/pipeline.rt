@@ -45,7 +45,7 @@ impl Squares {
             Some(slot) => slot,
             None => self.send_next(pipe)?,
         };
-        let Ok((answer, _leftover)) = pipe.send_checked(slot, SQUARES) else {
+        let Ok((answer, _leftover)) = pipe.poll_send(slot, SQUARES, true) else {
             return Ok(false);
         };
         let sent = match answer {
@@ -90,7 +90,7 @@ impl Sum {
     /// Adds until there is nothing to receive.
     fn run(&mut self, pipe: &mut Pipe) {
         for _ in 0..STEPS {
-            let Ok((answer, _leftover)) = pipe.next_checked(self.stream, SUM) else {
+            let Ok((answer, _leftover)) = pipe.poll_next(self.stream, SUM, true) else {
                 return;
             };
             match answer {

@@ -1,17 +1,21 @@
-use Rattle.std.proofs.Common.{◌≡◌, Some, sym, ap, ◌∙◌}
+use Rattle.std.proofs.Common.{◌≡◌, true, Some, sym, ap, ◌∙◌, subst}
 use Rattle.fi_parts.specs.WaitQueueModel.{wait_queue_of}
-use Rattle.fi_parts.specs.Polled.{can_be_polled}
+use Rattle.fi_parts.specs.Polled.{can_be_polled, IsRefused}
 use Rattle.fi_parts.specs.Waiting.{phase_of, is_registered}
+use Rattle.fi_parts.specs.WaiterPolls.{has_to_wait}
 use Rattle.fi_parts.proofs.WaitQueues.{its_phase, phase-seen, seen-phase, seen-registered, live-after, apart-after}
 use Rattle.fi_parts.proofs.WaiterPolls.{joined, kept_place}
 use Rattle.fi_parts.proofs.wait_queue.WaitQueue.poll.Goals as goal
 use Rattle.fi_parts.proofs.wait_queue.WaitQueue.poll.Goals.{in-Joins, in_default}
 
+pub returns-in-Err-clause-unchanged : goal.returns-in-Err-clause-unchanged
+returns-in-Err-clause-unchanged g c = rw (← c.self.view_is) (ap wait_queue_of c.in-Err.ensures.unchanged)
+
 pub returns-in-Err-clause-refused : goal.returns-in-Err-clause-refused
 returns-in-Err-clause-refused g c =
-    let refused = c.in-Err.ensures.refused in
-    rw (← c.self.view_is)
-    (ap can_be_polled (phase-seen c.self.inside.list.live c.args.slot.0) ∙ refused.0, ap wait_queue_of refused.1)
+    rw (← c.self.view_is) (subst
+    (λ p. IsRefused c.in-Err.refused c.args.waker (can_be_polled p) c.args.may_wait (has_to_wait c.args.ends p ≡ true))
+    (sym (phase-seen c.self.inside.list.live c.args.slot.0)) c.in-Err.ensures.refused)
 
 pub add_front-requires-clause-live : goal.add_front-requires-clause-live
 add_front-requires-clause-live g c =

@@ -2,7 +2,7 @@ use Rattle.std.proofs.Common.{refl, sym, ◌∙◌}
 use Rattle.fi_parts.specs.Tied.{waiting_of}
 use Rattle.fi_parts.proofs.Waiting.{lives_as}
 use Rattle.fi_parts.proofs.WaiterPolls.{polled_lives, stayed}
-use Rattle.fi_parts.proofs.waits.Waits.poll_checked.Goals as goal
+use Rattle.fi_parts.proofs.waits.Waits.poll.Goals as goal
 
 pub take_out-requires : goal.take_out-requires
 take_out-requires g c =

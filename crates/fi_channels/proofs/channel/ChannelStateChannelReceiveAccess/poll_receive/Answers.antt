@@ -4,15 +4,15 @@ use Rattle.fi_channels.specs.ChannelWords.{ChannelMachine, can_receive, kind_of,
 use Rattle.fi_channels.specs.ChannelFields.{machine_of}
 use Rattle.fi_channels.proofs.ChannelLaws.{Receives, polls_receive}
 use Rattle.fi_channels.proofs.ChannelStays.{polled_receive_stays, pending_receive}
-use Rattle.fi_channels.proofs.channel.ChannelStateChannelReceiveAccess.receive_checked.Given.{Over}
-use Rattle.fi_channels.proofs.channel.ChannelStateChannelReceiveAccess.receive_checked.Goals as goal
-use Rattle.fi_channels.proofs.channel.ChannelStateChannelReceiveAccess.receive_checked.Goals.{in-Pending, in-Ready}
+use Rattle.fi_channels.proofs.channel.ChannelStateChannelReceiveAccess.poll_receive.Given.{Over}
+use Rattle.fi_channels.proofs.channel.ChannelStateChannelReceiveAccess.poll_receive.Goals as goal
+use Rattle.fi_channels.proofs.channel.ChannelStateChannelReceiveAccess.poll_receive.Goals.{in-Pending, in-Ready}
 
 abbrev old : (g : Over) (c : goal.Joined-answer g) → ChannelMachine g.row.T.Denot g.row.W.Denot
 old g c = machine_of g.B.RingBuf.bounded c.self.inside.fields
 
 abbrev new : (g : Over) (c : goal.Joined-answer g) → ChannelMachine g.row.T.Denot g.row.W.Denot
-new g c = machine_of g.B.RingBuf.bounded c.receive_checked.new.self
+new g c = machine_of g.B.RingBuf.bounded c.poll_receive.new.self
 
 did : (g : Over) (c : goal.Joined-answer g) → Receives (old g c) (new g c) c.args.slot.0 c.args.waker c.in_ok-answer.answer
 did g c =

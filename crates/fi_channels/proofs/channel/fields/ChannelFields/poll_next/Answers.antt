@@ -2,7 +2,7 @@ use Rattle.std.proofs.Common.{◌≡◌, Some, rules}
 use Rattle.fi_parts.specs.Waiting.{phase_of}
 use Rattle.fi_parts.specs.declared.phase.Phase.TheVariants.{Ended}
 use Rattle.fi_channels.proofs.ChannelSteps.{ends_again}
-use Rattle.fi_channels.proofs.channel.fields.ChannelFields.next_checked.Goals as goal
+use Rattle.fi_channels.proofs.channel.fields.ChannelFields.poll_next.Goals as goal
 
 pub returns-in-Stream-Ended-clause-polled : goal.returns-in-Stream-Ended-clause-polled
 returns-in-Stream-Ended-clause-polled g c =

@@ -9,7 +9,7 @@ use Rattle.fi_parts.proofs.Effects.{waits_are_fit}
 use Rattle.fi_parts.proofs.Machines.{line_preserves, polling_stays, pending_stays}
 use Rattle.fi_locks.specs.Timer.{TimerMachine, Polls, IsSound, OwesNoWake, can_be_polled}
 use Rattle.fi_locks.specs.TimerLaws.{rules, polled}
-use Rattle.fi_locks.proofs.timer.TimerState.poll_checked.Goals as goal
+use Rattle.fi_locks.proofs.timer.TimerState.poll.Goals as goal
 
 -- What holds after a poll of this future.
 record AfterPoll {W : Type 0} (old : TimerMachine W) (name : ℕ) (answer : Poll (Unit {0}))
@@ -44,40 +44,40 @@ invariant_of-self g c =
     (after_poll c.self.inside.floor c.self.inside.deadlines c.args.slot.0 c.args.now c.args.waker Pending
     c.self.inside.floor c.set_phase-before.new.self c.self.invariant (search lemmas)).invariant
 
-pub returns-then-is_registered-clause-live : goal.returns-then-is_registered-clause-live
-returns-then-is_registered-clause-live g c =
+pub returns-then-is_registered-2-clause-live : goal.returns-then-is_registered-2-clause-live
+returns-then-is_registered-2-clause-live g c =
     (after_poll c.self.inside.floor c.self.inside.deadlines c.args.slot.0 c.args.now c.args.waker Pending
     c.self.inside.floor c.set_phase-before.new.self c.self.invariant (search lemmas)).live
 
-pub returns-then-is_registered-clause-pending : goal.returns-then-is_registered-clause-pending
-returns-then-is_registered-clause-pending g c =
+pub returns-then-is_registered-2-clause-pending : goal.returns-then-is_registered-2-clause-pending
+returns-then-is_registered-2-clause-pending g c =
     (after_poll c.self.inside.floor c.self.inside.deadlines c.args.slot.0 c.args.now c.args.waker Pending
     c.self.inside.floor c.set_phase-before.new.self c.self.invariant (search lemmas)).pending
 
-pub returns-then-is_registered-clause-others : goal.returns-then-is_registered-clause-others
-returns-then-is_registered-clause-others g c =
+pub returns-then-is_registered-2-clause-others : goal.returns-then-is_registered-2-clause-others
+returns-then-is_registered-2-clause-others g c =
     rw (← c.self.view_is)
     (after_poll c.self.inside.floor c.self.inside.deadlines c.args.slot.0 c.args.now c.args.waker Pending
     c.self.inside.floor c.set_phase-before.new.self c.self.invariant (search lemmas)).others
 
 -- It was fresh, its expiry has not come, and it registers.
-pub invariant_of-self-then-is_early : goal.invariant_of-self-then-is_early
-invariant_of-self-then-is_early g c =
+pub invariant_of-self-then-is_early-2 : goal.invariant_of-self-then-is_early-2
+invariant_of-self-then-is_early-2 g c =
     (after_poll c.self.inside.floor c.self.inside.deadlines c.args.slot.0 c.args.now c.args.waker Pending
     c.min-self-inside.result c.register.new.self c.self.invariant (search lemmas)).invariant
 
-pub returns-then-is_early-clause-live : goal.returns-then-is_early-clause-live
-returns-then-is_early-clause-live g c =
+pub returns-then-is_early-2-clause-live : goal.returns-then-is_early-2-clause-live
+returns-then-is_early-2-clause-live g c =
     (after_poll c.self.inside.floor c.self.inside.deadlines c.args.slot.0 c.args.now c.args.waker Pending
     c.min-self-inside.result c.register.new.self c.self.invariant (search lemmas)).live
 
-pub returns-then-is_early-clause-pending : goal.returns-then-is_early-clause-pending
-returns-then-is_early-clause-pending g c =
+pub returns-then-is_early-2-clause-pending : goal.returns-then-is_early-2-clause-pending
+returns-then-is_early-2-clause-pending g c =
     (after_poll c.self.inside.floor c.self.inside.deadlines c.args.slot.0 c.args.now c.args.waker Pending
     c.min-self-inside.result c.register.new.self c.self.invariant (search lemmas)).pending
 
-pub returns-then-is_early-clause-others : goal.returns-then-is_early-clause-others
-returns-then-is_early-clause-others g c =
+pub returns-then-is_early-2-clause-others : goal.returns-then-is_early-2-clause-others
+returns-then-is_early-2-clause-others g c =
     rw (← c.self.view_is)
     (after_poll c.self.inside.floor c.self.inside.deadlines c.args.slot.0 c.args.now c.args.waker Pending
     c.min-self-inside.result c.register.new.self c.self.invariant (search lemmas)).others
