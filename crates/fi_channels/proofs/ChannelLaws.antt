@@ -25,7 +25,7 @@ use Rattle.fi_parts.specs.WakerHistory.WakerChange.{Pends, Leaves, NoEffect}
 use Rattle.fi_parts.specs.Waiting.{asks_in}
 use Rattle.fi_parts.proofs.FiniteMaps.{get-insert_same}
 use Rattle.fi_parts.specs.Waiting.{Waiters, Waiting, phase_of, phase_in, asks_of, is_registered, insert_fresh, registered, stays, ended}
-use Rattle.fi_parts.specs.Waiting.{without_future, exchange, clear_queue, noticed, IsOrdered}
+use Rattle.fi_parts.specs.Waiting.{without_future, with_phase, may_be_named, exchange, clear_queue, noticed, IsOrdered}
 use Rattle.fi_parts.proofs.Effects.{some_phase, registered_as}
 use Rattle.fi_parts.proofs.Oldest.{phase-with_asks}
 use Rattle.fi_parts.proofs.Sound.{none_registered, sound-forgotten}
@@ -117,35 +117,28 @@ module _ {W : Type 0} where
   given_leaves (Some Single) name = refl
   given_leaves (Some Stream) name = refl
 
+  -- Its phase has changed to one that is not registered, and it asks for the same.
+  abbrev Changed : Waiters ReceiveKind W → Waiters ReceiveKind W → ℕ → Type 0
+  Changed old new name = (phase : Phase W) × (is_registered (Some phase) ≡ false) × Becomes old new name (Some phase)
+      × (asks_of new name ≡ asks_of old name)
+
+  changed_to : (phase : Phase W) → is_registered (Some phase) ≡ false → (old new : Waiters ReceiveKind W) (name : ℕ) →
+      may_be_named (phase_of old name) ≡ true → new ≡ record old { live = with_phase old.live name phase } → Changed old new name
+  changed_to phase off old new name lives is =
+      let p = some_phase (phase_of old name) lives in (
+        phase,
+        off,
+        subst (λ (s : Waiters ReceiveKind W). Becomes old s name (Some phase)) (sym is)
+            (becomes-with_phase old name phase old.queue (lives_as old name p.0 p.1)),
+        ap (λ (s : Waiters ReceiveKind W). asks_of s name) is ∙ asks-with_phase old.live name phase name,
+      )
+
   -- what was given an item
   given_becomes : (kind : Option ReceiveKind) (old new : Waiters ReceiveKind W) (name : ℕ) (out after : List (Waiter × W)) →
-      TakesOn Receive same_waiter (is_given kind name) old out new after →
-      (phase : Phase W) × (is_registered (Some phase) ≡ false)
-      × Becomes old new name (Some phase) × (asks_of new name ≡ asks_of old name)
-  given_becomes None old new name out after did =
-      let p = some_phase (phase_of old name) did.0 in (
-        Ended,
-        refl,
-        subst (λ (s : Waiters ReceiveKind W). Becomes old s name (Some Ended)) (sym did.1.0)
-            (becomes-with_phase old name Ended old.queue (lives_as old name p.0 p.1)),
-        ap (λ (s : Waiters ReceiveKind W). asks_of s name) did.1.0 ∙ asks-with_phase old.live name Ended name,
-      )
-  given_becomes (Some Single) old new name out after did =
-      let p = some_phase (phase_of old name) did.0 in (
-        Ended,
-        refl,
-        subst (λ (s : Waiters ReceiveKind W). Becomes old s name (Some Ended)) (sym did.1.0)
-            (becomes-with_phase old name Ended old.queue (lives_as old name p.0 p.1)),
-        ap (λ (s : Waiters ReceiveKind W). asks_of s name) did.1.0 ∙ asks-with_phase old.live name Ended name,
-      )
-  given_becomes (Some Stream) old new name out after did =
-      let p = some_phase (phase_of old name) did.0 in (
-        Fresh,
-        refl,
-        subst (λ (s : Waiters ReceiveKind W). Becomes old s name (Some Fresh)) (sym did.1.0)
-            (becomes-with_phase old name Fresh old.queue (lives_as old name p.0 p.1)),
-        ap (λ (s : Waiters ReceiveKind W). asks_of s name) did.1.0 ∙ asks-with_phase old.live name Fresh name,
-      )
+      TakesOn Receive same_waiter (is_given kind name) old out new after → Changed old new name
+  given_becomes None old new name out after did = changed_to Ended refl old new name did.0 did.1.0
+  given_becomes (Some Single) old new name out after did = changed_to Ended refl old new name did.0 did.1.0
+  given_becomes (Some Stream) old new name out after did = changed_to Fresh refl old new name did.0 did.1.0
 
   -- a receive of another phase than this is not told
   untold : (phase : Option (Phase W)) → is_told phase ≡ false → phase ≡ Some Told → ⊥

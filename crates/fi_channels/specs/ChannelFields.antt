@@ -1,14 +1,16 @@
 -- The fields of a channel, and what it takes from them.
-use Rattle.std.specs.Prelude.{◌≡◌, Bool, Option, Some, None, ◌++◌}
+use Rattle.std.specs.Prelude.{◌≡◌, ℕ, Bool, Option, Some, None, ◌++◌}
 use Rattle.std.specs.Option.{option_flatten}
+use Rattle.futures.specs.declared.task.Poll.{Poll}
 use Rattle.fi_parts.specs.Buffer.{Bounded}
 use Rattle.fi_parts.specs.Oldest.{asks_of_oldest, complete_oldest, pair_of_oldest}
 use Rattle.fi_parts.specs.declared.phase.Phase.{Phase}
 use Rattle.fi_parts.specs.declared.phase.Phase.TheVariants.{Fresh, Ended}
 use Rattle.fi_channels.specs.declared.channel.fields.ChannelFields.{ChannelFields}
 use Rattle.fi_channels.specs.declared.channel.fields.ReceiveKind.{ReceiveKind}
-use Rattle.fi_channels.specs.declared.channel.fields.ReceiveKind.TheVariants.{Stream}
-use Rattle.fi_channels.specs.ChannelWords.{ChannelMachine, next_value}
+use Rattle.fi_channels.specs.declared.channel.fields.ReceiveKind.TheVariants.{Single, Stream}
+use Rattle.fi_channels.specs.Channel.{PollsReceive, PollsNext}
+use Rattle.fi_channels.specs.ChannelWords.{ChannelMachine, next_value, can_receive, can_stream}
 use Rattle.fi_channels.specs.TwoSidesModel.{TwoSidesModel}
 use Rattle.fi_channels.specs.Waiter.{of_sends}
 
@@ -20,6 +22,16 @@ ChannelWaiters T W = TwoSidesModel (Option T) ReceiveKind W
 abbrev pub phase_given : {W : Type 0} → Option ReceiveKind → Phase W
 phase_given (Some Stream) = Fresh
 phase_given kind = Ended
+
+-- a receive of this kind may be polled
+abbrev pub can_poll_as : {W : Type 0} → ReceiveKind → Option ReceiveKind → Option (Phase W) → Bool
+can_poll_as Single asks phase = can_receive asks phase
+can_poll_as Stream asks phase = can_stream asks phase
+
+-- A poll of a receive of this kind.
+abbrev pub PollsAs : {T W : Type 0} → ReceiveKind → ChannelMachine T W → ℕ → W → Poll (Option T) → ChannelMachine T W → Type 0
+PollsAs Single old name waker answer new = PollsReceive old name waker answer new
+PollsAs Stream old name waker answer new = PollsNext old name waker answer new
 
 module _ {T W : Type 0} where
   -- the machine of a buffer, the sends and receives, and the flag

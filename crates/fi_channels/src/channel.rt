@@ -1,17 +1,15 @@
 //! The channel of many values, with sends and receives that wait.
-ghost use Rattle.std.specs.Prelude.{◌≡◌, ◌==◌, not, true, false, Option, None, IfOk, IfErr, OnOk, OnErr, is_some, length};
+ghost use Rattle.std.specs.Prelude.{◌≡◌, ◌==◌, not, true, false, Option, IfOk, IfErr, OnOk, OnErr, length};
 ghost use Rattle.std.specs.Option.{option_map};
 ghost use Rattle.futures.specs.Poll.{OnPending};
 ghost use Rattle.fi_parts.specs.Buffer.{empty};
 ghost use Rattle.fi_parts.specs.Stages.{stage_of, AppendsQueue};
-ghost use Rattle.fi_channels.specs.Polled.{unused_after, Answered, displaced_by, IsRefused, WouldBeReady, LeavesWhere};
-ghost use Rattle.fi_channels.specs.Channel.{MakesSend, MakesReceive, PollsSend, PollsReceive, PollsNext, CancelsSend};
-ghost use Rattle.fi_channels.specs.Channel.{CancelsReceive, TriesSend, TriesReceive, Closes, Wakes, IsSound};
-ghost use Rattle.fi_channels.specs.Channel.{OwesNoWake};
+ghost use Rattle.fi_channels.specs.Polled.{unused_after, IsRefused, WouldBeReady};
+ghost use Rattle.fi_channels.specs.Channel.{MakesSend, MakesReceive, PollsNext, TriesSend, TriesReceive, Closes, Wakes};
+ghost use Rattle.fi_channels.specs.Channel.{IsSound, OwesNoWake};
 ghost use Rattle.fi_channels.specs.ChannelWords as words;
-ghost use Rattle.fi_channels.specs.ChannelWords.{opened, send_phase, receive_phase, kind_of, displaced_send};
-ghost use Rattle.fi_channels.specs.ChannelWords.{displaced_receive, displaced_by_send, has_room};
-ghost use Rattle.fi_channels.specs.ChannelStays.{AllStay, OtherSendsStay, OtherReceivesStay, IsApartFromSends, IsApartFromReceives};
+ghost use Rattle.fi_channels.specs.ChannelWords.{opened, send_phase, receive_phase, kind_of, displaced_receive, has_room};
+ghost use Rattle.fi_channels.specs.ChannelStays.{AllStay, OtherReceivesStay, IsApartFromSends, IsApartFromReceives};
 ghost use Rattle.fi_channels.specs.Cleared.{ClosesAndClears, NoSendWaits};
 ghost use Rattle.fi_channels.specs.declared.channel.fields.ReceiveKind.TheVariants.{Single, Stream};
 
@@ -387,7 +385,8 @@ impl<T: Drop, B: RingBuf<Item = T>, W: Drop> ChannelState<T, B, W> {
             (words.can_stream (kind_of self.old slot.0) (receive_phase self.old slot.0)) may_wait
             (WouldBeReady (PollsNext self.old slot.0) false)) }
     {
-        self.fields.poll_next(slot, waker, may_wait)
+        self.fields
+            .poll_as(ReceiveKind::Stream, slot, waker, may_wait)
     }
 }
 
@@ -419,30 +418,12 @@ impl<T: Drop, B: RingBuf<Item = T>, W: Drop> ChannelSendAccess for ChannelState<
         slot: Slot,
         waker: W,
         may_wait: bool,
-    ) -> Result<Sent<T, W>, NotPolled<W>>
-        ensures polled { IfOk result (λ polled. PollsSend self.old slot.0 waker polled.0 self.new) }
-        ensures displaced { IfOk result
-            (λ polled. polled.1.displaced ≡ displaced_by_send polled.0 (displaced_send self.old slot.0)) }
-        ensures unused { IfOk result (λ polled. polled.1.unused ≡ unused_after polled.0 waker) }
-        ensures live { IfOk result (λ _. is_some (send_phase self.new slot.0) ≡ true) }
-        ensures pending { IfOk result (λ polled. OnPending polled.0 (words.can_send (send_phase self.new slot.0) ≡ true)) }
-        ensures others { OtherSendsStay slot.0 self.old self.new }
-        ensures sendable { OnOk result (words.can_send (send_phase self.old slot.0) ≡ true) }
-        ensures waits { IfOk result (λ polled. OnPending polled.0 (may_wait ≡ true)) }
-        ensures unchanged { OnErr result (self.new ≡ self.old) }
-        ensures refused { IfErr result (λ why. IsRefused why waker (words.can_send (send_phase self.old slot.0)) may_wait
-            (WouldBeReady (PollsSend self.old slot.0) false)) }
-    {
+    ) -> Result<Sent<T, W>, NotPolled<W>> {
         self.fields.poll_send(slot, waker, may_wait)
     }
 
     #[inline(always)]
-    fn leave_send(&mut self, slot: Slot) -> (Option<T>, Option<W>)
-        ensures cancelled { is_some (send_phase self.old slot.0) ≡ true → CancelsSend self.old slot.0 result.0 self.new }
-        ensures displaced { is_some (send_phase self.old slot.0) ≡ true → result.1 ≡ displaced_send self.old slot.0 }
-        ensures others { OtherSendsStay slot.0 self.old self.new }
-        ensures unchanged { is_some (send_phase self.old slot.0) ≡ false → (self.new ≡ self.old) × (result ≡ (None, None)) }
-    {
+    fn leave_send(&mut self, slot: Slot) -> (Option<T>, Option<W>) {
         self.fields.leave_send(slot)
     }
 }
@@ -477,23 +458,10 @@ impl<T: Drop, B: RingBuf<Item = T>, W: Drop> ChannelReceiveAccess for ChannelSta
         slot: Slot,
         waker: W,
         may_wait: bool,
-    ) -> Result<Received<T, W>, NotPolled<W>>
-        ensures polled { IfOk result
-            (λ polled. Answered (PollsReceive self.old slot.0 waker) (λ fault state. ⊥) polled.0 self.new) }
-        ensures displaced { IfOk result (λ polled. polled.1.displaced ≡ displaced_by polled.0 (displaced_receive self.old slot.0)) }
-        ensures unused { IfOk result (λ polled. polled.1.unused ≡ unused_after polled.0 waker) }
-        ensures live { IfOk result (λ _. is_some (receive_phase self.new slot.0) ≡ true) }
-        ensures pending { IfOk result (λ polled. OnPending polled.0
-            (words.can_receive (kind_of self.new slot.0) (receive_phase self.new slot.0) ≡ true)) }
-        ensures others { OtherReceivesStay slot.0 self.old self.new }
-        ensures pollable { OnOk result (words.can_receive (kind_of self.old slot.0) (receive_phase self.old slot.0) ≡ true) }
-        ensures waits { IfOk result (λ polled. OnPending polled.0 (may_wait ≡ true)) }
-        ensures unchanged { OnErr result (self.new ≡ self.old) }
-        ensures refused { IfErr result (λ why. IsRefused why waker
-            (words.can_receive (kind_of self.old slot.0) (receive_phase self.old slot.0)) may_wait
-            (WouldBeReady (λ waker. Answered (PollsReceive self.old slot.0 waker) (λ fault state. ⊥)) false)) }
-    {
-        let (answer, leftover) = self.fields.poll_receive(slot, waker, may_wait)?;
+    ) -> Result<Received<T, W>, NotPolled<W>> {
+        let (answer, leftover) = self
+            .fields
+            .poll_as(ReceiveKind::Single, slot, waker, may_wait)?;
         match answer {
             Poll::Pending => Ok((Poll::Pending, leftover)),
             Poll::Ready(item) => Ok((Poll::Ready(Ok(item)), leftover)),
@@ -501,11 +469,7 @@ impl<T: Drop, B: RingBuf<Item = T>, W: Drop> ChannelReceiveAccess for ChannelSta
     }
 
     #[inline(always)]
-    fn leave_receive(&mut self, slot: Slot) -> Option<W>
-        ensures left { LeavesWhere (is_some (receive_phase self.old slot.0)) (CancelsReceive self.old slot.0 self.new)
-            (displaced_receive self.old slot.0) self.old result self.new }
-        ensures others { OtherReceivesStay slot.0 self.old self.new }
-    {
+    fn leave_receive(&mut self, slot: Slot) -> Option<W> {
         self.fields.leave_receive(slot)
     }
 }

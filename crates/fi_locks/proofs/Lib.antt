@@ -1,5 +1,5 @@
 pub mod OldestTold
-pub mod MutexPolls
+pub mod Polls
 pub mod MutexSteps
 pub mod SemaphoreMarks
 pub mod SemaphoreSteps

@@ -46,7 +46,7 @@ named-told live (n ∷ names) all =
     ap (λ p. pair_of n p ++ named live names) (all n (or_left (eqb n n) _ (eqb_same n)))
     ∙ named-told live names (λ q at. all q (or_right (eqb q n) _ at))
 
-told_is : {W : Type 0} (p : Option (Phase W)) → is_told p ≡ true → p ≡ Some Told
+pub told_is : {W : Type 0} (p : Option (Phase W)) → is_told p ≡ true → p ≡ Some Told
 told_is None h = absurd (both_ways false refl h)
 told_is (Some Told) h = refl
 told_is (Some p) h = absurd (both_ways false refl h)

@@ -1,14 +1,14 @@
 //! A mutex.
-ghost use Rattle.std.specs.Prelude.{◌≡◌, ◌&&◌, not, true, false, Option, Some, None, Result, Ok, Err, IfOk, IfErr, OnErr, is_some, length};
-ghost use Rattle.std.specs.Prelude.{OnOk};
+ghost use Rattle.std.specs.Prelude.{◌≡◌, ◌&&◌, ◌||◌, not, true, false, if◌then◌else◌, Option, Some, None, Result, Ok, Err};
+ghost use Rattle.std.specs.Prelude.{IfOk, IfErr, OnErr, OnOk, IfSome, MatchOption, is_some, length};
 ghost use Rattle.std.specs.Option.{option_map};
+ghost use Rattle.fi_parts.specs.Deadlines.{is_fresh};
 ghost use Rattle.fi_parts.specs.Machine.{phase_at, displaced_at};
 ghost use Rattle.fi_parts.specs.Polled.{unused_after, WouldBeReady, IsRefused, LeavesWhere};
 ghost use Rattle.fi_parts.specs.Order.{holds};
 ghost use Rattle.fi_parts.specs.Waiting.{IsLive, IsOrderedBy, displaced, is_queued, is_registered, may_be_named, phase_of};
 ghost use Rattle.fi_parts.specs.Effects.{TakesEffect};
-ghost use Rattle.fi_parts.specs.Effects.WaiterEffect.{EndsPlaced, Registers};
-ghost use Rattle.fi_parts.specs.declared.phase.Phase.TheVariants as phases;
+ghost use Rattle.fi_parts.specs.Effects.WaiterEffect.{EndsPlaced, Registers, KeepsWaiting};
 ghost use Rattle.fi_locks.specs.Mutex.{opened, is_free, is_empty, queue_of, can_be_polled, Makes, Polls, Cancels, TriesLock};
 ghost use Rattle.fi_locks.specs.Mutex.{Unlocks, Wakes, tells_oldest, IsLockedIfReady, IsLockedIfGiven, IsSound, OwesNoWake};
 ghost use Rattle.futures.specs.declared.task.Poll.TheVariants as polled;
@@ -42,7 +42,7 @@ use std::marker::Model;
 ///
 /// let mut mutex: MutexState<u64, u64> = MutexState::new(rt.alloc(), 7, true); // a fair one
 /// let is_taken = mutex.try_take() == Some(7); // the value is lent out: the mutex is locked
-/// let slot = mutex.claim_lock()?;
+/// let slot = mutex.claim()?;
 /// let waits = matches!(mutex.poll(slot, 1, true), Ok((Poll::Pending, _)));
 /// let is_woken = mutex.unlock(8) == Ok(()) && mutex.next_wake() == Some(1);
 /// let is_locked = matches!(mutex.poll(slot, 2, false), Ok((Poll::Ready(8), _)));
@@ -138,17 +138,40 @@ fn grant<T, W: Drop>(
     )
 }
 
-// Registers a live future that has no place in the queue: it goes to the queue's end.
+// Takes the value, if it may be taken and is there.
 #[inline(always)]
-fn register<T, W: Drop>(locks: &mut Waits<(), W>, slot: Slot, waker: W) -> (Poll<T>, Leftover<W>)
-    requires unregistered { may_be_named (phase_of locks.old.side slot.0) ≡ true }
-    requires apart { holds slot.0 locks.old.side.queue ≡ false }
+fn take_if<T>(value: &mut Option<T>, may_pass: bool) -> Option<T>
+    ensures given { result ≡ (if may_pass then value.old else None) }
+    ensures left { MatchOption result (value.new ≡ value.old) (λ _. value.new ≡ None) }
+{
+    if !may_pass {
+        return None;
+    }
+    value.take()
+}
+
+// Has a live future wait: where it is, if it is registered, and else at the queue's end.
+#[inline(always)]
+fn wait<T, W: Drop>(
+    locks: &mut Waits<(), W>,
+    slot: Slot,
+    has_place: bool,
+    waker: W,
+) -> (Poll<T>, Leftover<W>)
+    requires place { has_place ≡ is_registered (phase_of locks.old.side slot.0) }
+    requires unregistered { has_place ≡ false → may_be_named (phase_of locks.old.side slot.0) ≡ true }
+    requires apart { has_place ≡ false → holds slot.0 locks.old.side.queue ≡ false }
     ensures waits { result.0 ≡ polled.Pending }
-    ensures registered { TakesEffect (Registers slot.0 waker) locks.old locks.new }
+    ensures renewed { has_place ≡ true → TakesEffect (KeepsWaiting slot.0 waker) locks.old locks.new }
+    ensures registered { has_place ≡ false → TakesEffect (Registers slot.0 waker) locks.old locks.new }
     ensures displaced { result.1.displaced ≡ displaced locks.old.side locks.old.out slot.0 }
     ensures unused { result.1.unused ≡ None }
 {
     let named = locks.take_out(slot);
+    if has_place {
+        let before = locks.set_phase(slot, Phase::Registered(waker));
+        return (Poll::Pending, Leftover::of(before, None));
+    }
     locks.register(slot, waker);
     (Poll::Pending, Leftover::of(named, None))
 }
@@ -177,7 +200,7 @@ impl<T: Drop, W: Drop> MutexState<T, W> {
         ensures apart { IfOk result (λ future. IsApart future.name self.old) }
         ensures all_stay { AllStay can_be_polled self.old self.new }
     {
-        let slot = self.claim_lock()?;
+        let slot = self.claim()?;
         Ok(LocalMutexLockFuture::at(slot))
     }
 
@@ -203,10 +226,8 @@ impl<T: Drop, W: Drop> MutexState<T, W> {
         ensures locked { IsLockedIfGiven result self.new }
         ensures all_stay { AllStay can_be_polled self.old self.new }
     {
-        if self.is_promised() {
-            return None;
-        }
-        self.value.take()
+        let may_pass = !self.is_promised();
+        take_if(&mut self.value, may_pass)
     }
 
     /// Puts a value back and unlocks the mutex, whose oldest queued future is told and named to be woken. A mutex that isn't
@@ -252,7 +273,7 @@ impl<T: Drop, W: Drop> MutexState<T, W> {
 
     /// Makes a future under a slot that was not live. Refused only with `NoMemory`; then nothing has changed.
     #[inline(always)]
-    pub fn claim_lock(&mut self) -> Result<Slot, Fault>
+    pub fn claim(&mut self) -> Result<Slot, Fault>
         ensures made { IfOk result (λ slot. Makes self.old slot.0 self.new) }
         ensures pollable { IfOk result (λ slot. can_be_polled (phase_at self.new slot.0) ≡ true) }
         ensures refused { OnErr result (self.new ≡ self.old) }
@@ -303,12 +324,17 @@ impl<T: Drop, W: Drop> MutexState<T, W> {
             (WouldBeReady (Polls self.old slot.0) false)) }
         ensures others { OthersStay can_be_polled slot.0 self.old self.new }
     {
-        match self.locks.phase(slot) {
-            Some(Phase::Fresh) => self.poll_fresh(slot, waker, may_wait),
-            Some(Phase::Registered(_)) => self.poll_registered(slot, waker, may_wait),
-            Some(Phase::Told) => self.poll_told(slot, waker, may_wait),
-            None | Some(Phase::Complete | Phase::Ended) => Err(NotPolled::NoFuture(waker)),
-        }
+        let Some((has_place, may_pass)) = self.standing(slot) else {
+            return Err(NotPolled::NoFuture(waker));
+        };
+        let Some(value) = take_if(&mut self.value, may_pass) else {
+            if !may_wait {
+                return Err(NotPolled::WouldWait(waker));
+            }
+            // Whoever has a place is registered: a told one of a fair mutex finds the value.
+            return Ok(wait(&mut self.locks, slot, has_place, waker));
+        };
+        Ok(grant(&mut self.locks, slot, has_place, value, waker))
     }
 
     /// Cancels the future under this slot, if one lives there, and gives back the waker that it had. If it was told, the oldest queued
@@ -340,79 +366,20 @@ impl<T: Drop, W: Drop> MutexState<T, W> {
         self.is_fair && self.locks.oldest().is_some()
     }
 
+    // Whether the future under this slot has a place in the queue, and whether the value of a free mutex is for it. None where none
+    // lives there that can be polled.
     #[inline(always)]
-    fn poll_fresh(
-        &mut self,
-        slot: Slot,
-        waker: W,
-        may_wait: bool,
-    ) -> Result<(Poll<T>, Leftover<W>), NotPolled<W>>
-        requires { phase_at self.old slot.0 ≡ Some phases.Fresh }
-        ensures polled { IfOk result (λ polled. Polls self.old slot.0 waker polled.0 self.new) }
-        ensures displaced { IfOk result (λ polled. polled.1.displaced ≡ displaced_at self.old slot.0) }
-        ensures unused { IfOk result (λ polled. polled.1.unused ≡ unused_after polled.0 waker) }
-        ensures waits { IfOk result (λ polled. OnPending polled.0 (may_wait ≡ true)) }
-        ensures unchanged { OnErr result (self.new ≡ self.old) }
-        ensures refused { IfErr result (λ why. IsRefused why waker true may_wait (WouldBeReady (Polls self.old slot.0) false)) }
+    fn standing(&self, slot: Slot) -> Option<(bool, bool)>
+        ensures live { is_some result ≡ can_be_polled (phase_at self.now slot.0) }
+        ensures place { IfSome result (λ found. found.0 ≡ is_queued self.now.own.is_fair (phase_at self.now slot.0)) }
+        ensures passes { IfSome result (λ found. found.1 ≡ not (self.now.own.is_fair && (is_registered (phase_at self.now slot.0)
+            || (is_fresh (phase_at self.now slot.0) && not (is_empty (queue_of self.now)))))) }
     {
-        if !self.is_promised() {
-            if let Some(value) = self.value.take() {
-                return Ok(grant(&mut self.locks, slot, false, value, waker));
-            }
-        }
-        if !may_wait {
-            return Err(NotPolled::WouldWait(waker));
-        }
-        Ok(register(&mut self.locks, slot, waker))
-    }
-
-    #[inline(always)]
-    fn poll_registered(
-        &mut self,
-        slot: Slot,
-        waker: W,
-        may_wait: bool,
-    ) -> Result<(Poll<T>, Leftover<W>), NotPolled<W>>
-        requires { is_registered (phase_at self.old slot.0) ≡ true }
-        ensures polled { IfOk result (λ polled. Polls self.old slot.0 waker polled.0 self.new) }
-        ensures displaced { IfOk result (λ polled. polled.1.displaced ≡ displaced_at self.old slot.0) }
-        ensures unused { IfOk result (λ polled. polled.1.unused ≡ unused_after polled.0 waker) }
-        ensures waits { IfOk result (λ polled. OnPending polled.0 (may_wait ≡ true)) }
-        ensures unchanged { OnErr result (self.new ≡ self.old) }
-        ensures refused { IfErr result (λ why. IsRefused why waker true may_wait (WouldBeReady (Polls self.old slot.0) false)) }
-    {
-        if !self.is_fair {
-            if let Some(value) = self.value.take() {
-                return Ok(grant(&mut self.locks, slot, true, value, waker));
-            }
-        }
-        if !may_wait {
-            return Err(NotPolled::WouldWait(waker));
-        }
-        self.locks.take_out(slot);
-        let before = self.locks.set_phase(slot, Phase::Registered(waker));
-        Ok((Poll::Pending, Leftover::of(before, None)))
-    }
-
-    #[inline(always)]
-    fn poll_told(
-        &mut self,
-        slot: Slot,
-        waker: W,
-        may_wait: bool,
-    ) -> Result<(Poll<T>, Leftover<W>), NotPolled<W>>
-        requires { phase_at self.old slot.0 ≡ Some phases.Told }
-        ensures polled { IfOk result (λ polled. Polls self.old slot.0 waker polled.0 self.new) }
-        ensures displaced { IfOk result (λ polled. polled.1.displaced ≡ displaced_at self.old slot.0) }
-        ensures unused { IfOk result (λ polled. polled.1.unused ≡ unused_after polled.0 waker) }
-        ensures waits { IfOk result (λ polled. OnPending polled.0 (may_wait ≡ true)) }
-        ensures unchanged { OnErr result (self.new ≡ self.old) }
-        ensures refused { IfErr result (λ why. IsRefused why waker true may_wait (WouldBeReady (Polls self.old slot.0) false)) }
-    {
-        match self.value.take() {
-            Some(value) => Ok(grant(&mut self.locks, slot, self.is_fair, value, waker)),
-            None if !may_wait => Err(NotPolled::WouldWait(waker)),
-            None => Ok(register(&mut self.locks, slot, waker)),
+        match self.locks.phase(slot) {
+            Some(Phase::Fresh) => Some((false, !self.is_promised())),
+            Some(Phase::Registered(_)) => Some((true, !self.is_fair)),
+            Some(Phase::Told) => Some((self.is_fair, true)),
+            None | Some(Phase::Complete | Phase::Ended) => None,
         }
     }
 }

@@ -44,7 +44,7 @@ use std::marker::Model;
 /// use futures_intrusive::sync::SemaphoreState;
 ///
 /// let mut permits: SemaphoreState<u64> = SemaphoreState::new(rt.alloc(), true, 1); // fair, with one permit
-/// let slot = permits.claim_acquire(2)?;
+/// let slot = permits.claim(2)?;
 /// let waits = matches!(permits.poll(slot, 1, true), Ok((Poll::Pending, _)));
 /// let is_woken = permits.release(1) == Ok(()) && permits.next_wake() == Some(1);
 /// let is_granted = matches!(permits.poll(slot, 2, false), Ok((Poll::Ready(2), _)));
@@ -278,7 +278,7 @@ impl<W: Drop> SemaphoreState<W> {
         ensures apart { IfOk result (λ future. IsApart future.name self.old) }
         ensures all_stay { AllStay can_be_polled self.old self.new }
     {
-        let slot = self.claim_acquire(permits)?;
+        let slot = self.claim(permits)?;
         Ok(LocalSemaphoreAcquireFuture::at(slot))
     }
 
@@ -355,7 +355,7 @@ impl<W: Drop> SemaphoreState<W> {
     /// Makes a future that needs this many permits, under a slot that was not live. Refused only with `NoMemory`; then nothing
     /// has changed.
     #[inline(always)]
-    pub fn claim_acquire(&mut self, permits: usize) -> Result<Slot, Fault>
+    pub fn claim(&mut self, permits: usize) -> Result<Slot, Fault>
         ensures made { IfOk result (λ slot. Makes self.old permits slot.0 self.new) }
         ensures pollable { IfOk result (λ slot. can_be_polled (phase_at self.new slot.0) ≡ true) }
         ensures refused { OnErr result (self.new ≡ self.old) }

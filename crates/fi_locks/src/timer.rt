@@ -36,7 +36,7 @@ use std::time::Duration;
 /// use futures_intrusive::timer::TimerState;
 ///
 /// let mut timer: TimerState<u64> = TimerState::new(rt.alloc());
-/// let slot = timer.claim_deadline(10)?;
+/// let slot = timer.claim(10)?;
 /// let waits = matches!(timer.poll(slot, 9, 1, true), Ok((Poll::Pending, _))); // at the moment 9
 /// timer.check_expirations(10);
 /// let is_woken = timer.next_wake() == Some(1);
@@ -114,7 +114,7 @@ impl<W: Drop> TimerState<W> {
         ensures apart { IfOk result (λ future. IsApart future.name self.old) }
         ensures all_stay { AllStay can_be_polled self.old self.new }
     {
-        let slot = self.claim_deadline(expiry)?;
+        let slot = self.claim(expiry)?;
         Ok(LocalTimerFuture::at(slot))
     }
 
@@ -174,7 +174,7 @@ impl<W: Drop> TimerState<W> {
     /// Makes a future with this expiry, in milliseconds, under a slot that was not live. Refused only with `NoMemory`; then
     /// nothing has changed.
     #[inline(always)]
-    pub fn claim_deadline(&mut self, expiry: u64) -> Result<Slot, Fault>
+    pub fn claim(&mut self, expiry: u64) -> Result<Slot, Fault>
         ensures made { IfOk result (λ slot. Makes self.old expiry slot.0 self.new) }
         ensures pollable { IfOk result (λ slot. can_be_polled (phase_at self.new slot.0) ≡ true) }
         ensures refused { OnErr result (self.new ≡ self.old) }
@@ -198,7 +198,7 @@ impl<W: Drop> TimerState<W> {
         ensures apart { IfOk result (λ slot. IsApart slot.0 self.old) }
         ensures all_stay { AllStay can_be_polled self.old self.new }
     {
-        self.claim_deadline(now.saturating_add(whole_millis(delay)))
+        self.claim(now.saturating_add(whole_millis(delay)))
     }
 
     /// When the future under this slot expires; None if none lives there.

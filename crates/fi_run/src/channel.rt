@@ -177,17 +177,16 @@ fn poll_send<T: Drop, B: RingBuf<Item = T>, W: Drop>(
 ) -> Answer<T, W>
     ensures { Step channel.old (calls.PollSend slot waker) result channel.new }
 {
-    let answer = match channel.poll_send(slot, waker, true) {
-        Ok((answer, _leftover)) => answer,
-        Err(NotPolled::NoFuture(_)) => return Answer::Refused(Fault::NoSlot),
+    match channel.poll_send(slot, waker, true) {
+        Ok((answer, _)) => match answer {
+            Poll::Pending => Answer::Pending,
+            Poll::Ready(Ok(())) => Answer::Done,
+            Poll::Ready(Err(SendFault::Closed(value))) => Answer::Back(value, Fault::Closed),
+            Poll::Ready(Err(SendFault::Fault(fault))) => Answer::Refused(fault),
+        },
+        Err(NotPolled::NoFuture(_)) => Answer::Refused(Fault::NoSlot),
         // It may wait.
         Err(NotPolled::WouldWait(_)) => unreachable!(),
-    };
-    match answer {
-        Poll::Pending => Answer::Pending,
-        Poll::Ready(Ok(())) => Answer::Done,
-        Poll::Ready(Err(SendFault::Closed(value))) => Answer::Back(value, Fault::Closed),
-        Poll::Ready(Err(SendFault::Fault(fault))) => Answer::Refused(fault),
     }
 }
 
@@ -198,18 +197,17 @@ fn poll_receive<T: Drop, B: RingBuf<Item = T>, W: Drop>(
 ) -> Answer<T, W>
     ensures { Step channel.old (calls.PollReceive slot waker) result channel.new }
 {
-    let answer = match channel.poll_receive(slot, waker, true) {
-        Ok((answer, _leftover)) => answer,
-        Err(NotPolled::NoFuture(_)) => return Answer::Refused(Fault::NoSlot),
+    match channel.poll_receive(slot, waker, true) {
+        Ok((answer, _)) => match answer {
+            Poll::Pending => Answer::Pending,
+            Poll::Ready(Ok(Some(value))) => Answer::Item(value),
+            Poll::Ready(Ok(None)) => Answer::Nothing,
+            // A poll is never refused.
+            Poll::Ready(Err(fault)) => Answer::Refused(fault),
+        },
+        Err(NotPolled::NoFuture(_)) => Answer::Refused(Fault::NoSlot),
         // It may wait.
         Err(NotPolled::WouldWait(_)) => unreachable!(),
-    };
-    match answer {
-        Poll::Pending => Answer::Pending,
-        Poll::Ready(Ok(Some(value))) => Answer::Item(value),
-        Poll::Ready(Ok(None)) => Answer::Nothing,
-        // A poll is never refused.
-        Poll::Ready(Err(fault)) => Answer::Refused(fault),
     }
 }
 
@@ -220,16 +218,15 @@ fn poll_next<T: Drop, B: RingBuf<Item = T>, W: Drop>(
 ) -> Answer<T, W>
     ensures { Step channel.old (calls.PollNext slot waker) result channel.new }
 {
-    let answer = match channel.poll_next(slot, waker, true) {
-        Ok((answer, _leftover)) => answer,
-        Err(NotPolled::NoFuture(_)) => return Answer::Refused(Fault::NoSlot),
+    match channel.poll_next(slot, waker, true) {
+        Ok((answer, _)) => match answer {
+            Poll::Pending => Answer::Pending,
+            Poll::Ready(Some(value)) => Answer::Item(value),
+            Poll::Ready(None) => Answer::End,
+        },
+        Err(NotPolled::NoFuture(_)) => Answer::Refused(Fault::NoSlot),
         // It may wait.
         Err(NotPolled::WouldWait(_)) => unreachable!(),
-    };
-    match answer {
-        Poll::Pending => Answer::Pending,
-        Poll::Ready(Some(value)) => Answer::Item(value),
-        Poll::Ready(None) => Answer::End,
     }
 }
 

@@ -104,7 +104,7 @@ impl<W: Drop> Primitive for EventState<W> {
     #[inline(always)]
     fn apply(&mut self, call: EventCall<W>) -> Answer<u64, W> {
         match call {
-            EventCall::Wait => match self.claim_waiter() {
+            EventCall::Wait => match self.claim() {
                 Ok(slot) => Answer::Made(slot),
                 Err(fault) => Answer::Refused(fault),
             },

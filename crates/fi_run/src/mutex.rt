@@ -104,7 +104,7 @@ impl<T: Drop, W: Drop> Primitive for MutexState<T, W> {
     #[inline(always)]
     fn apply(&mut self, call: MutexCall<T, W>) -> Answer<T, W> {
         match call {
-            MutexCall::Lock => match self.claim_lock() {
+            MutexCall::Lock => match self.claim() {
                 Ok(slot) => Answer::Made(slot),
                 Err(fault) => Answer::Refused(fault),
             },

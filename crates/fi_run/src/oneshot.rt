@@ -114,20 +114,17 @@ impl<T: Drop, W: Drop, G: GivesValue<T>> Primitive for OneValueState<T, W, G> {
                 Ok(slot) => Answer::Made(slot),
                 Err(fault) => Answer::Refused(fault),
             },
-            OneshotCall::Poll(slot, waker) => {
-                let answer = match self.poll_receive(slot, waker, true) {
-                    Ok((answer, _leftover)) => answer,
-                    Err(NotPolled::NoFuture(_)) => return Answer::Refused(Fault::NoSlot),
-                    // It may wait.
-                    Err(NotPolled::WouldWait(_)) => unreachable!(),
-                };
-                match answer {
+            OneshotCall::Poll(slot, waker) => match self.poll_receive(slot, waker, true) {
+                Ok((answer, _)) => match answer {
                     Poll::Ready(Ok(Some(value))) => Answer::Item(value),
                     Poll::Ready(Ok(None)) => Answer::Nothing,
                     Poll::Ready(Err(fault)) => Answer::Refused(fault),
                     Poll::Pending => Answer::Pending,
-                }
-            }
+                },
+                Err(NotPolled::NoFuture(_)) => Answer::Refused(Fault::NoSlot),
+                // It may wait.
+                Err(NotPolled::WouldWait(_)) => unreachable!(),
+            },
             OneshotCall::Cancel(slot) => {
                 if self.stage(slot).is_none() {
                     return Answer::Refused(Fault::NoSlot);

@@ -111,7 +111,7 @@ impl<W: Drop> Primitive for SemaphoreState<W> {
     #[inline(always)]
     fn apply(&mut self, call: SemaphoreCall<W>) -> Answer<u64, W> {
         match call {
-            SemaphoreCall::Acquire(permits) => match self.claim_acquire(permits) {
+            SemaphoreCall::Acquire(permits) => match self.claim(permits) {
                 Ok(slot) => Answer::Made(slot),
                 Err(fault) => Answer::Refused(fault),
             },

@@ -108,18 +108,15 @@ impl<T: Clone, W: Drop> Primitive for StateBroadcastState<T, W> {
                 Ok(slot) => Answer::Made(slot),
                 Err(fault) => Answer::Refused(fault),
             },
-            StateCall::Poll(slot, waker) => {
-                let answer = match self.poll_receive(slot, waker, true) {
-                    Ok((answer, _leftover)) => answer,
-                    Err(NotPolled::NoFuture(_)) => return Answer::Refused(Fault::NoSlot),
-                    // It may wait.
-                    Err(NotPolled::WouldWait(_)) => unreachable!(),
-                };
-                match answer {
+            StateCall::Poll(slot, waker) => match self.poll_receive(slot, waker, true) {
+                Ok((answer, _)) => match answer {
                     Poll::Ready(answer) => received(answer),
                     Poll::Pending => Answer::Pending,
-                }
-            }
+                },
+                Err(NotPolled::NoFuture(_)) => Answer::Refused(Fault::NoSlot),
+                // It may wait.
+                Err(NotPolled::WouldWait(_)) => unreachable!(),
+            },
             StateCall::Cancel(slot) => {
                 if self.stage(slot).is_none() {
                     return Answer::Refused(Fault::NoSlot);

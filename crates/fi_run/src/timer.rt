@@ -108,7 +108,7 @@ impl<W: Drop> Primitive for TimerState<W> {
     #[inline(always)]
     fn apply(&mut self, call: TimerCall<W>) -> Answer<u64, W> {
         match call {
-            TimerCall::Deadline(expiry) => match self.claim_deadline(expiry) {
+            TimerCall::Deadline(expiry) => match self.claim(expiry) {
                 Ok(slot) => Answer::Made(slot),
                 Err(fault) => Answer::Refused(fault),
             },

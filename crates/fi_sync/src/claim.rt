@@ -83,7 +83,7 @@ impl<K, L: Drop> Fate<K, L> {
     {
         match self {
             Fate::GoesOn(claim) => claim.store(place),
-            Fate::Ended(left) => drop(left),
+            Fate::Ended(_left) => {}
         }
     }
 }

@@ -97,7 +97,7 @@ impl<R: Wait> ManualResetEvent<R> {
         ensures made { IfOk result (λ future. IsNew self.now future) }
         ensures fault { IfErr result (λ fault. fault ≡ Fault.NoMemory) }
     {
-        SlotFuture::make(&self.monitor, (), |event, ()| event.claim_waiter())
+        SlotFuture::make(&self.monitor, (), |event, ()| event.claim())
     }
 
     /// As `wait`, for an event that stands in an `Arc`: the future owns a share of the event, so that it borrows nothing and can go
@@ -111,7 +111,7 @@ impl<R: Wait> ManualResetEvent<R> {
         ensures made { IfOk result (λ future. IsNew (arc_value event.now) future) }
         ensures fault { IfErr result (λ fault. fault ≡ Fault.NoMemory) }
     {
-        SlotFuture::make(share(event)?, (), |event, ()| event.claim_waiter())
+        SlotFuture::make(share(event)?, (), |event, ()| event.claim())
     }
 }
 

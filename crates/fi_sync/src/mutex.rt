@@ -332,7 +332,7 @@ impl<M: HasMonitor<State = CountedMutex<T, L>>, T: Drop, L: Ledger> MutexLockFut
         ensures fault { IfErr result (λ fault. fault ≡ Fault.NoMemory) }
     {
         let future = SlotFuture::make(monitor, (), |mutex: &mut CountedMutex<T, L>, ()| {
-            mutex.claim_lock()
+            mutex.claim()
         })?;
         Ok(MutexLockFutureOf {
             future,

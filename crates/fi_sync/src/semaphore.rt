@@ -121,9 +121,7 @@ impl<R: Wait, L: Ledger> Semaphore<R, L> {
         ensures made { IfOk result (λ future. IsNew self.now future) }
         ensures fault { IfErr result (λ fault. fault ≡ Fault.NoMemory) }
     {
-        let claim = self
-            .monitor
-            .claim(permits, CountedSemaphore::claim_acquire)?;
+        let claim = self.monitor.claim(permits, CountedSemaphore::claim)?;
         Ok(SemaphoreAcquireFutureOf::of(&self.monitor, &self.monitor, claim))
     }
 

@@ -17,8 +17,8 @@ use crate::wakes::PollWaker;
 use fi_parts::{Fault, FutureKind, Leftover, Refused, Slot};
 use futures::Future;
 use futures::task::{Context, Poll, Waker};
-use std::fmt;
 use std::marker::Model;
+use std::{fmt, mem};
 
 /// The output of a ready poll. It ends its future or doesn't: an item of a stream doesn't, nor does a refusal, unless it is that the
 /// primitive is closed.
@@ -251,7 +251,7 @@ where
             return cx.register(monitor.source(), &mut self.spare);
         };
         if self.spare.is_none() {
-            self.spare = self.second.take();
+            mem::swap(&mut self.spare, &mut self.second);
         }
         let mut refused = None;
         let (polled, fate) = monitor.poll(claim, cx, &mut self.spare, &mut refused);
@@ -275,19 +275,15 @@ where
 {
     #[inline(always)]
     fn drop(self) {
+        // What it has is dropped with no lock held: the drop of a value may run any code.
         let SlotFuture {
             monitor,
             claim,
-            spare,
-            second,
+            spare: _spare,
+            second: _second,
         } = self;
-        let left = match claim {
-            Some(claim) => Some(monitor.monitor().cancel::<K>(claim)),
-            None => None,
-        };
-        // With no lock held: the drop of a value may run any code.
-        drop(left);
-        drop(spare);
-        drop(second);
+        if let Some(claim) = claim {
+            monitor.monitor().cancel::<K>(claim);
+        }
     }
 }

@@ -107,7 +107,7 @@ impl<C: Clock + Drop, R: Wait> TimerService<C, R> {
         ensures made { IfOk result (λ future. IsNew self.now future) }
         ensures fault { IfErr result (λ fault. fault ≡ Fault.NoMemory) }
     {
-        SlotFuture::make(&self.monitor, expiry, Timed::claim_deadline)
+        SlotFuture::make(&self.monitor, expiry, Timed::claim)
     }
 
     /// A future for the moment this long after the clock's time now, in whole milliseconds, rounded down, and at most `u64::MAX`.
@@ -130,7 +130,7 @@ impl<C: Clock + Drop, R: Wait> TimerService<C, R> {
         ensures made { IfOk result (λ future. IsNew (arc_value timer.now) future) }
         ensures fault { IfErr result (λ fault. fault ≡ Fault.NoMemory) }
     {
-        SlotFuture::make(share(timer)?, expiry, Timed::claim_deadline)
+        SlotFuture::make(share(timer)?, expiry, Timed::claim)
     }
 
     /// As `delay`, for a timer that stands in an `Arc`: the future owns a share of the timer, and the call is refused as

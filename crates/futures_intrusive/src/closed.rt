@@ -33,7 +33,7 @@ impl<S: ClosesByEnds> CountedEnds<S> {
         ensures refused { OnErr result (self.new ≡ self.old) }
         ensures fault { IfErr result (λ fault. fault ≡ Fault.NoMemory) }
     {
-        self.closed.claim_waiter()
+        self.closed.claim()
     }
 }
 

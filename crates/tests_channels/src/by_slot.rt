@@ -10,7 +10,7 @@ use futures::task::Poll;
 #[test]
 fn a_wait_by_slot(rt: HostRuntime) {
     let mut event: EventState<u64> = EventState::new(rt.alloc(), false);
-    let other = event.claim_waiter().expect(&rt, "room");
+    let other = event.claim().expect(&rt, "room");
     let is_pending = matches!(event.poll(other, 1, true), Ok((Poll::Pending, _)));
     event.set();
     assert!(rt; is_pending);
@@ -61,7 +61,7 @@ fn a_state_receive_by_slot(rt: HostRuntime) {
 #[test]
 fn a_wait_that_may_not_wait(rt: HostRuntime) {
     let mut event: EventState<u64> = EventState::new(rt.alloc(), false);
-    let slot = event.claim_waiter().expect(&rt, "room");
+    let slot = event.claim().expect(&rt, "room");
     let early = matches!(event.poll(slot, 1, false), Err(NotPolled::WouldWait(1)));
     assert!(rt; early && event.stage(slot) == Some(Stage::Fresh));
     assert!(rt; matches!(event.poll(slot, 2, true), Ok((Poll::Pending, _))));
@@ -87,34 +87,25 @@ fn sends_and_receives_that_may_not_wait(rt: HostRuntime) {
     );
     assert!(rt; early && channel.try_send(5).is_ok() && channel.next_wake() == None);
     let send = channel.claim_send(6).ok().expect(&rt, "room");
-    assert!(rt;
-        matches!(
-            channel.poll_send(send, 3, false),
-            Err(NotPolled::WouldWait(3))
-        )
+    let is_put_off = matches!(
+        channel.poll_send(send, 3, false),
+        Err(NotPolled::WouldWait(3))
     );
-    assert!(rt;
-        matches!(
-            channel.poll_receive(receive, 4, false),
-            Ok((Poll::Ready(Ok(Some(5))), _))
-        )
+    let is_received = matches!(
+        channel.poll_receive(receive, 4, false),
+        Ok((Poll::Ready(Ok(Some(5))), _))
     );
-    assert!(rt;
-        matches!(
-            channel.poll_send(send, 5, false),
-            Ok((Poll::Ready(Ok(())), _))
-        )
+    let is_sent = matches!(
+        channel.poll_send(send, 5, false),
+        Ok((Poll::Ready(Ok(())), _))
     );
-    assert!(rt;
-        matches!(
-            channel.poll_next(stream, 6, false),
-            Ok((Poll::Ready(Some(6)), _))
-        )
+    let is_streamed = matches!(
+        channel.poll_next(stream, 6, false),
+        Ok((Poll::Ready(Some(6)), _))
     );
-    assert!(rt;
-        matches!(
-            channel.poll_send(send, 7, false),
-            Err(NotPolled::NoFuture(7))
-        )
+    let has_ended = matches!(
+        channel.poll_send(send, 7, false),
+        Err(NotPolled::NoFuture(7))
     );
+    assert!(rt; is_put_off && is_received && is_sent && is_streamed && has_ended);
 }

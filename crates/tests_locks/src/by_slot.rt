@@ -6,7 +6,7 @@ use futures::task::Poll;
 #[test]
 fn a_lock_that_may_not_wait(rt: HostRuntime) {
     let mut mutex: MutexState<u64, u64> = MutexState::new(rt.alloc(), 7, true);
-    let slot = mutex.claim_lock().expect(&rt, "room");
+    let slot = mutex.claim().expect(&rt, "room");
     let taken = mutex.try_take();
     let early = matches!(mutex.poll(slot, 1, false), Err(NotPolled::WouldWait(1)));
     assert!(rt; taken == Some(7) && early && mutex.stage(slot) == Some(Stage::Fresh));
@@ -21,7 +21,7 @@ fn a_lock_that_may_not_wait(rt: HostRuntime) {
 #[test]
 fn an_acquire_that_may_not_wait(rt: HostRuntime) {
     let mut semaphore: SemaphoreState<u64> = SemaphoreState::new(rt.alloc(), false, 1);
-    let slot = semaphore.claim_acquire(2).expect(&rt, "room");
+    let slot = semaphore.claim(2).expect(&rt, "room");
     assert!(rt; matches!(semaphore.poll(slot, 1, false), Err(NotPolled::WouldWait(1))));
     assert!(rt; matches!(semaphore.poll(slot, 2, true), Ok((Poll::Pending, _))));
     assert!(rt; matches!(semaphore.poll(slot, 3, false), Err(NotPolled::WouldWait(3))));
@@ -33,7 +33,7 @@ fn an_acquire_that_may_not_wait(rt: HostRuntime) {
 #[test]
 fn a_deadline_that_may_not_wait(rt: HostRuntime) {
     let mut timer: TimerState<u64> = TimerState::new(rt.alloc());
-    let slot = timer.claim_deadline(10).expect(&rt, "room");
+    let slot = timer.claim(10).expect(&rt, "room");
     assert!(rt; matches!(timer.poll(slot, 9, 1, false), Err(NotPolled::WouldWait(1))));
     assert!(rt; timer.next_expiration() == None);
     assert!(rt; matches!(timer.poll(slot, 10, 2, false), Ok((Poll::Ready(()), _))));

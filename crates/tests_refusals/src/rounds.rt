@@ -12,7 +12,7 @@ const WAITS: u64 = 10_000;
 // Makes the waits. Whether none is refused.
 fn are_made(event: &mut EventState<u64>, slots: &mut Vec<Slot>) -> bool {
     for _ in 0..WAITS {
-        let Ok(slot) = event.claim_waiter() else {
+        let Ok(slot) = event.claim() else {
             return false;
         };
         if slots.push(slot).is_err() {

@@ -5,11 +5,11 @@ ghost use Rattle.fi_parts.specs.Buffer.{Fits, empty};
 ghost use Rattle.fi_parts.specs.Waiting.{phase_of, asks_of, is_registered};
 ghost use Rattle.fi_parts.specs.declared.phase.Phase.TheVariants.{Fresh, Complete};
 ghost use Rattle.fi_channels.specs.Polled.{unused_after, IsRefused, WouldBeReady, LeavesWhere};
-ghost use Rattle.fi_channels.specs.Channel.{MakesSend, MakesReceive, PollsSend, CancelsSend, PollsReceive, PollsNext};
+ghost use Rattle.fi_channels.specs.Channel.{MakesSend, MakesReceive, PollsSend, CancelsSend, PollsReceive};
 ghost use Rattle.fi_channels.specs.Channel.{CancelsReceive, TriesSend, TriesReceive, Closes, IsSound};
-ghost use Rattle.fi_channels.specs.ChannelWords.{opened, can_send, can_take, can_receive, can_stream};
+ghost use Rattle.fi_channels.specs.ChannelWords.{opened, can_send, can_take};
 ghost use Rattle.fi_channels.specs.ChannelWords.{displaced_by_send, displaced_send, displaced_receive, next_of};
-ghost use Rattle.fi_channels.specs.ChannelFields.{machine_of, phase_given, Takes};
+ghost use Rattle.fi_channels.specs.ChannelFields.{machine_of, phase_given, Takes, PollsAs, can_poll_as};
 ghost use Rattle.fi_channels.specs.Cleared.{ClosesAndClears};
 
 use crate::access::Sent;
@@ -160,95 +160,56 @@ impl<T: Drop, B: RingBuf<Item = T>, W: Drop> ChannelFields<T, B, W> {
         Err(TryReceiveError::Closed)
     }
 
-    /// Polls a receive: it takes the oldest value, or is registered, or ends where none will come. It is refused where no receive lives
-    /// under this slot that has not ended, and where it would have to wait and may not; then nothing has changed. One look-up decides
-    /// which it is.
+    /// Polls a receive or a stream: it takes the oldest value, or is registered, or ends where none will come. A stream that has ended ends
+    /// again, ever after. It is refused where none of this kind that may be polled lives under this slot, and where it would have to wait
+    /// and may not; then nothing has changed. One look-up decides which it is.
     #[inline(always)]
-    pub fn poll_receive(
+    pub fn poll_as(
         &mut self,
+        kind: ReceiveKind,
         slot: Slot,
         waker: W,
         may_wait: bool,
     ) -> Result<(Poll<Option<T>>, Leftover<W>), NotPolled<W>>
         requires { IsSound (machine_of B.bounded self.old) }
         ensures polled { IfOk result
-            (λ polled. PollsReceive (machine_of B.bounded self.old) slot.0 waker polled.0 (machine_of B.bounded self.new)) }
+            (λ polled. PollsAs kind (machine_of B.bounded self.old) slot.0 waker polled.0 (machine_of B.bounded self.new)) }
         ensures displaced { IfOk result (λ polled. polled.1.displaced ≡ displaced_receive (machine_of B.bounded self.old) slot.0) }
         ensures unused { IfOk result (λ polled. polled.1.unused ≡ unused_after polled.0 waker) }
         ensures live { OnOk result
-            (can_receive (asks_of self.old.waiters.receives slot.0) (phase_of self.old.waiters.receives slot.0) ≡ true) }
+            (can_poll_as kind (asks_of self.old.waiters.receives slot.0) (phase_of self.old.waiters.receives slot.0) ≡ true) }
         ensures waits { IfOk result (λ polled. OnPending polled.0 (may_wait ≡ true)) }
         ensures unchanged { OnErr result (machine_of B.bounded self.new ≡ machine_of B.bounded self.old) }
         ensures refused { IfErr result (λ why. IsRefused why waker
-            (can_receive (asks_of self.old.waiters.receives slot.0) (phase_of self.old.waiters.receives slot.0)) may_wait
-            (WouldBeReady (PollsReceive (machine_of B.bounded self.old) slot.0) false)) }
+            (can_poll_as kind (asks_of self.old.waiters.receives slot.0) (phase_of self.old.waiters.receives slot.0)) may_wait
+            (WouldBeReady (PollsAs kind (machine_of B.bounded self.old) slot.0) false)) }
     {
         let future = match self.waiters.future::<Receives>(slot) {
             Some(future) => future,
             None => return Err(NotPolled::NoFuture(waker)),
         };
-        match (&future.asks, &future.phase) {
-            (ReceiveKind::Single, Phase::Registered(_)) => {
+        match (kind, &future.asks, &future.phase) {
+            (ReceiveKind::Single, ReceiveKind::Single, Phase::Registered(_))
+            | (ReceiveKind::Stream, ReceiveKind::Stream, Phase::Registered(_)) => {
                 if !may_wait {
                     return Err(NotPolled::WouldWait(waker));
                 }
                 Ok(self.receive_registered(slot, waker))
             }
-            (ReceiveKind::Single, Phase::Fresh | Phase::Told) => {
+            (ReceiveKind::Single, ReceiveKind::Single, Phase::Fresh | Phase::Told)
+            | (ReceiveKind::Stream, ReceiveKind::Stream, Phase::Fresh | Phase::Told) => {
                 if !may_wait && self.has_to_wait() {
                     return Err(NotPolled::WouldWait(waker));
                 }
-                Ok(self.receive_apart(slot, ReceiveKind::Single, waker))
+                Ok(self.receive_apart(slot, kind, waker))
             }
-            _ => Err(NotPolled::NoFuture(waker)),
-        }
-    }
-
-    /// Polls a stream: like a receive, but one that has ended ends again, ever after. It is refused where no stream lives under this slot,
-    /// and where it would have to wait and may not; then nothing has changed. One look-up decides which it is.
-    pub fn poll_next(
-        &mut self,
-        slot: Slot,
-        waker: W,
-        may_wait: bool,
-    ) -> Result<(Poll<Option<T>>, Leftover<W>), NotPolled<W>>
-        requires { IsSound (machine_of B.bounded self.old) }
-        ensures polled { IfOk result
-            (λ polled. PollsNext (machine_of B.bounded self.old) slot.0 waker polled.0 (machine_of B.bounded self.new)) }
-        ensures displaced { IfOk result (λ polled. polled.1.displaced ≡ displaced_receive (machine_of B.bounded self.old) slot.0) }
-        ensures unused { IfOk result (λ polled. polled.1.unused ≡ unused_after polled.0 waker) }
-        ensures live { OnOk result
-            (can_stream (asks_of self.old.waiters.receives slot.0) (phase_of self.old.waiters.receives slot.0) ≡ true) }
-        ensures waits { IfOk result (λ polled. OnPending polled.0 (may_wait ≡ true)) }
-        ensures unchanged { OnErr result (machine_of B.bounded self.new ≡ machine_of B.bounded self.old) }
-        ensures refused { IfErr result (λ why. IsRefused why waker
-            (can_stream (asks_of self.old.waiters.receives slot.0) (phase_of self.old.waiters.receives slot.0)) may_wait
-            (WouldBeReady (PollsNext (machine_of B.bounded self.old) slot.0) false)) }
-    {
-        let future = match self.waiters.future::<Receives>(slot) {
-            Some(future) => future,
-            None => return Err(NotPolled::NoFuture(waker)),
-        };
-        match (&future.asks, &future.phase) {
-            (ReceiveKind::Single, _) => Err(NotPolled::NoFuture(waker)),
-            (ReceiveKind::Stream, Phase::Registered(_)) => {
-                if !may_wait {
-                    return Err(NotPolled::WouldWait(waker));
-                }
-                Ok(self.receive_registered(slot, waker))
-            }
-            (ReceiveKind::Stream, Phase::Fresh | Phase::Told) => {
-                if !may_wait && self.has_to_wait() {
-                    return Err(NotPolled::WouldWait(waker));
-                }
-                Ok(self.receive_apart(slot, ReceiveKind::Stream, waker))
-            }
-            // No receive is complete.
-            (ReceiveKind::Stream, Phase::Complete) => unreachable!(),
-            (ReceiveKind::Stream, Phase::Ended) => {
+            (ReceiveKind::Stream, ReceiveKind::Stream, Phase::Ended) => {
                 let named = self.waiters.take_out::<Receives>(slot);
                 Ok((Poll::Ready(None), Leftover::of(named, Some(waker))))
             }
+            // No receive is complete.
+            (ReceiveKind::Stream, ReceiveKind::Stream, Phase::Complete) => unreachable!(),
+            _ => Err(NotPolled::NoFuture(waker)),
         }
     }
 

@@ -282,7 +282,7 @@ impl<W: Drop> PoolFields<W> {
         ensures stepped { Step (machine_of self.old) calls.Wait result (machine_of self.new) }
         ensures is_pool { IsPool self.new }
     {
-        match self.drained.claim_waiter() {
+        match self.drained.claim() {
             Ok(slot) => Answer::Made(slot),
             Err(fault) => Answer::Refused(fault),
         }

@@ -121,12 +121,12 @@ impl<T: Drop, L: Ledger> CountedMutex<T, L> {
 
     /// Makes a future under a slot that was not live. Refused only with `NoMemory`; then nothing has changed.
     #[inline(always)]
-    pub fn claim_lock(&mut self) -> Result<Slot, Fault>
+    pub fn claim(&mut self) -> Result<Slot, Fault>
         ensures made { IfOk result (λ slot. Makes self.old slot.0 self.new) }
         ensures refused { OnErr result (self.new ≡ self.old) }
         ensures fault { IfErr result (λ fault. fault ≡ Fault.NoMemory) }
     {
-        self.state.claim_lock()
+        self.state.claim()
     }
 
     /// Returns `true` if somebody has locked the mutex.

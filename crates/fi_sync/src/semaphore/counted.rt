@@ -68,12 +68,12 @@ impl<L: Ledger> CountedSemaphore<L> {
     /// Makes a future that needs this many permits, under a slot that was not live. Refused only with `NoMemory`; then nothing
     /// has changed.
     #[inline(always)]
-    pub fn claim_acquire(&mut self, permits: usize) -> Result<Slot, Fault>
+    pub fn claim(&mut self, permits: usize) -> Result<Slot, Fault>
         ensures made { IfOk result (λ slot. OnPermits (λ old new. Makes old permits slot.0 new) self.old self.new) }
         ensures refused { OnErr result (self.new ≡ self.old) }
         ensures fault { IfErr result (λ fault. fault ≡ Fault.NoMemory) }
     {
-        self.state.claim_acquire(permits)
+        self.state.claim(permits)
     }
 
     /// Acquires this many permits if they are free and, in a fair semaphore, no future is queued; 0 permits are always granted, until

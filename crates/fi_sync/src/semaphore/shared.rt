@@ -165,7 +165,7 @@ impl<R: Wait + Drop, L: Ledger> SharedSemaphore<R, L> {
         let claim = self
             .semaphore
             .monitor
-            .claim(permits, CountedSemaphore::claim_acquire)?;
+            .claim(permits, CountedSemaphore::claim)?;
         Ok(SemaphoreAcquireFutureOf::of(semaphore, releaser_semaphore, claim))
     }
 

@@ -113,13 +113,13 @@ impl<C: Clock> Timed<C> {
     }
 
     /// Makes a future for this moment. Refused only with `NoMemory`; then nothing has changed.
-    pub(crate) fn claim_deadline(&mut self, expiry: u64) -> Result<Slot, Fault>
+    pub(crate) fn claim(&mut self, expiry: u64) -> Result<Slot, Fault>
         ensures made { IfOk result (λ slot. Makes self.old.timer expiry slot.0 self.new.timer) }
         ensures refused { OnErr result (self.new.timer ≡ self.old.timer) }
         ensures fault { IfErr result (λ fault. fault ≡ Fault.NoMemory) }
         ensures rest { self.new ≡ record self.old { timer = self.new.timer } }
     {
-        self.timer.claim_deadline(expiry)
+        self.timer.claim(expiry)
     }
 
     /// Makes a future for the moment this long after the clock's time now. Refused only with `NoMemory`; then nothing has changed.

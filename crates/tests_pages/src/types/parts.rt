@@ -54,7 +54,7 @@ fn growing_heap_buf(rt: HostRuntime) -> Result<(), Fail> {
 #[test]
 fn leftover(rt: HostRuntime) -> Result<(), Fail> {
     let mut event: EventState<u64> = EventState::new(rt.alloc(), false);
-    let slot = event.claim_waiter()?;
+    let slot = event.claim()?;
     assert!(rt; event.poll(slot, 1, true).is_ok()); // registers the waker 1
     let Ok((Poll::Pending, Leftover { displaced, unused })) = event.poll(slot, 2, true) else {
         return Err("not pending".into());
@@ -66,7 +66,7 @@ fn leftover(rt: HostRuntime) -> Result<(), Fail> {
 #[test]
 fn not_polled(rt: HostRuntime) -> Result<(), Fail> {
     let mut event: EventState<u64> = EventState::new(rt.alloc(), false);
-    let slot = event.claim_waiter()?;
+    let slot = event.claim()?;
     // A poll that may not wait asks whether it would have to.
     assert!(rt; matches!(event.poll(slot, 1, false), Err(NotPolled::WouldWait(1))));
     event.leave(slot);

@@ -50,7 +50,7 @@ fn channel_receive_access(rt: HostRuntime) -> Result<(), Fail> {
 fn mutex_state(rt: HostRuntime) -> Result<(), Fail> {
     let mut mutex: MutexState<u64, u64> = MutexState::new(rt.alloc(), 7, true); // a fair one
     let is_taken = mutex.try_take() == Some(7); // the value is lent out: the mutex is locked
-    let slot = mutex.claim_lock()?;
+    let slot = mutex.claim()?;
     let waits = matches!(mutex.poll(slot, 1, true), Ok((Poll::Pending, _)));
     let is_woken = mutex.unlock(8) == Ok(()) && mutex.next_wake() == Some(1);
     let is_locked = matches!(mutex.poll(slot, 2, false), Ok((Poll::Ready(8), _)));
@@ -62,7 +62,7 @@ fn mutex_state(rt: HostRuntime) -> Result<(), Fail> {
 #[test]
 fn semaphore_state(rt: HostRuntime) -> Result<(), Fail> {
     let mut permits: SemaphoreState<u64> = SemaphoreState::new(rt.alloc(), true, 1); // fair, with one permit
-    let slot = permits.claim_acquire(2)?;
+    let slot = permits.claim(2)?;
     let waits = matches!(permits.poll(slot, 1, true), Ok((Poll::Pending, _)));
     let is_woken = permits.release(1) == Ok(()) && permits.next_wake() == Some(1);
     let is_granted = matches!(permits.poll(slot, 2, false), Ok((Poll::Ready(2), _)));
@@ -74,7 +74,7 @@ fn semaphore_state(rt: HostRuntime) -> Result<(), Fail> {
 #[test]
 fn timer_state(rt: HostRuntime) -> Result<(), Fail> {
     let mut timer: TimerState<u64> = TimerState::new(rt.alloc());
-    let slot = timer.claim_deadline(10)?;
+    let slot = timer.claim(10)?;
     let waits = matches!(timer.poll(slot, 9, 1, true), Ok((Poll::Pending, _))); // at the moment 9
     timer.check_expirations(10);
     let is_woken = timer.next_wake() == Some(1);

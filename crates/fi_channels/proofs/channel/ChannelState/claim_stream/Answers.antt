@@ -1,5 +1,4 @@
 use Rattle.fi_channels.proofs.ChannelStays.{claimed_receive_stays, claimed_receive_apart}
-use Rattle.fi_channels.specs.ChannelFields.{machine_of}
 use Rattle.fi_channels.proofs.ChannelLaws.{makes_receive, unchanged, kind_made, phase_made}
 use Rattle.fi_channels.proofs.Results.{either, of_made}
 use Rattle.fi_channels.specs.declared.channel.fields.ReceiveKind.TheVariants.{Stream}
@@ -8,24 +7,18 @@ use Rattle.fi_channels.proofs.channel.ChannelState.claim_stream.Goals as goal
 
 pub invariant_of-self : goal.invariant_of-self
 invariant_of-self g c =
-    let old = machine_of g.B.RingBuf.bounded c.self.inside.fields in
-    let new = machine_of g.B.RingBuf.bounded c.claim_receive.new.self in
     either c.claim_receive.result _ _ _ c.claim_receive.ensures.made c.claim_receive.ensures.refused
-    (λ slot did. (makes_receive old new Stream slot.0 did c.self.invariant).1) (λ same.
-    (unchanged old new same c.self.invariant).1)
+    (λ slot did. (makes_receive _ _ Stream slot.0 did c.self.invariant).1) (λ same.
+    (unchanged _ _ same c.self.invariant).1)
 
 pub returns-clause-all_stay : goal.returns-clause-all_stay
 returns-clause-all_stay g c =
-    let old = machine_of g.B.RingBuf.bounded c.self.inside.fields in
-    let new = machine_of g.B.RingBuf.bounded c.claim_receive.new.self in
-    rw (← c.self.view_is) (claimed_receive_stays old new c.self.invariant c.claim_receive.result (λ slot. slot.0) Stream
+    rw (← c.self.view_is) (claimed_receive_stays _ _ c.self.invariant c.claim_receive.result (λ slot. slot.0) Stream
     c.claim_receive.ensures.made c.claim_receive.ensures.refused)
 
 pub returns-clause-apart : goal.returns-clause-apart
 returns-clause-apart g c =
-    let old = machine_of g.B.RingBuf.bounded c.self.inside.fields in
-    let new = machine_of g.B.RingBuf.bounded c.claim_receive.new.self in
-    rw (← c.self.view_is) (claimed_receive_apart old new c.self.invariant c.claim_receive.result (λ slot. slot.0) Stream
+    rw (← c.self.view_is) (claimed_receive_apart _ _ c.self.invariant c.claim_receive.result (λ slot. slot.0) Stream
     c.claim_receive.ensures.made)
 
 pub returns-clause-pollable : goal.returns-clause-pollable

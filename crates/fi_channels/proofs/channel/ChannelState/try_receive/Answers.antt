@@ -1,17 +1,11 @@
 use Rattle.fi_channels.proofs.ChannelStays.{all_stay}
-use Rattle.fi_channels.specs.ChannelFields.{machine_of}
 use Rattle.fi_channels.proofs.ChannelLaws.{tries_receive}
 use Rattle.fi_channels.proofs.channel.ChannelState.try_receive.Goals as goal
 
 pub invariant_of-self : goal.invariant_of-self
-invariant_of-self g c =
-    let old = machine_of g.B.RingBuf.bounded c.self.inside.fields in
-    let new = machine_of g.B.RingBuf.bounded c.try_receive.new.self in
-    (tries_receive old new c.try_receive.result c.try_receive.ensures c.self.invariant).1
+invariant_of-self g c = (tries_receive _ _ c.try_receive.result c.try_receive.ensures c.self.invariant).1
 
 pub returns-clause-all_stay : goal.returns-clause-all_stay
 returns-clause-all_stay g c =
-    let old = machine_of g.B.RingBuf.bounded c.self.inside.fields in
-    let new = machine_of g.B.RingBuf.bounded c.try_receive.new.self in
-    rw (← c.self.view_is) (all_stay old new c.self.invariant
-    (tries_receive old new c.try_receive.result c.try_receive.ensures c.self.invariant))
+    rw (← c.self.view_is) (all_stay _ _ c.self.invariant
+    (tries_receive _ _ c.try_receive.result c.try_receive.ensures c.self.invariant))

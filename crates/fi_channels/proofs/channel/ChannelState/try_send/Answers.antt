@@ -1,17 +1,11 @@
 use Rattle.fi_channels.proofs.ChannelStays.{all_stay}
-use Rattle.fi_channels.specs.ChannelFields.{machine_of}
 use Rattle.fi_channels.proofs.ChannelLaws.{tries_send}
 use Rattle.fi_channels.proofs.channel.ChannelState.try_send.Goals as goal
 
 pub invariant_of-self : goal.invariant_of-self
-invariant_of-self g c =
-    let old = machine_of g.B.RingBuf.bounded c.self.inside.fields in
-    let new = machine_of g.B.RingBuf.bounded c.try_send.new.self in
-    (tries_send old new c.args.value c.try_send.result c.try_send.ensures c.self.invariant).1
+invariant_of-self g c = (tries_send _ _ c.args.value c.try_send.result c.try_send.ensures c.self.invariant).1
 
 pub returns-clause-all_stay : goal.returns-clause-all_stay
 returns-clause-all_stay g c =
-    let old = machine_of g.B.RingBuf.bounded c.self.inside.fields in
-    let new = machine_of g.B.RingBuf.bounded c.try_send.new.self in
-    rw (← c.self.view_is) (all_stay old new c.self.invariant
-    (tries_send old new c.args.value c.try_send.result c.try_send.ensures c.self.invariant))
+    rw (← c.self.view_is) (all_stay _ _ c.self.invariant
+    (tries_send _ _ c.args.value c.try_send.result c.try_send.ensures c.self.invariant))

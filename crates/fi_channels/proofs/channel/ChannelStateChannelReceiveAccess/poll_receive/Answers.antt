@@ -12,7 +12,7 @@ abbrev old : (g : Over) (c : goal.Joined-answer g) → ChannelMachine g.row.T.De
 old g c = machine_of g.B.RingBuf.bounded c.self.inside.fields
 
 abbrev new : (g : Over) (c : goal.Joined-answer g) → ChannelMachine g.row.T.Denot g.row.W.Denot
-new g c = machine_of g.B.RingBuf.bounded c.poll_receive.new.self
+new g c = machine_of g.B.RingBuf.bounded c.poll_as.new.self
 
 did : (g : Over) (c : goal.Joined-answer g) → Receives (old g c) (new g c) c.args.slot.0 c.args.waker c.in_ok-answer.answer
 did g c =

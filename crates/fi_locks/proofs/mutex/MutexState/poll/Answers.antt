@@ -1,56 +1,59 @@
-use Rattle.std.proofs.Common.{subst}
-use Rattle.fi_locks.specs.Mutex.{IsSound, OwesNoWake}
-use Rattle.fi_locks.proofs.MutexPolls.{AfterPollOr, after_poll_or}
+use Rattle.std.proofs.Common.{ℕ, subst, rules as lemmas}
+use Rattle.futures.specs.declared.task.Poll.{Poll}
+use Rattle.fi_parts.proofs.Effects.{waits_are_fit}
+use Rattle.fi_locks.specs.Mutex.{MutexMachine, mutex_of, Polls}
+use Rattle.fi_locks.specs.MutexLaws.{IsWell, rules, stays_well, polled, poll_line}
+use Rattle.fi_locks.proofs.Polls.{AfterPoll, after_poll}
 use Rattle.fi_locks.proofs.mutex.MutexState.poll.Given.{Over}
 use Rattle.fi_locks.proofs.mutex.MutexState.poll.Goals as goal
 
-fresh : (g : Over) (c : goal.After-poll_fresh g) →
-    AfterPollOr c.args.self.now c.args.slot.0 c.poll_fresh.result c.poll_fresh.new.self
-fresh g c =
-    after_poll_or c.args.self.now c.args.slot.0 c.args.waker c.poll_fresh.result
-    c.poll_fresh.new.self
-    (subst (λ m. IsSound m × OwesNoWake m) c.self.view_is c.self.invariant)
-    c.poll_fresh.ensures.polled c.poll_fresh.ensures.unchanged
+module _ {T W : Type 0} (old : MutexMachine T W) (name : ℕ) (waker : W) (answer : Poll T) (new : MutexMachine T W) where
+  abbrev After : Type 0
+  After = IsWell new × AfterPoll old name answer new
 
-pub returns-in-Some-Fresh-clause-live : goal.returns-in-Some-Fresh-clause-live
-returns-in-Some-Fresh-clause-live g c = (fresh g c).live
+  after : IsWell old → Polls old name waker answer new → After
+  after was did = (
+    stays_well old new (polled old name waker answer new was did) was,
+    after_poll old name (rules old.own.is_fair) waits_are_fit waker was.0 answer new (poll_line old name waker answer new did),
+  )
 
-pub returns-in-Some-Fresh-clause-pending : goal.returns-in-Some-Fresh-clause-pending
-returns-in-Some-Fresh-clause-pending g c = (fresh g c).pending
+-- It waits.
+waits : (g : Over) (c : goal.After-wait g) →
+    let new = mutex_of c.self.inside.is_fair c.take_if.new.value c.wait.new.locks in
+    After c.args.self.now c.args.slot.0 c.args.waker c.wait.result.0 new
+waits g c =
+    let old = c.args.self.now in
+    let new = mutex_of c.self.inside.is_fair c.take_if.new.value c.wait.new.locks in
+    let did : Polls old c.args.slot.0 c.args.waker c.wait.result.0 new = search lemmas in
+    after old c.args.slot.0 c.args.waker c.wait.result.0 new (subst IsWell c.self.view_is c.self.invariant) did
 
-pub returns-in-Some-Fresh-clause-others : goal.returns-in-Some-Fresh-clause-others
-returns-in-Some-Fresh-clause-others g c = (fresh g c).others
+pub invariant_of-self-in_default-take_if : goal.invariant_of-self-in_default-take_if
+invariant_of-self-in_default-take_if g c = (waits g c).0
 
-registered : (g : Over) (c : goal.After-poll_registered g) →
-    AfterPollOr c.args.self.now c.args.slot.0 c.poll_registered.result c.poll_registered.new.self
-registered g c =
-    after_poll_or c.args.self.now c.args.slot.0 c.args.waker c.poll_registered.result
-    c.poll_registered.new.self
-    (subst (λ m. IsSound m × OwesNoWake m) c.self.view_is c.self.invariant)
-    c.poll_registered.ensures.polled c.poll_registered.ensures.unchanged
+pub returns-in_default-take_if-clause-live : goal.returns-in_default-take_if-clause-live
+returns-in_default-take_if-clause-live g c = (waits g c).1.live
 
-pub returns-in-Some-Registered-clause-live : goal.returns-in-Some-Registered-clause-live
-returns-in-Some-Registered-clause-live g c = (registered g c).live
+pub returns-in_default-take_if-clause-pending : goal.returns-in_default-take_if-clause-pending
+returns-in_default-take_if-clause-pending g c = (waits g c).1.pending
 
-pub returns-in-Some-Registered-clause-pending : goal.returns-in-Some-Registered-clause-pending
-returns-in-Some-Registered-clause-pending g c = (registered g c).pending
+pub returns-in_default-take_if-clause-others : goal.returns-in_default-take_if-clause-others
+returns-in_default-take_if-clause-others g c = (waits g c).1.others
 
-pub returns-in-Some-Registered-clause-others : goal.returns-in-Some-Registered-clause-others
-returns-in-Some-Registered-clause-others g c = (registered g c).others
+-- It was granted the mutex.
+granted : (g : Over) (c : goal.After-grant g) →
+    let new = mutex_of c.self.inside.is_fair c.take_if.new.value c.grant.new.locks in
+    After c.args.self.now c.args.slot.0 c.args.waker c.grant.result.0 new
+granted g c =
+    let old = c.args.self.now in
+    let new = mutex_of c.self.inside.is_fair c.take_if.new.value c.grant.new.locks in
+    let did : Polls old c.args.slot.0 c.args.waker c.grant.result.0 new = search lemmas in
+    after old c.args.slot.0 c.args.waker c.grant.result.0 new (subst IsWell c.self.view_is c.self.invariant) did
 
-told : (g : Over) (c : goal.After-poll_told g) →
-    AfterPollOr c.args.self.now c.args.slot.0 c.poll_told.result c.poll_told.new.self
-told g c =
-    after_poll_or c.args.self.now c.args.slot.0 c.args.waker c.poll_told.result
-    c.poll_told.new.self
-    (subst (λ m. IsSound m × OwesNoWake m) c.self.view_is c.self.invariant)
-    c.poll_told.ensures.polled c.poll_told.ensures.unchanged
+pub invariant_of-self-2 : goal.invariant_of-self-2
+invariant_of-self-2 g c = (granted g c).0
 
-pub returns-in-Some-Told-clause-live : goal.returns-in-Some-Told-clause-live
-returns-in-Some-Told-clause-live g c = (told g c).live
+pub returns-clause-live : goal.returns-clause-live
+returns-clause-live g c = (granted g c).1.live
 
-pub returns-in-Some-Told-clause-pending : goal.returns-in-Some-Told-clause-pending
-returns-in-Some-Told-clause-pending g c = (told g c).pending
-
-pub returns-in-Some-Told-clause-others : goal.returns-in-Some-Told-clause-others
-returns-in-Some-Told-clause-others g c = (told g c).others
+pub returns-clause-others : goal.returns-clause-others
+returns-clause-others g c = (granted g c).1.others

@@ -4,8 +4,8 @@ use Rattle.fi_parts.proofs.Machines.{claiming_stays}
 use Rattle.fi_parts.proofs.Results.{either, of_made}
 use Rattle.fi_locks.specs.Mutex.{mutex_of, Makes, can_be_polled}
 use Rattle.fi_locks.specs.MutexLaws.{rules, stays_well, made as was_made, unchanged_well, makes_pollable}
-use Rattle.fi_locks.proofs.mutex.MutexState.claim_lock.Goals as goal
-use Rattle.fi_locks.proofs.mutex.MutexState.claim_lock.Goals.{in-Ok, in-Err}
+use Rattle.fi_locks.proofs.mutex.MutexState.claim.Goals as goal
+use Rattle.fi_locks.proofs.mutex.MutexState.claim.Goals.{in-Ok, in-Err}
 
 pub invariant_of-self : goal.invariant_of-self
 invariant_of-self g c =

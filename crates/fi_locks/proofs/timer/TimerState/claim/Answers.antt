@@ -4,8 +4,8 @@ use Rattle.fi_parts.proofs.Machines.{line_preserves, inserts, unchanged, claimin
 use Rattle.fi_parts.proofs.Results.{either, of_made}
 use Rattle.fi_locks.specs.Timer.{TimerMachine, Makes, can_be_polled}
 use Rattle.fi_locks.specs.TimerLaws.{rules, makes_pollable}
-use Rattle.fi_locks.proofs.timer.TimerState.claim_deadline.Goals as goal
-use Rattle.fi_locks.proofs.timer.TimerState.claim_deadline.Goals.{in-Ok, in-Err}
+use Rattle.fi_locks.proofs.timer.TimerState.claim.Goals as goal
+use Rattle.fi_locks.proofs.timer.TimerState.claim.Goals.{in-Ok, in-Err}
 
 pub invariant_of-self : goal.invariant_of-self
 invariant_of-self g c =

@@ -7,8 +7,8 @@ use Rattle.fi_locks.specs.Semaphore.{SemaphoreMachine, at_own, can_be_polled, Ma
 use Rattle.fi_locks.specs.SemaphoreLaws.{make_holds, makes_pollable}
 use Rattle.fi_locks.specs.SemaphoreSoundLaws.{rules}
 use Rattle.fi_locks.proofs.SemaphoreMarks.{marks_made}
-use Rattle.fi_locks.proofs.semaphore.SemaphoreState.claim_acquire.Given.{Over}
-use Rattle.fi_locks.proofs.semaphore.SemaphoreState.claim_acquire.Goals as goal
+use Rattle.fi_locks.proofs.semaphore.SemaphoreState.claim.Given.{Over}
+use Rattle.fi_locks.proofs.semaphore.SemaphoreState.claim.Goals as goal
 
 abbrev old : (g : Over) (c : goal.After-self-1 g) → SemaphoreMachine g.row.W.Denot
 old g c = at_own c.self.inside.permits c.self.inside.waits
