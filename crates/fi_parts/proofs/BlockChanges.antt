@@ -1,6 +1,6 @@
 -- One block that is not in the list comes or goes, with its slot.
-use Rattle.std.proofs.Common.{◌≡◌, ◌≢◌, ℕ, true, false, slice_index_or, List, [], ◌∷◌, map, Option, Some, None, IsSome, refl, sym}
-use Rattle.std.proofs.Common.{ap, subst, ◌∙◌, inl, inr}
+use Rattle.std.proofs.Common.{◌≡◌, ◌≢◌, ℕ, true, false, slice_index_or, List, [], ◌∷◌, map, Option, Some, None, IsSome, refl, sym, ap}
+use Rattle.std.proofs.Common.{subst, ◌∙◌, arith}
 use Rattle.std.proofs.lemmas.Bool.{cases_eq, both_ways, true≢false, or_parts}
 use Rattle.std.specs.Cmp.{nat_cmp_total}
 use Rattle.std.specs.FinMap as fin
@@ -11,18 +11,17 @@ use Rattle.fi_parts.specs.declared.blocks.linked.LinkedBlocks.{LinkedBlocks}
 use Rattle.fi_parts.specs.ListModel.{with_live}
 use Rattle.fi_parts.specs.Links.{alike, loose, is_linked, names, Linked}
 use Rattle.fi_parts.specs.Placed.{at_ptr, without_at}
-use Rattle.fi_parts.specs.Blocks.{items_from, slot_or, item_by, live_by, slot_by, IsStored, view_of, IsSound}
+use Rattle.fi_parts.specs.Blocks.{slot_or, item_by, live_by, slot_by, IsStored, view_of, IsSound}
 use Rattle.fi_parts.specs.CountedBlocks.{links_in, data_in, item_in, slot_in}
 use Rattle.fi_parts.specs.LinkedBlocks.{block_at, links_at, SameList, chain_of, data_of, reitemed, with_item}
 use Rattle.fi_parts.proofs.BlockKeys.{alike_self, ne_alike, cases_alike}
 use Rattle.fi_parts.proofs.Placed.{at-cons_same, at-cons_other, at-without_other, at-with_same, at-with_other}
 use Rattle.fi_parts.proofs.Moved.{Kept, Kept-one, chained-kept, order-kept, chained-is, order-is}
 use Rattle.fi_parts.proofs.Chains.{Chain-nil}
-use Rattle.fi_parts.proofs.BlockSlots.{live-slot_in, none_some, get-live_by}
+use Rattle.fi_parts.proofs.BlockSlots.{live-slot_in, get-live_by}
+use Rattle.fi_parts.proofs.Picked.{picked-empty}
+use Rattle.std.proofs.lemmas.Option.{same_Some, none-some}
 use Rattle.fi_parts.proofs.FiniteMaps.{get-insert_same, get-insert_other, get-remove_same, get-remove_other}
-
-some_same : {A : Type 0} {a b : A} → ◌≡◌ {A = Option A} (Some a) (Some b) → a ≡ b
-some_same e = cc
 
 module _ {T : Type 0} where
   -- only the block at p and the slot k change
@@ -46,24 +45,11 @@ module _ {T : Type 0} where
     stored =
         record {
           held = λ j q at.
-              elim (cases_eq j k) [
-                | inl same ↦
-                    let now = change.is q (sym change.slab.changed ∙ ap (get store') (sym same) ∙ at) in
-                    subst (λ z. slot_in (data_of t z) ≡ Some j) (sym now.0) (now.1 ∙ ap Some (sym same))
-                | inr ne ↦
-                    let old = sound.stored.held j q (sym (change.slab.others j ne) ∙ at) in
-                    ap (λ b. slot_in (data_in b)) (change.others q (λ e. ne (change.was_slot j
-                    (subst (λ z. slot_in (data_of s z) ≡ Some j) e old)))) ∙ old
-              ];
+              let same = change.slab.others j in let old = sound.stored.held j q in
+              grind (arith, cases_eq j k, cases_alike q p, change.is q, change.slab.changed, change.others q, change.was_slot j, same, old);
           stored = λ q j e.
-              elim (cases_alike q p) [
-                | inl same ↦
-                    let now = change.is_slot j (subst (λ z. slot_in (data_of t z) ≡ Some j) same e) in
-                    ap (get store') now.0 ∙ change.slab.changed ∙ now.1 ∙ ap Some (sym same)
-                | inr ne ↦
-                    let old = sound.stored.stored q j (sym (ap (λ b. slot_in (data_in b)) (change.others q ne)) ∙ e) in
-                    change.slab.others j (λ same. ne (change.was q (ap (get store) (sym same) ∙ old))) ∙ old
-              ];
+              let same = change.slab.others j in let old = sound.stored.stored q j in
+              grind (arith, cases_eq j k, cases_alike q p, change.is_slot j, change.slab.changed, change.others q, change.was q, same, old);
         }
 
     kept : Kept s t
@@ -78,9 +64,7 @@ module _ {T : Type 0} where
       where
         from : (r : Option (BlockPtr T)) → get store j ≡ r → item_by (data_of t) r ≡ item_by (data_of s) r
         from None e = refl
-        from (Some q) e =
-            ap (λ b. item_in (data_in b)) (change.others q (λ same. ne (change.was_slot j
-            (subst (λ z. slot_in (data_of s z) ≡ Some j) same (sound.stored.held j q e)))))
+        from (Some q) e = grind (arith, change.others q, change.was_slot j, sound.stored.held j q e, ne)
 
     slots_kept : (xs : List (BlockPtr T)) → names p xs ≡ false → map (slot_by (data_of t)) xs ≡ map (slot_by (data_of s)) xs
     slots_kept [] off = refl
@@ -97,32 +81,17 @@ module _ {T : Type 0} where
         ≡ with_live (view_of store s) (fin.insert (live_by (data_of s) store.slots) k v)
     view_inserted v here = λ i. record { live = lives i; order = order_after i; visits = change.visits i }
       where
-        each : (q : ℕ) → fin.get (live_by (data_of t) store'.slots) q ≡ fin.get (fin.insert (live_by (data_of s) store.slots) k v) q
-        each q =
-            elim (cases_eq q k) [
-              | inl same ↦ rw same (get-live_by (data_of t) store' k ∙ here ∙ sym (get-insert_same _ k v))
-              | inr ne ↦ get-live_by (data_of t) store' q ∙ item_other q ne ∙ sym (get-live_by (data_of s) store q) ∙ sym
-                  (get-insert_other _ k v q ne)
-            ]
-
         lives : live_by (data_of t) store'.slots ≡ fin.insert (live_by (data_of s) store.slots) k v
-        lives = fin.same_map nat_cmp_total fin.nat_cmp-IsAntisymmetric _ _ each
+        lives = fin.same_map nat_cmp_total fin.nat_cmp-IsAntisymmetric _ _
+            (λ q. grind (arith, cases_eq q k, get-live_by, here, item_other q, get-insert_same, get-insert_other))
 
     pub view_removed : item_by (data_of t) (get store' k) ≡ None → view_of store' t
         ≡ with_live (view_of store s) (fin.remove (live_by (data_of s) store.slots) k)
     view_removed here = λ i. record { live = lives i; order = order_after i; visits = change.visits i }
       where
-        each : (q : ℕ) → fin.get (live_by (data_of t) store'.slots) q ≡ fin.get (fin.remove (live_by (data_of s) store.slots) k) q
-        each q =
-            elim (cases_eq q k) [
-              | inl same ↦ rw same (get-live_by (data_of t) store' k ∙ here ∙ sym (get-remove_same _ k))
-              | inr ne ↦
-                  get-live_by (data_of t) store' q ∙ item_other q ne ∙ sym (get-live_by (data_of s) store q)
-                  ∙ sym (get-remove_other _ k q ne)
-            ]
-
         lives : live_by (data_of t) store'.slots ≡ fin.remove (live_by (data_of s) store.slots) k
-        lives = fin.same_map nat_cmp_total fin.nat_cmp-IsAntisymmetric _ _ each
+        lives = fin.same_map nat_cmp_total fin.nat_cmp-IsAntisymmetric _ _
+            (λ q. grind (arith, cases_eq q k, get-live_by, here, item_other q, get-remove_same, get-remove_other))
 
   off_alike : (q p : BlockPtr T) → q ≢ p → alike p q ≡ false
   off_alike q p ne = ne_alike p q (λ e. ne (sym e))
@@ -135,10 +104,10 @@ module _ {T : Type 0} where
       record {
         others = λ q ne. ap (λ bs. at_ptr bs q.ptr) blocks ∙ at-without_other s.blocks.owner.blocks p.ptr q.ptr (off_alike q p ne);
         slab = updates;
-        was = λ q e. some_same (sym e ∙ at);
-        was_slot = λ j e. some_same (sym e ∙ sound.stored.held k p at);
-        is = λ q e. absurd (none_some e);
-        is_slot = λ j e. absurd (none_some (sym (ap (λ b. slot_in (data_in b)) gone) ∙ e));
+        was = λ q e. same_Some _ _ (sym e ∙ at);
+        was_slot = λ j e. same_Some _ _ (sym e ∙ sound.stored.held k p at);
+        is = λ q e. absurd (none-some _ e);
+        is_slot = λ j e. absurd (none-some _ (sym (ap (λ b. slot_in (data_in b)) gone) ∙ e));
         first = rest.first;
         last = rest.last;
         visits = rest.visits;
@@ -147,19 +116,18 @@ module _ {T : Type 0} where
       }
 
   -- a block that was put
-  pub Change-claimed : (store store' : Slab (BlockPtr T)) (s t : LinkedBlocks T) (k : ℕ) (p : BlockPtr T) (b : Block T)
-      → IsSound store s → get store k ≡ None → Updates store store' k (Some p) → t.blocks.owner.blocks
-      ≡ (p.ptr, b) ∷ s.blocks.owner.blocks → block_at s p ≡ None
-      → SameList s t → b.links ≡ loose → b.slot ≡ k → Change store store' s t k p (Some p)
+  pub Change-claimed : (store store' : Slab (BlockPtr T)) (s t : LinkedBlocks T) (k : ℕ) (p : BlockPtr T) (b : Block T) → IsSound store s
+      → get store k ≡ None → Updates store store' k (Some p) → t.blocks.owner.blocks ≡ (p.ptr, b) ∷ s.blocks.owner.blocks → block_at s p
+      ≡ None → SameList s t → b.links ≡ loose → b.slot ≡ k → Change store store' s t k p (Some p)
   Change-claimed store store' s t k p b sound vacant updates blocks fresh rest links slot =
       let here : block_at t p ≡ Some b = ap (λ bs. at_ptr bs p.ptr) blocks ∙ at-cons_same p.ptr b s.blocks.owner.blocks in
       record {
         others = λ q ne. ap (λ bs. at_ptr bs q.ptr) blocks ∙ at-cons_other p.ptr b s.blocks.owner.blocks q.ptr (off_alike q p ne);
         slab = updates;
-        was = λ q e. absurd (none_some (sym vacant ∙ e));
-        was_slot = λ j e. absurd (none_some (sym (ap (λ b. slot_in (data_in b)) fresh) ∙ e));
-        is = λ q e. (sym (some_same e), ap (λ b. slot_in (data_in b)) here ∙ ap Some slot);
-        is_slot = λ j e. (some_same (sym e ∙ ap (λ b. slot_in (data_in b)) here) ∙ slot, refl);
+        was = λ q e. absurd (none-some _ (sym vacant ∙ e));
+        was_slot = λ j e. absurd (none-some _ (sym (ap (λ b. slot_in (data_in b)) fresh) ∙ e));
+        is = λ q e. (sym (same_Some _ _ e), ap (λ b. slot_in (data_in b)) here ∙ ap Some slot);
+        is_slot = λ j e. (same_Some _ _ (sym e ∙ ap (λ b. slot_in (data_in b)) here) ∙ slot, refl);
         first = rest.first;
         last = rest.last;
         visits = rest.visits;
@@ -200,8 +168,8 @@ module _ {T : Type 0} where
   sound_empty store s slots none first last =
       record {
         stored = record {
-          held = λ k p e. absurd (none_some (sym (ap (λ l. slice_index_or l k None) slots) ∙ e));
-          stored = λ p k e. absurd (none_some (sym (ap (λ b. slot_in (data_in b)) (no_block s none p)) ∙ e));
+          held = λ k p e. absurd (none-some _ (sym (ap (λ l. slice_index_or l k None) slots) ∙ e));
+          stored = λ p k e. absurd (none-some _ (sym (ap (λ b. slot_in (data_in b)) (no_block s none p)) ∙ e));
         };
         chained = chained-is s [] (linked_empty s none first last);
       }
@@ -211,8 +179,7 @@ module _ {T : Type 0} where
   order_empty store s slots none first last = ap (map (slot_by (data_of s))) (order-is s [] (linked_empty s none first last))
 
   pub live_empty : (store : Slab (BlockPtr T)) (s : LinkedBlocks T) → store.slots ≡ [] → live_by (data_of s) store.slots ≡ fin.empty
-  unfolding items_from
-  live_empty store s slots = ap (live_by (data_of s)) slots
+  live_empty store s slots = picked-empty (λ p. item_in (data_of s p)) store.slots slots
 
   -- the item under one slot is written
 
@@ -244,17 +211,11 @@ module _ {T : Type 0} where
 
     links_same : (q : BlockPtr T) → links_at after_item q ≡ links_at s q
     links_same q =
-        elim (cases_alike q p) [
-          | inl same ↦ rw same (item-here s p (block_at s p) w live_p live_p).2
-          | inr ne ↦ ap links_in (item-elsewhere s p (block_at s p) w q ne)
-        ]
+        grind (arith, cases_alike q p, (item-here s p (block_at s p) w live_p live_p).2, item-elsewhere s p (block_at s p) w q)
 
     slots_same : (q : BlockPtr T) → slot_in (data_of after_item q) ≡ slot_in (data_of s q)
     slots_same q =
-        elim (cases_alike q p) [
-          | inl same ↦ rw same (item-here s p (block_at s p) w live_p live_p).1
-          | inr ne ↦ ap (λ o. slot_in (data_in o)) (item-elsewhere s p (block_at s p) w q ne)
-        ]
+        grind (arith, cases_alike q p, (item-here s p (block_at s p) w live_p live_p).1, item-elsewhere s p (block_at s p) w q)
 
     kept_item : Kept s after_item
     kept_item =
@@ -274,9 +235,9 @@ module _ {T : Type 0} where
 
     slot_by_of : (o r : Option (T × ℕ)) → slot_in o ≡ slot_in r → slot_or o ≡ slot_or r
     slot_by_of None None e = refl
-    slot_by_of (Some a) None e = absurd (none_some (sym e))
-    slot_by_of None (Some b) e = absurd (none_some e)
-    slot_by_of (Some a) (Some b) e = some_same e
+    slot_by_of (Some a) None e = absurd (none-some _ (sym e))
+    slot_by_of None (Some b) e = absurd (none-some _ e)
+    slot_by_of (Some a) (Some b) e = same_Some _ _ e
 
     pub view_item : view_of store after_item ≡ with_live (view_of store s) (fin.insert (live_by (data_of s) store.slots) k w)
     view_item = λ i. record { live = lives i; order = orders i; visits = (ends_same s p (block_at s p) w).2 i }
@@ -291,19 +252,10 @@ module _ {T : Type 0} where
           where
             from : (r : Option (BlockPtr T)) → get store j ≡ r → item_by (data_of after_item) r ≡ item_by (data_of s) r
             from None e = refl
-            from (Some q) e =
-                ap (λ o. item_in (data_in o)) (item-elsewhere s p (block_at s p) w q
-                (λ same. ne (some_same (sym (sound.stored.held j q e) ∙ ap (λ z. slot_in (data_of s z)) same ∙ sound.stored.held k p
-                at))))
-
-        each : (q : ℕ) → fin.get (live_by (data_of after_item) store.slots) q ≡ fin.get (fin.insert (live_by (data_of s) store.slots) k w) q
-        each q =
-            elim (cases_eq q k) [
-              | inl same ↦ rw same (get-live_by (data_of after_item) store k ∙ ap (item_by (data_of after_item)) at ∙
-                  (item-here s p (block_at s p) w live_p live_p).0 ∙ sym (get-insert_same _ k w))
-              | inr ne ↦ get-live_by (data_of after_item) store q ∙ item_same q ne ∙ sym (get-live_by (data_of s) store q) ∙ sym
-                  (get-insert_other _ k w q ne)
-            ]
+            from (Some q) e = grind (arith, item-elsewhere s p (block_at s p) w q, sound.stored.held j q e, sound.stored.held k p at, ne)
 
         lives : live_by (data_of after_item) store.slots ≡ fin.insert (live_by (data_of s) store.slots) k w
-        lives = fin.same_map nat_cmp_total fin.nat_cmp-IsAntisymmetric _ _ each
+        lives =
+            let here = (item-here s p (block_at s p) w live_p live_p).0 in
+            fin.same_map nat_cmp_total fin.nat_cmp-IsAntisymmetric _ _
+            (λ q. grind (arith, cases_eq q k, get-live_by, here, item_same q, get-insert_same, get-insert_other))

@@ -25,20 +25,15 @@ module _ {X : Type 0} where
 
   pub times_append : (p : Ptr) (xs ys : List (Ptr × X)) → times p (xs ++ ys) ≡ times p xs + times p ys
   times_append p [] ys = let none = times_nil X p in omega (arith, none)
-  times_append p (x ∷ xs) ys =
-      let both = times_cons p x (xs ++ ys) in let here = times_cons p x xs in let rest = times_append p xs ys in
-      omega (arith, both, here, rest)
+  times_append p (x ∷ xs) ys = grind (arith, times_cons p, times_append p xs ys)
 
   -- one among the others
   pub times_cut : (p : Ptr) (xs : List (Ptr × X)) (x : Ptr × X) (ys : List (Ptr × X))
       → times p (xs ++ x ∷ ys) ≡ once x.0 p + times p (xs ++ ys)
-  times_cut p xs x ys =
-      let whole = times_append p xs (x ∷ ys) in let here = times_cons p x ys in let rest = times_append p xs ys in
-      omega (arith, whole, here, rest)
+  times_cut p xs x ys = grind (arith, times_append p xs, times_cons p)
 
   -- the one at q is left out
-  pub times_without : (p q : Ptr) (xs : List (Ptr × X)) (x : X) → at_ptr xs q ≡ Some x
-      → times p xs ≡ once q p + times p (without_at xs q)
+  pub times_without : (p q : Ptr) (xs : List (Ptr × X)) (x : X) → at_ptr xs q ≡ Some x → times p xs ≡ once q p + times p (without_at xs q)
   times_without p q xs x e =
       let cut : Cut xs q x = cut_at xs q x e in
       ap (times p) cut.is ∙ times_cut p cut.front (q, x) cut.back ∙ ap (λ l. once q p + times p l) (sym cut.gone)
@@ -79,10 +74,8 @@ module _ {X Y : Type 0} where
   -- a block is put at a vacant place, or a place is vacated
   pub times_moved : (bs : List (Ptr × X)) (vs : List (Ptr × Y)) (q : Ptr) (x : X) (y : Y) (n : ℕ) (p : Ptr) → at_ptr vs q ≡ Some y
       → times p bs + times p vs ≡ n → times p ((q, x) ∷ bs) + times p (without_at vs q) ≡ n
-  times_moved bs vs q x y n p here all =
-      let more = times_cons p (q, x) bs in let less = times_without p q vs y here in omega (arith, more, less, all)
+  times_moved bs vs q x y n p here all = grind (arith, times_cons p (q, x) bs, times_without p q vs y here, all)
 
   pub times_vacated : (bs : List (Ptr × X)) (vs : List (Ptr × Y)) (q : Ptr) (x : X) (y : Y) (n : ℕ) (p : Ptr) → at_ptr bs q ≡ Some x
       → times p bs + times p vs ≡ n → times p (without_at bs q) + times p ((q, y) ∷ vs) ≡ n
-  times_vacated bs vs q x y n p here all =
-      let more = times_cons p (q, y) vs in let less = times_without p q bs x here in omega (arith, more, less, all)
+  times_vacated bs vs q x y n p here all = grind (arith, times_cons p (q, y) vs, times_without p q bs x here, all)

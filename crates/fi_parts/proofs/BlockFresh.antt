@@ -1,25 +1,15 @@
 -- What is owned at a pointer is not among the other blocks. Assumes `Logic`.
-use mathlib.Core.Path.{◌≡◌, refl, sym, subst}
-use mathlib.Core.Bool.{true, false}
-use Prim.Native.Nat.{ℕ, ◌<◌}
-use native.Mathlib.Omega.{arith}
-use mathlib.Core.List.{List, [], ◌∷◌}
-use seplogic.Ra.Ura.{Ura}
-use base.Fraction.{full_share}
-use base.Logic.{ent, sep, never, never_e, via, fst∗}
-use base.Fml.{fat, froom}
-use mir.Val.{Val}
+use Rattle.fi_parts.proofs.RawWalks.{◌$◌, ◌<◌, ◌∵◌, ◌∷◌, ◌≡◌, ◌⊛◌, !, Goal, Item, List, Logic, None, Ptr, RattleType, Seq, Ura, Val, []}
+use Rattle.fi_parts.proofs.RawWalks.{arith, block_ptr, by, done, ent, fact, fact_i, false, fat, froom, fsplit, fst∗, full_share, keep}
+use Rattle.fi_parts.proofs.RawWalks.{lies_at, lone, move, never, null_ptr, part_at, part_out, pick, prop, qed, raw, refl, sem, sep, some}
+use Rattle.fi_parts.proofs.RawWalks.{split, subst, sym, true, use1, use2, via, ‵, ℕ}
+use base.Logic.{never_e}
 use prog.Memory.{size, up}
 use prog.Model.{Model, Within}
 use prog.Align.{up-ge}
-use types.Logic.{Logic, sem}
-use contract.Monad.{fact, fact_i, fact_use}
-use types.Kit.{Item, Goal, Seq, prop, mean, ‵, raw, ◌⊛◌, some, ◌$◌, ◌∵◌, !, qed, by, move, keep, use1, use2, pick, split, fsplit, done}
-use borrow.Table.OneValue.{part_out}
-use denote.RattleType.{RattleType}
-use denote.Memory.{lone, part_at}
-use denote.RawPtr.{Ptr, block_ptr, null_ptr, lies_at}
-use Rattle.std.proofs.Common.{None, ◌∙◌}
+use contract.Monad.{fact_use}
+use types.Kit.{mean}
+use Rattle.std.proofs.Common.{◌∙◌}
 use Rattle.std.proofs.lemmas.Bool.{cond-false}
 use Rattle.fi_parts.specs.Placed.{same_ptr, at_ptr}
 use Rattle.fi_parts.specs.BlockOwner.{blocks_own}

@@ -1,24 +1,14 @@
 -- What the walks share: a list of owned blocks is cut at one and glued again. Assumes `Logic`.
-use mathlib.Core.Path.{◌≡◌, refl, subst}
-use Prim.Native.Nat.{ℕ}
-use mathlib.Core.List.{List, [], ◌∷◌, ◌++◌}
-use seplogic.Ra.Ura.{Ura}
+use Rattle.fi_parts.proofs.RawWalks.{◌$◌, ◌++◌, ◌∵◌, ◌∷◌, ◌≡◌, ◌⊛◌, !, Fml, Goal, Item, Lft, List, Logic, Ptr, RattleType, Seq, Step}
+use Rattle.fi_parts.proofs.RawWalks.{Struct, Ura, Val, [], done, drop, ent, feq_i, feq_l, fjoin, fpack, fpick, fsplit, fsplit3, fst∗, ftrue}
+use Rattle.fi_parts.proofs.RawWalks.{id⊢, lent_at, move, nothing, of_list, param, ptr_val, qed, refl, sem, sep, shape, split, step, subst}
+use Rattle.fi_parts.proofs.RawWalks.{use1, use2, via, vstruct, word, ‵, ℕ}
 use mir.Syntax.{Args, a_type}
-use mir.Val.{Val, vstruct, of_list}
-use base.Logic.{ent, sep, id⊢, via, fst∗, snd∗}
-use base.Fml.{Lft, Fml, ftrue}
-use types.Logic.{Logic, sem}
-use types.Kit.{Item, Goal, Seq, Step, step, ‵, ◌⊛◌, ◌$◌, ◌∵◌, !, qed, move, drop, use1, use2, split, fsplit, fsplit3}
-use types.Kit.{fjoin, fpick, fpack}
-use types.Kit.{feq_i, feq_l, done}
-use denote.RattleType.{RattleType, Valss}
-use denote.Param.{param, layouts}
-use denote.Steps.{nothing}
-use denote.Struct.Struct.{Shape, Struct, within}
-use denote.Struct.Owning.{shape}
-use denote.RawPtr.{Ptr, RawPtr, ptr_val}
-use denote.Struct.Lending.{lent_at}
-use Rattle.std.proofs.RcSteps.{word}
+use base.Logic.{snd∗}
+use denote.RattleType.{Valss}
+use denote.Param.{layouts}
+use denote.Struct.Struct.{Shape, within}
+use denote.RawPtr.{RawPtr}
 use Rattle.fi_parts.specs.contracts.blocks.block.Block as block
 use Rattle.fi_parts.specs.contracts.blocks.block.BlockPtr as block_ptr-type
 use Rattle.fi_parts.specs.contracts.blocks.places.BlockPlaces as places_type

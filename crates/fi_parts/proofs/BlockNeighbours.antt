@@ -1,6 +1,7 @@
 -- The neighbours of a listed block, as slots.
 use Rattle.std.proofs.Common.{◌≡◌, ℕ, true, List, [], ◌∷◌, ◌++◌, map, Option, Some, None, IsSome, sym, ap, refl, ◌∙◌}
 use Rattle.std.proofs.lemmas.Bool.{or_left}
+use Rattle.std.proofs.lemmas.Option.{same_Some}
 use Rattle.slab.specs.Slab.{Slab, get}
 use Rattle.fi_parts.specs.declared.blocks.block.BlockPtr.{BlockPtr}
 use Rattle.fi_parts.specs.declared.blocks.linked.LinkedBlocks.{LinkedBlocks}
@@ -10,7 +11,7 @@ use Rattle.fi_parts.specs.Blocks.{slot_by, IsStored, IsSound}
 use Rattle.fi_parts.specs.LinkedBlocks.{block_at, chain_of, data_of}
 use Rattle.fi_parts.proofs.Chains.{split_at, names-append, last_or-held}
 use Rattle.fi_parts.proofs.Moved.{is_live}
-use Rattle.fi_parts.proofs.BlockSlots.{AllLive, head_live, tail_live, slot_in-live, some_same, each_in, last_or-each}
+use Rattle.fi_parts.proofs.BlockSlots.{AllLive, head_live, tail_live, slot_in-live, each_in, last_or-each}
 
 module _ {T : Type 0} where
   -- This is the block that stands before that one in the list, or none where it is the first.
@@ -41,7 +42,7 @@ module _ {T : Type 0} where
     cut_at (y ∷ ys) k x [] rest at all is =
         let slot : slot_by (data_of s) y ≡ k = cc in
         let same : x ≡ y =
-        some_same (sym at ∙ ok.stored y k (slot_in-live (block_at s y) (head_live store s ok y ys all) ∙ ap Some slot)) in
+        same_Some _ _ (sym at ∙ ok.stored y k (slot_in-live (block_at s y) (head_live store s ok y ys all) ∙ ap Some slot)) in
         record { before = []; after = ys; is = ap (λ z. z ∷ ys) (sym same); slots = refl }
     cut_at (y ∷ ys) k x (f ∷ front) rest at all is =
         let slot : slot_by (data_of s) y ≡ f = cc in

@@ -1,8 +1,7 @@
 -- The blocks as live slots and a list of slots.
-use Rattle.std.proofs.Common.{◌≡◌, ℕ, zero, suc, ◌+◌, ◌<◌, true, false, eqb, ◌||◌, List, [], ◌∷◌, map, get_or, Option, Some, None}
-use Rattle.std.proofs.Common.{is_some, IsSome, refl, sym, ap, subst, ◌∙◌, inl, inr, arith, zero-add}
-use Rattle.std.proofs.lemmas.Bool.{eq-eqb, ne_eqb, true≢false, or_left, or_right, or_from}
-use Rattle.std.specs.Ordering.{nat_cmp}
+use Rattle.std.proofs.Common.{◌≡◌, ℕ, true, false, eqb, ◌||◌, List, [], ◌∷◌, map, Option, Some, None, is_some, IsSome, refl, sym, ap, ◌∙◌}
+use Rattle.std.proofs.Common.{arith}
+use Rattle.std.proofs.lemmas.Bool.{true≢false, or_left, or_right}
 use Rattle.std.specs.FinMap as fin
 use Rattle.slab.specs.Slab.{Slab, get, ContainsKey}
 use Rattle.fi_parts.specs.declared.blocks.block.Block.{Block}
@@ -10,55 +9,21 @@ use Rattle.fi_parts.specs.declared.blocks.block.BlockPtr.{BlockPtr}
 use Rattle.fi_parts.specs.declared.blocks.linked.LinkedBlocks.{LinkedBlocks}
 use Rattle.fi_parts.specs.Order.{holds}
 use Rattle.fi_parts.specs.Order as order
-use Rattle.fi_parts.proofs.FiniteMaps.{get-insert_other, get-insert_same}
+use Rattle.fi_parts.proofs.Picked.{get-picked}
 use Rattle.fi_parts.specs.Links.{alike, names, without}
-use Rattle.fi_parts.specs.Blocks.{items_from, slot_or, item_by, live_by, slot_by, IsStored}
-use Rattle.fi_parts.specs.CountedBlocks.{data_in, slot_in}
+use Rattle.fi_parts.specs.Blocks.{slot_or, item_by, live_by, slot_by, IsStored}
+use Rattle.fi_parts.specs.CountedBlocks.{data_in, item_in, slot_in}
 use Rattle.fi_parts.specs.LinkedBlocks.{block_at, SameData, chain_of, IsChained, data_of}
 use Rattle.fi_parts.proofs.BlockKeys.{alike_self, alike-from, ne_alike, cases_alike}
 use Rattle.fi_parts.specs.Order.{last_or}
 use Rattle.fi_parts.proofs.Chains.{last_or-held}
 use Rattle.fi_parts.proofs.Moved.{is_live}
 
-pub some_same : {A : Type 0} {a b : A} → ◌≡◌ {A = Option A} (Some a) (Some b) → a ≡ b
-some_same e = cc
-
-pub none_some : {A : Type 0} {a : A} → ◌≡◌ {A = Option A} None (Some a) → ⊥
-none_some e = cc
-
 module _ {T : Type 0} where
-  items_below : (k : ℕ) (slots : List (Option T)) (q : ℕ) → q < k → fin.get (items_from k slots) q ≡ None
-  unfolding items_from
-  items_below k [] q below = fin.get-empty nat_cmp q
-  items_below k (None ∷ rest) q below = items_below (suc k) rest q (omega arith)
-  items_below k (Some v ∷ rest) q below =
-      get-insert_other _ k v q (λ same. omega arith) ∙ items_below (suc k) rest q (omega arith)
-
-  items_at : (k : ℕ) (slots : List (Option T)) (i : ℕ) → fin.get (items_from k slots) (k + i) ≡ get_or slots i None
-  unfolding items_from
-  items_at k [] i = fin.get-empty nat_cmp (k + i)
-  items_at k (None ∷ rest) zero = items_below (suc k) rest (k + zero) (omega arith)
-  items_at k (Some v ∷ rest) zero =
-      let same : k + zero ≡ k = omega arith in
-      rw same (get-insert_same _ k v)
-  items_at k (None ∷ rest) (suc i) =
-      let shift : k + suc i ≡ suc k + i = omega arith in
-      rw shift (items_at (suc k) rest i)
-  items_at k (Some v ∷ rest) (suc i) =
-      let shift : k + suc i ≡ suc k + i = omega arith in
-      get-insert_other _ k v (k + suc i) (λ same. omega arith) ∙ rw shift (items_at (suc k) rest i)
-
-  get_or-each : (f : Option (BlockPtr T) → Option T) → f None ≡ None → (slots : List (Option (BlockPtr T))) (i : ℕ)
-      → get_or (map f slots) i None ≡ f (get_or slots i None)
-  get_or-each f none [] i = sym none
-  get_or-each f none (o ∷ rest) zero = refl
-  get_or-each f none (o ∷ rest) (suc i) = get_or-each f none rest i
-
   -- the item under a slot
   pub get-live_by : (d : BlockPtr T → Option (T × ℕ)) (store : Slab (BlockPtr T)) (q : ℕ) → fin.get (live_by d store.slots) q
       ≡ item_by d (get store q)
-  get-live_by d store q = ap (fin.get (live_by d store.slots)) (sym (zero-add q)) ∙ items_at 0 (map (item_by d) store.slots) q ∙
-      get_or-each (item_by d) refl store.slots q
+  get-live_by d store q = get-picked (λ p. item_in (d p)) store.slots q
 
   pub slot_or-of : (o : Option (T × ℕ)) (k : ℕ) → slot_in o ≡ Some k → slot_or o ≡ k
   slot_or-of None k e = absurd (cc)
@@ -102,13 +67,8 @@ module _ {T : Type 0} where
     -- the slot of a block tells it from the other live ones
     same_slot : (k : ℕ) (p x : BlockPtr T) → get store k ≡ Some p → IsSome (block_at s x) → eqb k (slot_by (data_of s) x) ≡ alike p x
     same_slot k p x at live =
-        elim (cases_alike p x) [
-          | inl is ↦ eq-eqb k _ (sym (slot_or-of (data_of s x) k (subst (λ z. slot_in (data_of s z) ≡ Some k) is (ok.held k p at)))) ∙
-              sym (alike-from p x is)
-          | inr ne ↦
-              ne_eqb k _ (λ is. ne (some_same (sym at ∙ ok.stored x k (slot_in-live (block_at s x) live ∙ ap Some (sym is))))) ∙ sym
-              (ne_alike p x ne)
-        ]
+        let there = slot_in-live (block_at s x) live in
+        grind (arith, cases_alike p x, alike-from p x, ne_alike p x, slot_or-of (data_of s x) k, ok.held k p at, ok.stored x k, there)
 
     pub holds_slot : (k : ℕ) (p : BlockPtr T) (xs : List (BlockPtr T)) → get store k ≡ Some p → AllLive xs
         → holds k (map (slot_by (data_of s)) xs) ≡ names p xs
@@ -119,22 +79,13 @@ module _ {T : Type 0} where
         → order.without k (map (slot_by (data_of s)) xs) ≡ map (slot_by (data_of s)) (without p xs)
     without_slot k p [] at all = refl
     without_slot k p (x ∷ xs) at all =
-        (elim (alike p x) as (λ y. alike p x ≡ y → order.without k (map (slot_by (data_of s)) (x ∷ xs))
-        ≡ map (slot_by (data_of s)) (without p (x ∷ xs))) [
-          | true ↦ λ e.
-              let here : eqb k (slot_by (data_of s) x) ≡ true = same_slot k p x at (head_live x xs all) ∙ e in
-              rw (here, e) (without_slot k p xs at (tail_live x xs all))
-          | false ↦ λ e.
-              let here : eqb k (slot_by (data_of s) x) ≡ false = same_slot k p x at (head_live x xs all) ∙ e in
-              rw (here, e) (ap (λ zs. slot_by (data_of s) x ∷ zs) (without_slot k p xs at (tail_live x xs all)))
-        ]) refl
+        grind (arith, same_slot k p x at (head_live x xs all), without_slot k p xs at (tail_live x xs all))
 
     pub holds_none : (k : ℕ) (xs : List (BlockPtr T)) → get store k ≡ None → AllLive xs → holds k (map (slot_by (data_of s)) xs) ≡ false
     holds_none k [] gone all = refl
     holds_none k (x ∷ xs) gone all =
-        or_from (eqb k (slot_by (data_of s) x)) _
-        (ne_eqb k _ (λ is. none_some (sym gone ∙ ok.stored x k (slot_in-live (block_at s x) (head_live x xs all) ∙ ap Some (sym is)))))
-        (holds_none k xs gone (tail_live x xs all))
+        let there = slot_in-live (block_at s x) (head_live x xs all) in
+        grind (arith, gone, ok.stored x k, there, holds_none k xs gone (tail_live x xs all))
 
     pub chain_live : IsChained s → AllLive (chain_of s)
     chain_live chained p at = is_live s p (chained.flags p ∙ at)

@@ -1,6 +1,6 @@
 -- The blocks are taken one by one, each once, until none is left.
-use Rattle.std.proofs.Common.{◌≡◌, ◌≢◌, ℕ, suc, ◌+◌, ◌≤◌, List, [], ◌∷◌, Option, Some, None, IsSome, Contains, inl, inr, refl}
-use Rattle.std.proofs.Common.{sym, ap, subst, ◌∙◌, arith}
+use Rattle.std.proofs.Common.{◌≡◌, ℕ, suc, ◌+◌, ◌≤◌, List, [], ◌∷◌, Option, Some, None, IsSome, Contains, inl, inr, refl, sym, ap, subst}
+use Rattle.std.proofs.Common.{◌∙◌, arith}
 use denote.RawPtr.{Ptr}
 use Rattle.slab.specs.Slab.{Slab, entries, entries_from}
 use Rattle.slab.proofs.SlabLemmas.{Contains-cons, Contains-cons_cases, Contains-entries}
@@ -10,12 +10,9 @@ use Rattle.fi_parts.specs.declared.blocks.linked.LinkedBlocks.{LinkedBlocks}
 use Rattle.fi_parts.specs.Placed.{at_ptr, without_at}
 use Rattle.fi_parts.specs.Blocks.{IsSound}
 use Rattle.fi_parts.specs.CountedBlocks.{data_in, slot_in}
-use Rattle.fi_parts.proofs.BlockKeys.{ne_alike}
+use Rattle.fi_parts.proofs.BlockKeys.{alike-true}
 use Rattle.fi_parts.proofs.Placed.{at-cons_same, at-without_other}
-use Rattle.fi_parts.proofs.BlockSlots.{none_some, live-slot_in}
-
-some_same : {A : Type 0} {a b : A} → ◌≡◌ {A = Option A} (Some a) (Some b) → a ≡ b
-some_same e = cc
+use Rattle.fi_parts.proofs.BlockSlots.{live-slot_in}
 
 Contains-nil : {X : Type 0} (x : X) → Contains [] x → ⊥
 Contains-nil x c = let within = c.1 in omega arith
@@ -83,17 +80,12 @@ module _ {T : Type 0} where
         λ gone.
             drains (suc x.0) rest (without_at bs x.1.ptr) r.1
             (λ e c.
-            let above : suc x.0 ≤ e.0 = rising-above (suc x.0) rest e r.1 c in
-            let there : slot_at bs e.1 ≡ Some e.0 = held e (Contains-cons x e rest c) in
-            let off : e.1 ≢ x.1 = λ is. (let same : e.0 ≡ x.0 = some_same (sym there ∙ ap (slot_at bs) is ∙ here) in omega arith) in
-            ap (λ o. slot_in (data_in o)) (at-without_other bs x.1.ptr e.1.ptr (ne_alike x.1 e.1 (λ is. off (sym is)))) ∙ there)
+            let above = rising-above (suc x.0) rest e r.1 c in let there = held e (Contains-cons x e rest c) in
+            grind (arith, above, there, here, alike-true x.1 e.1, at-without_other bs x.1.ptr e.1.ptr))
             (λ p k at.
-            let off : p ≢ x.1 = λ is. none_some (sym (ap (λ o. slot_in (data_in o)) gone) ∙ sym
-            (ap (slot_at (without_at bs x.1.ptr)) is) ∙ at) in
-            let before : slot_at bs p ≡ Some k = sym (ap (λ o. slot_in (data_in o))
-            (at-without_other bs x.1.ptr p.ptr (ne_alike x.1 p (λ is. off (sym is))))) ∙ at in
+            let before : slot_at bs p ≡ Some k = grind (arith, gone, at, alike-true x.1 p, at-without_other bs x.1.ptr p.ptr) in
             elim (Contains-cons_cases x (k, p) rest (stored p k before)) [
-              | inl is ↦ absurd (off (ap (λ (y : ℕ × BlockPtr T). y.1) (sym is)))
+              | inl is ↦ absurd (grind (arith, is, gone, at))
               | inr later ↦ later
             ]),
       )

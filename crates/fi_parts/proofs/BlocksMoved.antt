@@ -36,8 +36,7 @@ module _ {T : Type 0} (store : Slab (BlockPtr T)) (s t : LinkedBlocks T) (sound 
         ∙ holds-without_same k (map (slot_by (data_of s)) (chain_of s))
 
     -- and then freed, with its slot
-    pub Change-dropped : (store' : Slab (BlockPtr T)) (u : LinkedBlocks T) → Updates store store' k None
-        → u.blocks.owner.blocks ≡ without_at t.blocks.owner.blocks p.ptr → block_at u p ≡ None → SameList t u
-        → Change store store' t u k p None
+    pub Change-dropped : (store' : Slab (BlockPtr T)) (u : LinkedBlocks T) → Updates store store' k None → u.blocks.owner.blocks
+        ≡ without_at t.blocks.owner.blocks p.ptr → block_at u p ≡ None → SameList t u → Change store store' t u k p None
     Change-dropped store' u updates blocks gone rest =
         Change-freed store store' t u k p sound_moved at updates blocks gone rest off

@@ -1,10 +1,8 @@
 -- The places of a chunk, and the stack of the pointers to them.
-use Rattle.std.proofs.Common.{◌≡◌, ℕ, zero, suc, ◌+◌, ◌*◌, ◌-◌, ◌<◌, ◌≤◌, ◌==◌, List, [], ◌∷◌, ◌++◌, refl, sym, ap, ◌∙◌, subst, arith}
+use Rattle.std.proofs.Common.{◌≡◌, ℕ, zero, suc, ◌+◌, ◌*◌, ◌-◌, ◌<◌, ◌≤◌, List, [], ◌∷◌, ◌++◌, refl, sym, ap, ◌∙◌, subst, arith}
 use Rattle.std.proofs.Common.{map as each, length, get_or, drop}
-use Rattle.std.proofs.lemmas.List.{map-append, append_assoc, append-nil, length-append, drop-append-le}
-use Rattle.std.proofs.lemmas.List.{get_or_append_left, drop_all}
+use Rattle.std.proofs.lemmas.List.{map-append, append_assoc, append-nil, length-append, drop-append-le, get_or_append_left, drop_all}
 use Rattle.std.proofs.Math.Seq.{drop-append_seam, get_or-append_seam}
-use Rattle.std.proofs.lemmas.Bool.{cond-false, ne_eqb}
 use native.Mathlib.Nat.{zero-mul, suc-mul}
 use denote.RattleType.{RattleType}
 use denote.RawPtr.{Ptr, ◌+ₚ◌, block_ptr, null_ptr}
@@ -17,8 +15,7 @@ use Rattle.fi_parts.specs.declared.blocks.places.BlockPlaces.{BlockPlaces}
 use Rattle.fi_parts.specs.Placed.{at_ptr, with_at, without_at}
 use Rattle.fi_parts.specs.BlockOwner.{times, block_row, block_places, block_further}
 use Rattle.fi_parts.specs.Chunks.{chunk_len, places_in, pointed, nowhere, chunks_of, IsKept}
-use Rattle.fi_parts.proofs.BlockCounts.{once, once_same, times_cons, times_append, times_nil, times_found}
-use Rattle.fi_parts.proofs.BlockCounts.{times_without}
+use Rattle.fi_parts.proofs.BlockCounts.{once, once_same, times_cons, times_append, times_nil, times_found, times_without}
 use Rattle.fi_parts.proofs.Placed.{length-with_at, length-without_at}
 
 -- the pointers that a loop has pushed on the stack `old`, to the last places of the chunk at p
@@ -61,13 +58,8 @@ module _ (T : RattleType) where
       pushed = so.pushed ++ x ∷ [];
       items = e ∙ ap (λ l. l ++ x ∷ []) so.items ∙ append_assoc old so.pushed (x ∷ []);
       same = λ q.
-          let here = block_further T left p in
-          let parts = ap (times q) (map-append pointed so.pushed (x ∷ [])) ∙ times_append q (each pointed so.pushed) (pointed x ∷ []) in
-          let one = times_cons q (pointed x) [] in let none = times_nil (Unit {0}) q in
-          let first = times_cons q (here, tt) (block_places T (here +ₚ size) so.made) in
-          let there = ap (λ t. once t q) at in
-          let rest = ap (λ t. times q (block_places T t so.made)) (further_next left p) in
-          let before = so.same q in omega (arith, parts, one, none, first, there, rest, before);
+          let more = map-append pointed so.pushed (x ∷ []) in let next = further_next left p in
+          grind (arith, more, times_append {X = Unit {0}} q, times_cons {X = Unit {0}} q, times_nil (Unit {0}) q, next, so.same q);
     }
 
     pub pushed_all : (left : ℕ) (new : List (BlockPtr T.Denot)) → Pushed T old p len left new → left ≤ 0
@@ -87,24 +79,18 @@ module _ {T : Type 0} where
   above_pushed : (q : Ptr) (xs : List (BlockPtr T)) (x : BlockPtr T) (k : ℕ) → k ≤ length xs
       → times q (each pointed (drop k (xs ++ x ∷ []))) ≡ times q (each pointed (drop k xs)) + once x.ptr q
   above_pushed q xs x k le =
-      let parts = ap (λ l. times q (each pointed l)) (drop-append-le k xs (x ∷ []) le)
-      ∙ ap (times q) (map-append pointed (drop k xs) (x ∷ [])) ∙ times_append q (each pointed (drop k xs)) (pointed x ∷ []) in
-      let one = times_cons q (pointed x) [] in let none = times_nil (Unit {0}) q in omega (arith, parts, one, none)
+      let less = drop-append-le k xs (x ∷ []) le in let more = map-append pointed (drop k xs) (x ∷ []) in
+      grind (arith, less, more, times_append {X = Unit {0}} q, times_cons {X = Unit {0}} q, times_nil (Unit {0}) q)
 
   -- a place is vacated, and its pointer is pushed
   pub kept_freed : (h h' : BlockPlaces T) (xs xs' : List (BlockPtr T)) (c c' k : ℕ) (x : BlockPtr T) → IsKept h xs c k → c' ≡ c
       → xs' ≡ xs ++ x ∷ [] → IsSome (at_ptr h.blocks x.ptr) → h'.blocks ≡ without_at h.blocks x.ptr
       → h'.vacant ≡ (x.ptr, tt) ∷ h.vacant → h'.chunks ≡ h.chunks → IsKept h' xs' c' k
   kept_freed h h' xs xs' c c' k x kept same e there blocks vacant chunks = record {
-    within = let long = ap length e ∙ length-append xs (x ∷ []) in let le = kept.within in omega (arith, long, le);
+    within = let le = kept.within in grind (arith, e, length-append xs (x ∷ []), le);
     chunks = chunks ∙ kept.chunks ∙ sym (ap (λ l. chunks_of l k) e ∙ chunks_append xs (x ∷ []) k kept.within);
-    vacant = λ q.
-        let stack = ap (λ l. times q (each pointed (drop k l))) e ∙ above_pushed q xs x k kept.within in
-        let more = ap (times q) vacant ∙ times_cons q (x.ptr, tt) h.vacant in
-        let all = kept.vacant q in omega (arith, stack, more, all);
-    count =
-        let long = ap length e ∙ length-append xs (x ∷ []) in let less = ap length blocks in
-        let one = length-without_at h.blocks x.ptr there in let all = kept.count in omega (arith, long, less, one, all);
+    vacant = λ q. grind (arith, e, above_pushed q xs x k kept.within, vacant, times_cons q (x.ptr, tt) h.vacant, kept.vacant q);
+    count = grind (arith, e, length-append xs (x ∷ []), blocks, length-without_at h.blocks x.ptr there, kept.count);
     fits = let le = kept.fits in omega (arith, le, same);
   }
 
@@ -128,11 +114,8 @@ module _ {T : Type 0} where
   -- a pointer is popped that is above the chunks'
   module _ (h : BlockPlaces T) (xs xs' : List (BlockPtr T)) (c k : ℕ) (x : BlockPtr T) (kept : IsKept h xs c k) (e : xs ≡ xs' ++ x ∷ [])
       (more : ¬ (length xs ≡ k)) where
-    long : length xs ≡ length xs' + 1
-    long = ap length e ∙ length-append xs' (x ∷ [])
-
     still : k ≤ length xs'
-    still = let one = long in let le = kept.within in omega (arith, one, le, more)
+    still = let le = kept.within in grind (arith, e, length-append xs' (x ∷ []), le, more)
 
     above : (q : Ptr) → times q (each pointed (drop k xs)) ≡ times q (each pointed (drop k xs')) + once x.ptr q
     above q = ap (λ l. times q (each pointed (drop k l))) e ∙ above_pushed q xs' x k still
@@ -150,10 +133,8 @@ module _ {T : Type 0} where
     kept_popped h' c' b same blocks vacant chunks = record {
       within = still;
       chunks = chunks ∙ kept.chunks ∙ ap (λ l. chunks_of l k) e ∙ chunks_append xs' (x ∷ []) k still;
-      vacant = λ q.
-          let here = above q in let all = kept.vacant q in let less = times_without q x.ptr h.vacant found.0 found.1 in
-          let now = ap (times q) vacant in omega (arith, here, all, less, now);
-      count = let one = long in let put = ap length blocks in let all = kept.count in omega (arith, one, put, all);
+      vacant = λ q. grind (arith, above q, kept.vacant q, times_without q x.ptr h.vacant found.0 found.1, vacant);
+      count = grind (arith, e, length-append xs' (x ∷ []), blocks, kept.count);
       fits = let le = kept.fits in omega (arith, le, same);
     }
 
@@ -172,26 +153,18 @@ module _ {T : Type 0} where
             ∙ sym (ap (λ l. chunks_of l (suc k)) all
             ∙ (λ i. ((subst (λ j. get_or (xs ++ x ∷ vs) j nowhere ≡ x) long (get_or-append_seam xs x vs nowhere) i).ptr, chunk_len k)
             ∷ chunks_append xs (x ∷ vs) k (omega (arith, long)) i));
+        -- no pointer was above the chunks', so no place was vacant
         vacant = λ q.
-            let stack : times q (each pointed (drop (suc k) zs)) ≡ times q (each pointed vs) =
-            ap (λ l. times q (each pointed l)) (ap (drop (suc k)) e' ∙ subst (λ j. drop j (ys ++ vs) ≡ vs) ylong
-            (drop-append_seam ys vs)) in
-            -- no pointer was above the chunks', so no place was vacant
-            let none : times q (each pointed (drop k xs)) ≡ 0 =
-            ap (λ l. times q (each pointed l)) (drop_all k xs (omega (arith, long))) ∙ times_nil (Unit {0}) q in
-            let before = kept.vacant q in
-            let run_is = same q in let now = ap (times q) vacant ∙ times_append q run h.vacant in
-            omega (arith, stack, run_is, now, none, before);
-        count = let held = ap length blocks in let before = kept.count in omega (arith, more, ylong, size, held, before, long);
+            let seam = subst (λ j. drop j (ys ++ vs) ≡ vs) ylong (drop-append_seam ys vs) in
+            let none = drop_all k xs (omega (arith, long)) in
+            grind (arith, seam, none, same q, times_append q run h.vacant, times_nil (Unit {0}) q, kept.vacant q);
+        count = grind (arith, more, ylong, size, blocks, kept.count, long);
         fits = omega (arith, room, size);
       })
 
 -- how many places three chunks and more have
 len_of_more : (k : ℕ) → chunk_len (suc (suc (suc k))) ≡ 256
-len_of_more k =
-    let n : ℕ = suc (suc (suc k)) in
-    cond-false (n == 0) 4 _ (ne_eqb n 0 (λ e. omega (arith, e))) ∙ cond-false (n == 1) 16 _ (ne_eqb n 1 (λ e. omega (arith, e)))
-    ∙ cond-false (n == 2) 64 256 (ne_eqb n 2 (λ e. omega (arith, e)))
+len_of_more k = grind arith
 
 from_three : (k : ℕ) → places_in (suc (suc (suc k))) ≡ 84 + k * 256
 from_three zero = refl

@@ -1,20 +1,8 @@
 -- Room for an array is a row of vacant places, and places in another order are the same places. Assumes `Logic`.
-use mathlib.Core.Path.{◌≡◌, refl, sym, ap, ◌∙◌, subst}
-use Prim.Native.Nat.{ℕ, zero, suc, ◌+◌, ◌*◌, ◌<◌, ◌^◌}
-use native.Mathlib.Omega.{arith}
-use native.Mathlib.Nat.{suc-mul}
-use mathlib.Core.List.{List, [], ◌∷◌, ◌++◌}
-use seplogic.Ra.Ura.{Ura}
-use mir.Syntax.{Ty, ty_array}
-use mir.Raw.{raw as bare}
-use base.Logic.{ent, id⊢}
-use base.Fml.{Fml, froom}
-use types.Logic.{Logic, sem}
-use types.Kit.{‵, ◌⊛◌, ◌$◌, ◌∵◌, !, qed, by, move, keep, use1, split, fsplit, fjoin, flt_i, rewrite, drop, done}
-use denote.RattleType.{RattleType}
-use denote.Memory.{lone}
-use denote.RawPtr.{Ptr, block_ptr}
-use Rattle.std.specs.Mem.{type_size}
+use Rattle.fi_parts.proofs.RawWalks.{◌$◌, ◌*◌, ◌++◌, ◌+◌, ◌<◌, ◌^◌, ◌∙◌, ◌∵◌, ◌∷◌, ◌≡◌, ◌⊛◌, !, Fml, List, Logic, Ptr, RattleType, Ty, Ura}
+use Rattle.fi_parts.proofs.RawWalks.{[], ap, arith, bare, block_ptr, by, done, drop, ent, fjoin, flt_i, froom, fsplit, id⊢, keep, lone}
+use Rattle.fi_parts.proofs.RawWalks.{move, qed, refl, rewrite, sem, split, subst, suc, suc-mul, sym, ty_array, type_size, use1, ‵, ℕ}
+use Prim.Native.Nat.{zero}
 use Rattle.fi_parts.specs.BlockOwner.{times, all_own, places, vacancies_own}
 use Rattle.fi_parts.proofs.Placed.{Cut, cut_at}
 use Rattle.fi_parts.proofs.BlockCounts.{once_same, times_cons, times_cut, times_found, times_empty, times_nil}

@@ -1,19 +1,7 @@
 -- What a `Chunk` owns is taken apart and made. Assumes `Logic`.
-use mathlib.Core.Path.{◌≡◌, refl, ◌∙◌}
-use Prim.Native.Nat.{ℕ, ◌<◌, ◌^◌}
-use mathlib.Core.List.{List, [], ◌∷◌, ◌++◌}
-use seplogic.Ra.Ura.{Ura}
-use lib.Dec.{T}
-use mir.Syntax.{w64}
-use mir.Val.{Val, vint, vptr, vstruct, vcons, vnil, of_list, has_ty, WT}
-use types.Logic.{Logic}
-use types.Kit.{Goal, Step, step, Seq, Item, ‵, ◌$◌, drop, fsplit, fjoin, fpick, feq_l, flt_l}
-use denote.RattleType.{RattleType}
-use denote.Param.{layout}
-use denote.RawPtr.{Ptr, block_ptr, ptr_val}
-use denote.Shadow.{pure_i}
-use denote.Struct.Struct.{Struct}
-use denote.Struct.Owning.{shape}
+use Rattle.fi_parts.proofs.RawWalks.{◌$◌, ◌++◌, ◌<◌, ◌^◌, ◌∙◌, ◌∷◌, ◌≡◌, Goal, Item, List, Logic, Ptr, RattleType, Seq, Step, Struct, T}
+use Rattle.fi_parts.proofs.RawWalks.{Ura, Val, WT, [], block_ptr, drop, feq_l, fjoin, flt_l, fpick, fsplit, has_ty, layout, of_list}
+use Rattle.fi_parts.proofs.RawWalks.{ptr_val, pure_i, refl, shape, step, vcons, vint, vnil, vptr, vstruct, w64, ‵, ℕ}
 use Rattle.core.specs.declared.alloc.Allocator.{Ghosts}
 use Rattle.fi_parts.specs.BlockOwner.{chunk_owns}
 use Rattle.fi_parts.specs.contracts.blocks.chunk.Chunk as chunk

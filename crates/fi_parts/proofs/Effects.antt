@@ -1,8 +1,8 @@
 -- What each effect says of each name, and what it keeps.
-use Rattle.std.specs.Prelude.{◌≡◌, ◌≢◌, ⊤, ◌⊎◌, ◌||◌, ℕ, Bool, true, false, not, if◌then◌else◌, Option, Some, None}
-use Rattle.std.specs.Prelude.{List, [], ◌∷◌, ◌++◌, refl}
+use Rattle.std.specs.Prelude.{◌≡◌, ◌≢◌, ⊤, ◌⊎◌, ◌||◌, ℕ, Bool, true, false, not, if◌then◌else◌, Option, Some, None, List, [], ◌∷◌, ◌++◌}
+use Rattle.std.specs.Prelude.{refl}
 use Rattle.std.proofs.Common.{sym, ◌∙◌, ap, subst, inl, inr, is_some}
-use Rattle.std.proofs.lemmas.Bool.{both_ways, cases_Bool, and_parts, or_left, ne_eqb, cases_eq}
+use Rattle.std.proofs.lemmas.Bool.{both_ways, cases_Bool, and_parts, or_left, ne_eqb}
 use Rattle.fi_parts.proofs.Slots.{eqb_same}
 use Rattle.fi_parts.proofs.Oldest.{phase-with_asks, sound_by-exchange}
 use Rattle.std.proofs.lemmas.List.{append-nil}
@@ -16,17 +16,17 @@ use Rattle.fi_parts.specs.Order.{holds}
 use Rattle.fi_parts.specs.PlaceRules.{IsPlaceRule, IsUntold}
 use Rattle.fi_parts.specs.Places.{is_told}
 use Rattle.fi_parts.specs.Waiting.{Waiters, Waiting, phase_of, is_registered, may_be_named, exchange, noticed, pair, pair_of, IsOrderedBy}
-use Rattle.fi_parts.specs.Waiting.{AreSoundBy, named, with_phases}
-use Rattle.fi_parts.proofs.Waiting.{Becomes, becomes-made, becomes-with_phase, becomes-forgotten, noticed_phase, lives_as, notices}
-use Rattle.fi_parts.proofs.Waiting.{live_if_registered}
-use Rattle.fi_parts.proofs.Notified.{AllBecome, MayNotify, may_notify-front, may_notify-listed, may_notify-none}
+use Rattle.fi_parts.specs.Waiting.{IsLive, with_phase, AreSoundBy, named, with_phases}
+use Rattle.fi_parts.proofs.Waiting.{Becomes, becomes-made, becomes-with_phase, becomes-forgotten, noticed_phase, notices}
+use Rattle.fi_parts.proofs.Waiting.{live_if_registered, live_by, registered_is, placed, HasPlace, last_place, same_places, no_place}
+use Rattle.fi_parts.specs.Pairs.{without_pair}
+use Rattle.fi_parts.proofs.Notified.{AllBecome, fit_one, fit_among, MayNotify, may_notify-front, may_notify-listed, may_notify-none}
 use Rattle.fi_parts.proofs.Notified.{notified-one, phases-notified}
-use Rattle.fi_parts.proofs.Sound.{sound_by-made, sound_by-ended, sound_by-registered, sound_by-registered_apart, sound_by-stays}
-use Rattle.fi_parts.proofs.Sound.{sound_by-set_phase, sound_by-forgotten, sound_by-drop, sound_by-without_place, sound_by-notified}
+use Rattle.fi_parts.proofs.Sound.{sound_by-made, sound_by-polled, sound_by-forgotten, sound_by-drop, sound_by-notified}
 use Rattle.fi_parts.specs.Effects.{WaiterEffect, TakesEffect, first_of, notified}
 use Rattle.fi_parts.specs.Effects.WaiterEffect.{NoChange, Inserts, Registers, RegistersApart, KeepsWaiting, Ends, EndsPlaced, Renews}
-use Rattle.fi_parts.specs.Effects.WaiterEffect.{NotifiesOldest, NotifiesAll, NotifiesListed, NotifiesFront, PopsOldest, AndThen}
-use Rattle.fi_parts.specs.Effects.WaiterEffect.{Asks, Removes, CompletesOldest}
+use Rattle.fi_parts.specs.Effects.WaiterEffect.{NotifiesOldest, NotifiesAll, NotifiesListed, NotifiesFront, PopsOldest, AndThen, Asks}
+use Rattle.fi_parts.specs.Effects.WaiterEffect.{Removes, CompletesOldest}
 use Rattle.fi_parts.specs.Machine.{AllowsBasics}
 use Rattle.fi_parts.specs.MachineTable.{AllowsEffect, Given, waker_change}
 use Rattle.fi_parts.specs.Polled.{can_be_polled, is_wait_phase}
@@ -39,12 +39,7 @@ module _ {W : Type 0} where
   some_phase (Some phase) may = (phase, refl)
 
   pub registered_as : (p : Option (Phase W)) → is_registered p ≡ true → (waker : W) × (p ≡ Some (Registered waker))
-  registered_as None is = absurd (both_ways false refl is)
-  registered_as (Some Fresh) is = absurd (both_ways false refl is)
-  registered_as (Some (Registered w)) is = (w, refl)
-  registered_as (Some Told) is = absurd (both_ways false refl is)
-  registered_as (Some Complete) is = absurd (both_ways false refl is)
-  registered_as (Some Ended) is = absurd (both_ways false refl is)
+  registered_as p is = registered_is p is
 
 module _ {W : Type 0} (place : Option (Phase W) → Bool) (rule : IsPlaceRule place) where
   -- who may be named has no place, unless it is told and the told have places
@@ -119,6 +114,56 @@ module _ {D W : Type 0} where
 
   same_phases : (old new is : Waiting D W) → new ≡ is → is.side ≡ old.side → (q : ℕ) → phase_of new.side q ≡ phase_of old.side q
   same_phases old new is same sides q = ap (λ (w : Waiting D W). phase_of w.side q) same ∙ ap (λ (s : Waiters D W). phase_of s q) sides
+
+  -- the effects that a poll of this name may have
+  abbrev pub IsOf : ℕ → WaiterEffect D W → Type 0
+  IsOf name (Registers other waker) = name ≡ other
+  IsOf name (RegistersApart other waker) = name ≡ other
+  IsOf name (KeepsWaiting other waker) = name ≡ other
+  IsOf name (Ends other) = name ≡ other
+  IsOf name (EndsPlaced other) = name ≡ other
+  IsOf name (Renews other) = name ≡ other
+  IsOf name effect = ⊥
+
+  -- the phase that such a poll leaves
+  abbrev polled_to : WaiterEffect D W → Phase W
+  polled_to (Registers other waker) = Registered waker
+  polled_to (RegistersApart other waker) = Registered waker
+  polled_to (KeepsWaiting other waker) = Registered waker
+  polled_to (Renews other) = Fresh
+  polled_to effect = Ended
+
+  rephased : (old new : Waiting D W) (name other : ℕ) (phase : Phase W) (queue : List ℕ) (out : List (ℕ × W)) → name ≡ other →
+      IsLive old.side other → new ≡ record { side = record { live = with_phase old.side.live other phase; queue = queue }; out = out } →
+      Becomes old.side new.side name (Some phase)
+  rephased old new name other phase queue out same lives is = rw (is, same) (becomes-with_phase old.side other phase queue lives)
+
+  if_named : (side : Waiters D W) (name : ℕ) → may_be_named (phase_of side name) ≡ true → IsLive side name
+  if_named side name may = live_by may_be_named refl side name may
+
+  polled_becomes : (effect : WaiterEffect D W) (old new : Waiting D W) (name : ℕ) → IsOf name effect → TakesEffect effect old new →
+      Becomes old.side new.side name (Some (polled_to effect))
+  polled_becomes (Registers other waker) old new name same taken =
+      rephased old new name other _ _ _ same (if_named old.side other taken.0) taken.1
+  polled_becomes (RegistersApart other waker) old new name same taken =
+      rephased old new name other _ _ _ same (if_named old.side other taken.0) taken.1
+  polled_becomes (KeepsWaiting other waker) old new name same taken =
+      rephased old new name other _ _ _ same (live_if_registered old.side other taken.0) taken.1
+  polled_becomes (Ends other) old new name same taken =
+      rephased old new name other _ _ _ same (if_named old.side other taken.0) taken.1
+  polled_becomes (EndsPlaced other) old new name same taken = rephased old new name other _ _ _ same taken.0 taken.1
+  polled_becomes (Renews other) old new name same taken =
+      rephased old new name other _ _ _ same (if_named old.side other taken.0) taken.1
+  polled_becomes effect old new name same taken = absurd same
+
+  -- Who was polled lives, and who was made is fresh.
+  pub polled_lives : (effect : WaiterEffect D W) (old new : Waiting D W) (name : ℕ) → IsOf name effect → TakesEffect effect old new →
+      is_some (phase_of new.side name) ≡ true
+  polled_lives effect old new name of taken = ap is_some (polled_becomes effect old new name of taken).here
+
+  pub added_fresh : (old new : Waiting D W) (name : ℕ) (asks : D) → TakesEffect (Inserts name asks) old new →
+      phase_of new.side name ≡ Some Fresh
+  added_fresh old new name asks taken = (to old new _ name (Some Fresh) taken.1 (becomes-made old.side name asks)).here
 
 one_held : (name : ℕ) → holds name (name ∷ []) ≡ true
 one_held name = or_left _ _ (eqb_same name)
@@ -254,6 +299,17 @@ module _ {D W : Type 0} {place : Option (Phase W) → Bool} (rule : IsPlaceRule 
     notified_sound phase names old new was did =
         by new _ did.is (sound_by-notified place rule known phase names did.queue old did.may_be did.is_known was did.may)
 
+    polled_sound : (old new : Waiting D W) (name : ℕ) (phase : Phase W) (queue : List ℕ) → known (Some phase) ≡ true → IsSound old →
+        IsLive old.side name → HasPlace name (place (Some phase)) old.side.queue queue →
+        new ≡ record { side = record { live = with_phase old.side.live name phase; queue = queue }; out = without_pair name old.out } →
+        IsSound new
+    polled_sound old new name phase queue is was lives places taken =
+        by new _ taken (sound_by-polled place rule known old.side old.out name phase queue is was lives places)
+
+    out_of_queue : (name : ℕ) (old : Waiting D W) → IsSound old → may_be_named (phase_of old.side name) ≡ true →
+        IsUntold (place (Some Told)) (phase_of old.side name) → holds name old.side.queue ≡ false
+    out_of_queue name old was may untold = was.ordered.queued name ∙ unplaced place rule (phase_of old.side name) may untold
+
     -- An effect keeps the queue and out in order.
     pub effect_sound : (effect : WaiterEffect D W) (old new : Waiting D W) → AllowsEffect rule known old effect → IsSound old →
         TakesEffect effect old new → IsSound new
@@ -261,28 +317,25 @@ module _ {D W : Type 0} {place : Option (Phase W) → Bool} (rule : IsPlaceRule 
     effect_sound (Inserts name asks) old new is was taken =
         by new _ taken.1 (sound_by-made place rule known old.side old.out name asks knows.fresh was taken.0)
     effect_sound (Registers name waker) old new is was taken =
-        let p = some_phase (phase_of old.side name) taken.0 in
         let can = given (place (Some (Registered waker))) is in
-        by new _ taken.1 (sound_by-registered place rule known old.side old.out name waker p.0 can.0 (knows.registered waker) was p.1
-        (sym (ap place p.1) ∙ unplaced place rule (phase_of old.side name) taken.0 can.1))
+        polled_sound old new name (Registered waker) _ (knows.registered waker) was (if_named old.side name taken.0)
+        (last_place name _ old.side.queue was.ordered.once can.0 (out_of_queue name old was taken.0 can.1)) taken.1
     effect_sound (RegistersApart name waker) old new is was taken =
-        let p = some_phase (phase_of old.side name) taken.0 in
         let can = given (not (place (Some (Registered waker)))) is in
-        by new _ taken.1 (sound_by-registered_apart place rule known old.side old.out name waker p.0 (is_false _ can.0)
-        (knows.registered waker) was p.1 (sym (ap place p.1) ∙ unplaced place rule (phase_of old.side name) taken.0 can.1))
+        polled_sound old new name (Registered waker) _ (knows.registered waker) was (if_named old.side name taken.0)
+        (same_places name _ old.side.queue was.ordered.once (out_of_queue name old was taken.0 can.1 ∙ sym (is_false _ can.0))) taken.1
     effect_sound (KeepsWaiting name waker) old new is was taken =
-        let p = registered_as (phase_of old.side name) taken.0 in
-        by new _ taken.1 (sound_by-stays place rule known old.side old.out name waker p.0 (knows.registered waker) was p.1)
+        polled_sound old new name (Registered waker) _ (knows.registered waker) was (live_if_registered old.side name taken.0)
+        (same_places name _ old.side.queue was.ordered.once
+        (was.ordered.queued name ∙ placed place rule (phase_of old.side name) taken.0 ∙ sym (rule.registered waker))) taken.1
     effect_sound (Ends name) old new is was taken =
-        let p = some_phase (phase_of old.side name) taken.0 in
-        by new _ taken.1 (sound_by-ended place rule known old.side old.out name p.0 knows.ended was p.1
-        (sym (ap place p.1) ∙ unplaced place rule (phase_of old.side name) taken.0 is))
+        polled_sound old new name Ended _ knows.ended was (if_named old.side name taken.0)
+        (same_places name _ old.side.queue was.ordered.once (out_of_queue name old was taken.0 is ∙ sym rule.ended)) taken.1
     effect_sound (EndsPlaced name) old new is was taken =
-        by new _ taken.1 (sound_by-without_place place rule known old.side old.out name knows.ended was taken.0)
+        polled_sound old new name Ended _ knows.ended was taken.0 (no_place name _ old.side.queue was.ordered.once rule.ended) taken.1
     effect_sound (Renews name) old new is was taken =
-        let p = some_phase (phase_of old.side name) taken.0 in
-        by new _ taken.1 (sound_by-set_phase place rule known Fresh old.side old.out name p.0 rule.fresh refl knows.fresh was p.1
-        (sym (ap place p.1) ∙ unplaced place rule (phase_of old.side name) taken.0 is))
+        polled_sound old new name Fresh _ knows.fresh was (if_named old.side name taken.0)
+        (same_places name _ old.side.queue was.ordered.once (out_of_queue name old was taken.0 is ∙ sym rule.fresh)) taken.1
     effect_sound (Asks name asks) old new is was taken = by new _ taken.1 (sound_by-exchange place known old.side old.out name asks was)
     effect_sound (Removes name) old new is was taken =
         by new _ taken.1 (sound_by-forgotten place rule known old.side old.out name knows.gone was)
@@ -305,25 +358,12 @@ module _ {D W : Type 0} {place : Option (Phase W) → Bool} (rule : IsPlaceRule 
         TakesEffect effect old new → After effect old new
     effect_after NoChange old new is was taken = same_phases old new old taken refl
     effect_after (Inserts name asks) old new is was taken = to old new _ name (Some Fresh) taken.1 (becomes-made old.side name asks)
-    effect_after (Registers name waker) old new is was taken =
-        let p = some_phase (phase_of old.side name) taken.0 in
-        to old new _ name (Some (Registered waker)) taken.1
-        (becomes-with_phase old.side name (Registered waker) _ (lives_as old.side name p.0 p.1))
-    effect_after (RegistersApart name waker) old new is was taken =
-        let p = some_phase (phase_of old.side name) taken.0 in
-        to old new _ name (Some (Registered waker)) taken.1
-        (becomes-with_phase old.side name (Registered waker) _ (lives_as old.side name p.0 p.1))
-    effect_after (KeepsWaiting name waker) old new is was taken =
-        to old new _ name (Some (Registered waker)) taken.1
-        (becomes-with_phase old.side name (Registered waker) _ (live_if_registered old.side name taken.0))
-    effect_after (Ends name) old new is was taken =
-        let p = some_phase (phase_of old.side name) taken.0 in
-        to old new _ name (Some Ended) taken.1 (becomes-with_phase old.side name Ended _ (lives_as old.side name p.0 p.1))
-    effect_after (EndsPlaced name) old new is was taken =
-        to old new _ name (Some Ended) taken.1 (becomes-with_phase old.side name Ended _ taken.0)
-    effect_after (Renews name) old new is was taken =
-        let p = some_phase (phase_of old.side name) taken.0 in
-        to old new _ name (Some Fresh) taken.1 (becomes-with_phase old.side name Fresh _ (lives_as old.side name p.0 p.1))
+    effect_after (Registers name waker) old new is was taken = polled_becomes (Registers name waker) old new name refl taken
+    effect_after (RegistersApart name waker) old new is was taken = polled_becomes (RegistersApart name waker) old new name refl taken
+    effect_after (KeepsWaiting name waker) old new is was taken = polled_becomes (KeepsWaiting name waker) old new name refl taken
+    effect_after (Ends name) old new is was taken = polled_becomes (Ends name) old new name refl taken
+    effect_after (EndsPlaced name) old new is was taken = polled_becomes (EndsPlaced name) old new name refl taken
+    effect_after (Renews name) old new is was taken = polled_becomes (Renews name) old new name refl taken
     effect_after (Asks name asks) old new is was taken = λ q.
         same_phases (asking name asks old) new _ taken.1 refl q ∙ phase-with_asks old.side.live name asks q
     effect_after (Removes name) old new is was taken = to old new _ name None taken.1 (becomes-forgotten old.side name)
@@ -350,50 +390,6 @@ module _ {D W : Type 0} {place : Option (Phase W) → Bool} (rule : IsPlaceRule 
       effect_after one old taken.0 is.0 was taken.1,
       effect_after other taken.0 new (is.1 taken.0 taken.1) (effect_sound one old taken.0 is.0 was taken.1) taken.2,
     )
-
-module _ {D W : Type 0} where
-  -- the effects that a poll of this name may have
-  abbrev pub IsOf : ℕ → WaiterEffect D W → Type 0
-  IsOf name (Registers other waker) = name ≡ other
-  IsOf name (RegistersApart other waker) = name ≡ other
-  IsOf name (KeepsWaiting other waker) = name ≡ other
-  IsOf name (Ends other) = name ≡ other
-  IsOf name (EndsPlaced other) = name ≡ other
-  IsOf name (Renews other) = name ≡ other
-  IsOf name effect = ⊥
-
-  lives_then : (old new is : Waiting D W) (name other : ℕ) (phase : Phase W) → name ≡ other → new ≡ is →
-      Becomes old.side is.side other (Some phase) → is_some (phase_of new.side name) ≡ true
-  lives_then old new is name other phase same taken b =
-      ap (λ n. is_some (phase_of new.side n)) same ∙ ap is_some (to old new is other (Some phase) taken b).here
-
-  -- Who was polled lives, and who was made is fresh.
-  pub polled_lives : (effect : WaiterEffect D W) (old new : Waiting D W) (name : ℕ) → IsOf name effect → TakesEffect effect old new →
-      is_some (phase_of new.side name) ≡ true
-  polled_lives (Registers other waker) old new name same taken =
-      let p = some_phase (phase_of old.side other) taken.0 in
-      lives_then old new _ name other (Registered waker) same taken.1
-      (becomes-with_phase old.side other (Registered waker) _ (lives_as old.side other p.0 p.1))
-  polled_lives (RegistersApart other waker) old new name same taken =
-      let p = some_phase (phase_of old.side other) taken.0 in
-      lives_then old new _ name other (Registered waker) same taken.1
-      (becomes-with_phase old.side other (Registered waker) _ (lives_as old.side other p.0 p.1))
-  polled_lives (KeepsWaiting other waker) old new name same taken =
-      lives_then old new _ name other (Registered waker) same taken.1
-      (becomes-with_phase old.side other (Registered waker) _ (live_if_registered old.side other taken.0))
-  polled_lives (Ends other) old new name same taken =
-      let p = some_phase (phase_of old.side other) taken.0 in
-      lives_then old new _ name other Ended same taken.1 (becomes-with_phase old.side other Ended _ (lives_as old.side other p.0 p.1))
-  polled_lives (EndsPlaced other) old new name same taken =
-      lives_then old new _ name other Ended same taken.1 (becomes-with_phase old.side other Ended _ taken.0)
-  polled_lives (Renews other) old new name same taken =
-      let p = some_phase (phase_of old.side other) taken.0 in
-      lives_then old new _ name other Fresh same taken.1 (becomes-with_phase old.side other Fresh _ (lives_as old.side other p.0 p.1))
-  polled_lives effect old new name same taken = absurd same
-
-  pub added_fresh : (old new : Waiting D W) (name : ℕ) (asks : D) → TakesEffect (Inserts name asks) old new →
-      phase_of new.side name ≡ Some Fresh
-  added_fresh old new name asks taken = (to old new _ name (Some Fresh) taken.1 (becomes-made old.side name asks)).here
 
 -- Who is fresh or waits is fit for this, and so is who was notified, in the phases that are known.
 pub record AreFit {W : Type 0} (known fit : Option (Phase W) → Bool) : Type 0 where
@@ -425,27 +421,8 @@ noticed_fit known fit can Renew is = can.fresh
 
 module _ {W : Type 0} (fit : Option (Phase W) → Bool) where
   still_fit : (phase : Phase W) (p : Option (Phase W)) → fit (Some phase) ≡ true → fit p ≡ true → fit (noticed_phase phase p) ≡ true
-  still_fit phase None can was = was
-  still_fit phase (Some Fresh) can was = was
   still_fit phase (Some (Registered w)) can was = can
-  still_fit phase (Some Told) can was = was
-  still_fit phase (Some Complete) can was = was
-  still_fit phase (Some Ended) can was = was
-
-  module _ {D : Type 0} (old new : Waiters D W) (q : ℕ) where
-    fit_among : (names : List ℕ) (phase : Phase W) → fit (Some phase) ≡ true → AllBecome old new names phase →
-        fit (phase_of old q) ≡ true → fit (phase_of new q) ≡ true
-    fit_among names phase can now was = elim (cases_Bool (holds q names)) [
-      | inl at ↦ ap fit (now.these q at) ∙ can
-      | inr off ↦ ap fit (now.others q off) ∙ was
-    ]
-
-    pub fit_one : (name : ℕ) (phase : Phase W) → fit (Some phase) ≡ true → Becomes old new name (Some phase) → fit (phase_of old q) ≡ true →
-        fit (phase_of new q) ≡ true
-    fit_one name phase can now was = elim (cases_eq q name) [
-      | inl same ↦ ap (λ n. fit (phase_of new n)) same ∙ ap fit now.here ∙ can
-      | inr ne ↦ ap fit (now.others q ne) ∙ was
-    ]
+  still_fit phase p can was = was
 
 module _ {D W : Type 0} {place : Option (Phase W) → Bool} (rule : IsPlaceRule place) (known : Option (Phase W) → Bool)
     (knows : AllowsBasics known) (fit : Option (Phase W) → Bool) (can : AreFit known fit) where
@@ -453,18 +430,16 @@ module _ {D W : Type 0} {place : Option (Phase W) → Bool} (rule : IsPlaceRule 
   pub stays_fit : (effect : WaiterEffect D W) (old new : Waiting D W) → AllowsEffect rule known old effect →
       AreSoundBy place known old.side old.out → TakesEffect effect old new → After effect old new → (q : ℕ) →
       SparedBy (waker_change effect) q → fit (phase_of old.side q) ≡ true → fit (phase_of new.side q) ≡ true
-  stays_fit NoChange old new is sound taken now q spared was = ap fit (now q) ∙ was
-  stays_fit (Inserts name asks) old new is sound taken now q spared was = fit_one fit old.side new.side q name Fresh can.fresh now was
+  stays_fit (Inserts name asks) old new is sound taken now q spared was = fit_one fit old.side new.side q name (Some Fresh) can.fresh now was
   stays_fit (Registers name waker) old new is sound taken now q spared was =
-      fit_one fit old.side new.side q name (Registered waker) (can.registered waker) now was
+      fit_one fit old.side new.side q name (Some (Registered waker)) (can.registered waker) now was
   stays_fit (RegistersApart name waker) old new is sound taken now q spared was =
-      fit_one fit old.side new.side q name (Registered waker) (can.registered waker) now was
+      fit_one fit old.side new.side q name (Some (Registered waker)) (can.registered waker) now was
   stays_fit (KeepsWaiting name waker) old new is sound taken now q spared was =
-      fit_one fit old.side new.side q name (Registered waker) (can.registered waker) now was
+      fit_one fit old.side new.side q name (Some (Registered waker)) (can.registered waker) now was
   stays_fit (Ends name) old new is sound taken now q spared was = ap fit (now.others q spared) ∙ was
   stays_fit (EndsPlaced name) old new is sound taken now q spared was = ap fit (now.others q spared) ∙ was
-  stays_fit (Renews name) old new is sound taken now q spared was = fit_one fit old.side new.side q name Fresh can.fresh now was
-  stays_fit (Asks name asks) old new is sound taken now q spared was = ap fit (now q) ∙ was
+  stays_fit (Renews name) old new is sound taken now q spared was = fit_one fit old.side new.side q name (Some Fresh) can.fresh now was
   stays_fit (Removes name) old new is sound taken now q spared was = ap fit (now.others q spared) ∙ was
   stays_fit (NotifiesOldest notice) old new is sound taken now q spared was = elim (now q) [
     | inl same ↦ ap fit same ∙ was
@@ -478,8 +453,7 @@ module _ {D W : Type 0} {place : Option (Phase W) → Bool} (rule : IsPlaceRule 
   stays_fit (NotifiesFront keeps front) old new is sound taken now q spared was =
       fit_among fit old.side new.side q front Told (can.told is.0) now was
   stays_fit (CompletesOldest name asks) old new is sound taken now q spared was =
-      fit_one fit old.side new.side q name Complete (can.complete is) now was
-  stays_fit (PopsOldest waker) old new is sound taken now q spared was = ap fit (now q) ∙ was
+      fit_one fit old.side new.side q name (Some Complete) (can.complete is) now was
   stays_fit (AndThen one other) old new is sound taken now q spared was =
       let mid = taken.0 in
       let sound_then = effect_sound rule known knows one old mid is.0 sound taken.1 in
@@ -487,6 +461,7 @@ module _ {D W : Type 0} {place : Option (Phase W) → Bool} (rule : IsPlaceRule 
       stays_fit other mid new allows sound_then taken.2 (effect_after rule known knows other mid new allows sound_then taken.2) q
       (subst (λ (e : WakerChange W). SparedBy e q) (sym is.2) tt)
       (stays_fit one old mid is.0 sound taken.1 (effect_after rule known knows one old mid is.0 sound taken.1) q spared was)
+  stays_fit effect old new is sound taken now q spared was = ap fit (now q) ∙ was
 
   -- whoever pends by such a call is fit now
   abbrev pub IsFitIfPending : WakerChange W → Waiting D W → Type 0

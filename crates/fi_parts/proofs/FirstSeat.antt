@@ -2,6 +2,7 @@
 use Rattle.std.proofs.Common.{◌≡◌, ◌≢◌, ◌≤◌, ◌<◌, ℕ, true, false, ◌&&◌, nat_lt, nat_le, ◌==◌, cond, Option, Some, None, unwrap_or}
 use Rattle.std.proofs.Common.{refl, sym, ap, ◌∙◌, inl, inr, arith}
 use Rattle.std.proofs.lemmas.Bool.{cases_Bool, ltb-false, leb-true, le-leb, both_ways, false_from_ne_true, and_parts}
+use Rattle.std.proofs.lemmas.Option.{same_Some}
 use Rattle.std.specs.FinMap as map
 use Rattle.std.specs.FinSet as set
 use Rattle.fi_parts.specs.declared.phase.LiveFuture.{LiveFuture}
@@ -10,7 +11,7 @@ use Rattle.fi_parts.specs.Waiting.{Waiters, Waiting, phase_in, asks_in, is_regis
 use Rattle.fi_parts.specs.declared.deadlines.Deadline.{Deadline}
 use Rattle.fi_parts.specs.Deadlines.{expiry_of, is_entered, IsLeastDue, NoneDue}
 use Rattle.fi_parts.specs.Seats.{deadlines_of, due_of, AreSeated, IsFirst}
-use Rattle.fi_parts.proofs.Seats.{one_value, unseated_in, get-unseated, phase-unseated}
+use Rattle.fi_parts.proofs.Seats.{unseated_in, get-unseated, phase-unseated}
 use Rattle.std.specs.Ordering.{nat_cmp, ordering_then}
 use Rattle.std.specs.declared.cmp.Ordering.TheVariants.{Less, Equal, Greater}
 use Rattle.fi_parts.specs.declared.deadlines.Due.{Due}
@@ -32,9 +33,8 @@ module _ {W : Type 0} (w : Waiting Deadline W) (heap : HeapModel Due) (was : Are
       (is_registered (Some g.phase) ≡ true)
   registered_here q is = each (map.get w.side.live q) refl (ap is_registered (sym (phase-unseated w.side.live q)) ∙ is)
     where
-      each : (o : Option (LiveFuture Deadline W)) → map.get w.side.live q ≡ o → is_registered (phase_in o) ≡ true →
-          (g : LiveFuture Deadline W) ×
-          (map.get w.side.live q ≡ Some g) × (is_registered (Some g.phase) ≡ true)
+      each : (o : Option (LiveFuture Deadline W)) → map.get w.side.live q ≡ o → is_registered (phase_in o) ≡ true
+          → (g : LiveFuture Deadline W) × (map.get w.side.live q ≡ Some g) × (is_registered (Some g.phase) ≡ true)
       each None at h = absurd (both_ways false refl h)
       each (Some g) at h = (g, at, h)
 
@@ -63,7 +63,7 @@ module _ {W : Type 0} (w : Waiting Deadline W) (heap : HeapModel Due) (was : Are
     pub first_expiry : expiry_of seen due.name ≡ due.expiry
     first_expiry =
         let f = its_future in
-        expiry_at due.name f.0 f.1 ∙ ap (λ (d : Due). d.expiry) (one_value (due_of f.0 due.name) due (sym (was.seated due.name f.0 f.1) ∙
+        expiry_at due.name f.0 f.1 ∙ ap (λ (d : Due). d.expiry) (same_Some (due_of f.0 due.name) due (sym (was.seated due.name f.0 f.1) ∙
         ap (value_under heap) f.2 ∙ first.value))
 
     pub least : (other : ℕ) → is_entered seen other ≡ true → due.expiry ≤ expiry_of seen other

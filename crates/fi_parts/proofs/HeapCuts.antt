@@ -1,18 +1,17 @@
 -- A node in a tree, and the tree without it.
-use Rattle.std.proofs.Common.{◌≡◌, ◌≢◌, ℕ, zero, suc, ◌+◌, ◌≤◌, true, false, Option, Some, None, is_some, IfSome, refl, sym, ap}
-use Rattle.std.proofs.Common.{subst, ◌∙◌, inl, inr, arith}
+use Rattle.std.proofs.Common.{◌≡◌, ◌≢◌, ℕ, zero, suc, ◌+◌, ◌≤◌, true, false, Option, Some, None, is_some, IfSome, refl, sym, ap, subst, ◌∙◌}
+use Rattle.std.proofs.Common.{inl, inr, arith}
 use Rattle.std.proofs.lemmas.Bool.{cases_eq, true≢false}
 use Rattle.std.specs.declared.cmp.Ordering.{Ordering}
 use Rattle.fi_parts.specs.declared.heap_nodes.Back.{Back}
 use Rattle.fi_parts.specs.declared.heap_nodes.Back.TheVariants.{Root, Parent, Sibling}
 use Rattle.fi_parts.specs.declared.heap_nodes.HeapLinks.{HeapLinks}
-use Rattle.fi_parts.specs.HeapForests.{Forest, nil, node, Tree, no_tree, tree, head, top, one_at, count, count_in, child_to}
-use Rattle.fi_parts.specs.HeapForests.{next_to, linked, backed, pointed, root_to, IsBackLinked, Makes, Strings, Roots, Below}
-use Rattle.fi_parts.specs.HeapForests.{Ordered, OrderedIn}
+use Rattle.fi_parts.specs.HeapForests.{Forest, nil, node, Tree, no_tree, tree, head, top, one_at, count, count_in, child_to, next_to}
+use Rattle.fi_parts.specs.HeapForests.{linked, backed, pointed, root_to, IsBackLinked, Makes, Strings, Roots, Below, Ordered, OrderedIn}
 use Rattle.fi_parts.specs.HeapPieces.{flag, Pieces, HeapSplit}
-use Rattle.fi_parts.proofs.HeapForests.{one_at-same, one_at-other, not_there, linked-same, linked-other, backed-other}
-use Rattle.fi_parts.proofs.HeapForests.{Makes-alike, Makes-backed, Strings-made, Ordered-under}
-use Rattle.fi_parts.proofs.HeapPieces.{flag-le, flag-some, flag-same}
+use Rattle.fi_parts.proofs.HeapForests.{differs, one_at-same, one_at-other, not_there, linked-same, linked-other, backed-other, Makes-alike}
+use Rattle.fi_parts.proofs.HeapForests.{Makes-backed, Strings-made, Ordered-under}
+use Rattle.fi_parts.proofs.HeapPieces.{flag-le, flag-some, flag-same, parts}
 
 -- the way from the root to a list of trees: the nodes passed, with what stands on their other sides
 data Path : Type 0 where
@@ -83,15 +82,10 @@ not_along k x path at none same =
     let alike : along k path ≡ along x path = ap (λ y. along y path) same in
     omega arith
 
-differs-along : (k y : ℕ) → one_at k y ≡ 0 → k ≢ y
-differs-along k y none same =
-    let one : one_at k y ≡ 1 = ap (λ z. one_at z y) same ∙ one_at-same y in
-    omega arith
-
 pointed-other : (g : ℕ → Option HeapLinks) (path : Path) (to : Option ℕ) (k : ℕ) → along k path ≡ 0 → pointed g (back_from path) to k ≡ g k
-pointed-other g (from_root r) to k none = linked-other g r _ k (differs-along k r none)
-pointed-other g (into y rest path) to k none = linked-other g y _ k (differs-along k y (omega arith))
-pointed-other g (past y kids path) to k none = linked-other g y _ k (differs-along k y (omega arith))
+pointed-other g (from_root r) to k none = linked-other g r _ k (differs k r none)
+pointed-other g (into y rest path) to k none = linked-other g y _ k (differs k y (omega arith))
+pointed-other g (past y kids path) to k none = linked-other g y _ k (differs k y (omega arith))
 
 Leads-pointed : (g : ℕ → Option HeapLinks) (path : Path) (old to : Option ℕ) → ((k : ℕ) → along k path ≤ 1) → Leads g path old
     → Leads (pointed g (back_from path) to) path to
@@ -216,28 +210,18 @@ module _ {T : Type 0} (cmp : T → T → Ordering) (g : ℕ → Option HeapLinks
       let off_kids : count x kids ≡ 0 = omega arith in record {
         back_linked = tt;
         next_linked = tt;
-        parts = λ h is gone others. record {
-          main = no_tree;
-          held = no_tree;
-          rest = kids;
-          pairs = nil;
-          main_top = refl;
-          held_top = refl;
-          rest_head = refl;
-          pairs_head = refl;
-          pieces = record {
-            main_made = tt;
-            held_made = tt;
-            rest_made = Strings-made h (Parent x) kids (Makes-alike g h (Parent x) kids
-                (λ k at. ap (λ f. f k) is ∙ linked-other g x None k (not_there k x kids at off_kids)) p.main_made.1);
-            pairs_made = tt;
-            main_ordered = tt;
-            held_ordered = tt;
-            rest_ordered = Ordered-under cmp v (Some x) kids p.main_ordered;
-            pairs_ordered = tt;
-            tally = λ k. let before = p.tally k in let now = tally-cut h x (count k kids) k gone others (omega arith) in omega arith;
-          };
-        };
+        parts = λ h is gone others. (parts cmp v h no_tree no_tree kids nil None None (head kids) None refl refl refl refl (record {
+          main_made = tt;
+          held_made = tt;
+          rest_made = Strings-made h (Parent x) kids (Makes-alike g h (Parent x) kids
+              (λ k at. ap (λ f. f k) is ∙ linked-other g x None k (not_there k x kids at off_kids)) p.main_made.1);
+          pairs_made = tt;
+          main_ordered = tt;
+          held_ordered = tt;
+          rest_ordered = Ordered-under cmp v (Some x) kids p.main_ordered;
+          pairs_ordered = tt;
+          tally = λ k. let before = p.tally k in let now = tally-cut h x (count k kids) k gone others (omega arith) in omega arith;
+        })).0;
       }
 
   module _ (path : Path) (x : ℕ) (kids rest : Forest) (p : Pieces cmp g v (plug path (node x kids rest)) no_tree nil nil) where
@@ -299,32 +283,24 @@ module _ {T : Type 0} (cmp : T → T → Ordering) (g : ℕ → Option HeapLinks
     cut-path = record {
       back_linked = back-linked (linked g x None) path (Some x) leads-1;
       next_linked = head-linked rest (Sibling x) rest-then;
-      parts = λ h is gone others. record {
-        main = plug path rest;
-        held = no_tree;
-        rest = kids;
-        pairs = nil;
-        main_top = top-plug path rest (node x kids rest) ∙ sym (root_to-same (top (plug path (node x kids rest))) (head rest) path);
-        held_top = refl;
-        rest_head = refl;
-        pairs_head = refl;
-        pieces = record {
-          main_made = subst (λ f. Roots f (plug path rest)) (sym is) (join at_last path rest leads-last rest-last);
-          held_made = tt;
-          rest_made = subst (λ f. Strings f kids) (sym is) (Strings-made at_last (Parent x) kids kids-last);
-          pairs_made = tt;
-          main_ordered = join-order cmp v path rest order.0 order.1.2;
-          held_ordered = tt;
-          rest_ordered = Ordered-under cmp v (Some x) kids order.1.1;
-          pairs_ordered = tt;
-          tally = λ k.
-              let before = p.tally k in
-              let sum = count-plug k path (node x kids rest) in
-              let left = count-plug k path rest in
-              let now = tally-cut h x (along k path + (count k kids + count k rest)) k gone others (omega arith) in
-              omega arith;
-        };
-      };
+      parts = λ h is gone others. (parts cmp v h (plug path rest) no_tree kids nil _ None (head kids) None
+          (top-plug path rest (node x kids rest) ∙ sym (root_to-same (top (plug path (node x kids rest))) (head rest) path)) refl refl refl
+          (record {
+            main_made = subst (λ f. Roots f (plug path rest)) (sym is) (join at_last path rest leads-last rest-last);
+            held_made = tt;
+            rest_made = subst (λ f. Strings f kids) (sym is) (Strings-made at_last (Parent x) kids kids-last);
+            pairs_made = tt;
+            main_ordered = join-order cmp v path rest order.0 order.1.2;
+            held_ordered = tt;
+            rest_ordered = Ordered-under cmp v (Some x) kids order.1.1;
+            pairs_ordered = tt;
+            tally = λ k.
+                let before = p.tally k in
+                let sum = count-plug k path (node x kids rest) in
+                let left = count-plug k path rest in
+                let now = tally-cut h x (along k path + (count k kids + count k rest)) k gone others (omega arith) in
+                omega arith;
+          })).0;
     }
 
   cut-tree : (x r : ℕ) (kids : Forest) (l : HeapLinks) → g x ≡ Some l → Pieces cmp g v (tree r kids) no_tree nil nil

@@ -1,6 +1,6 @@
 -- Forests that links make: what a change of the links leaves, and what the order says.
-use Rattle.std.proofs.Common.{◌≡◌, ◌≢◌, ℕ, zero, suc, ◌+◌, ◌≤◌, ◌<◌, true, false, eqb, List, [], ◌∷◌, length, Option, Some, None}
-use Rattle.std.proofs.Common.{is_some, refl, sym, ap, subst, ◌∙◌, inl, inr, arith}
+use Rattle.std.proofs.Common.{◌≡◌, ◌≢◌, ℕ, zero, suc, ◌+◌, ◌≤◌, ◌<◌, true, false, eqb, List, [], ◌∷◌, length, Option, Some, None, is_some}
+use Rattle.std.proofs.Common.{refl, sym, ap, subst, ◌∙◌, inl, inr, arith}
 use Rattle.std.proofs.lemmas.Bool.{eq-eqb, ne_eqb, cond-true, cond-false, cases_eq, false≢true, or_cases}
 use Rattle.std.proofs.lemmas.Map.Steps.{length-le_from_distinct_below}
 use Rattle.std.specs.List.{IsDistinct, AllByRecursion, list_any}
@@ -11,9 +11,9 @@ use Rattle.std.specs.declared.cmp.Ordering.TheVariants.{Less, Equal, Greater}
 use Rattle.fi_parts.specs.declared.heap_nodes.Back.{Back}
 use Rattle.fi_parts.specs.declared.heap_nodes.Back.TheVariants.{Parent, Sibling}
 use Rattle.fi_parts.specs.declared.heap_nodes.HeapLinks.{HeapLinks}
-use Rattle.fi_parts.specs.HeapForests.{Forest, nil, node, Tree, no_tree, tree, head, one_at, count, count_in, roots, child_of}
-use Rattle.fi_parts.specs.HeapForests.{next_of, child_to, back_to, placed, linked, backed, adopted_before, adopted, Makes}
-use Rattle.fi_parts.specs.HeapForests.{Strings, Holds, Roots, span, at_most, Below, Ordered, OrderedIn}
+use Rattle.fi_parts.specs.HeapForests.{Forest, nil, node, Tree, no_tree, tree, head, one_at, count, count_in, roots, child_of, next_of}
+use Rattle.fi_parts.specs.HeapForests.{next_to, child_to, back_to, placed, linked, backed, adopted_before, adopted, Makes, Strings, Holds}
+use Rattle.fi_parts.specs.HeapForests.{Roots, span, at_most, Below, Ordered, OrderedIn}
 
 -- counts
 
@@ -138,9 +138,13 @@ pub placed-is : (o : Option HeapLinks) (child next : Option ℕ) (back : Back) �
 placed-is None child next back some e = absurd (false≢true some)
 placed-is (Some l) child next back some e = λ i. Some (record { child = e i; next = next; back = back })
 
-child_to-some : (o : Option HeapLinks) (child : Option ℕ) → is_some (child_to o child) ≡ is_some o
+pub child_to-some : (o : Option HeapLinks) (child : Option ℕ) → is_some (child_to o child) ≡ is_some o
 child_to-some None child = refl
 child_to-some (Some l) child = refl
+
+pub next_to-some : (o : Option HeapLinks) (next : Option ℕ) → is_some (next_to o next) ≡ is_some o
+next_to-some None next = refl
+next_to-some (Some l) next = refl
 
 child_to-is : (o : Option HeapLinks) (child : Option ℕ) → is_some o ≡ true → child_of (child_to o child) ≡ child
 child_to-is None child some = absurd (false≢true some)

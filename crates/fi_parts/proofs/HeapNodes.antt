@@ -1,6 +1,6 @@
 -- What each change of a heap's store makes of the links, the values and the members.
-use Rattle.std.proofs.Common.{◌≡◌, ℕ, ◌<◌, Bool, true, false, cond, eqb, length, Option, Some, None, is_some, IsSome, IfSome}
-use Rattle.std.proofs.Common.{refl, sym, ap, ◌∙◌, inl, inr}
+use Rattle.std.proofs.Common.{◌≡◌, ℕ, ◌<◌, Bool, true, false, cond, eqb, length, Option, Some, None, is_some, IsSome, IfSome, refl, sym, ap}
+use Rattle.std.proofs.Common.{◌∙◌, inl, inr}
 use Rattle.std.proofs.lemmas.Bool.{cases_eq, false≢true, cond-false, ne_eqb}
 use Rattle.std.proofs.lemmas.List.{length-set}
 use Rattle.std.specs.FinMap as map
@@ -12,9 +12,9 @@ use Rattle.fi_parts.specs.declared.heap_nodes.HeapNode.{HeapNode}
 use Rattle.fi_parts.specs.declared.heap_nodes.HeapNodes.{HeapNodes}
 use Rattle.fi_parts.specs.declared.heap_nodes.Back.{Back}
 use Rattle.fi_parts.specs.declared.heap_nodes.Back.TheVariants.{Parent, Sibling}
-use Rattle.fi_parts.specs.HeapForests.{linked, backed, child_of, child_to, next_to, back_to, placed, adopted, adopted_before}
-use Rattle.fi_parts.specs.HeapNodes.{value_in, links_in, is_in, values_of, links_of, live_of, members_of, IsLinked, relinked}
-use Rattle.fi_parts.specs.HeapNodes.{with_links, Relinks, Keeps, KeepsValues, TakesOut, PutsIn}
+use Rattle.fi_parts.specs.HeapForests.{linked, backed, child_of, child_to, back_to, placed, adopted, adopted_before}
+use Rattle.fi_parts.specs.HeapNodes.{value_in, links_in, is_in, values_of, links_of, live_of, members_of, IsLinked, relinked, with_links}
+use Rattle.fi_parts.specs.HeapNodes.{Relinks, Keeps, KeepsValues, TakesOut, PutsIn}
 use Rattle.fi_parts.specs.Picked.{picked, chosen}
 use Rattle.fi_parts.proofs.Picked.{get-picked, contains-chosen}
 use Rattle.fi_parts.proofs.HeapForests.{linked-same, linked-other, linked-some}
@@ -42,19 +42,15 @@ module _ {T : Type 0} where
   is_within s k at = ContainsKey-within s.store k (is_live s k at)
 
   -- a slot is live exactly if it has a value
+  valued : (o : Option (HeapNode T)) → is_some (picked value_in o) ≡ is_some o
+  valued None = refl
+  valued (Some n) = refl
+
   pub live-value : (s : HeapNodes T) (k : ℕ) → ContainsKey s.store k → is_some (values_of s k) ≡ true
-  live-value s k live = from (get s.store k) live
-    where
-      from : (o : Option (HeapNode T)) → IsSome o → is_some (picked value_in o) ≡ true
-      from None e = e
-      from (Some n) e = refl
+  live-value s k live = valued (get s.store k) ∙ live
 
   pub value-live : (s : HeapNodes T) (k : ℕ) → is_some (values_of s k) ≡ true → ContainsKey s.store k
-  value-live s k at = from (get s.store k) at
-    where
-      from : (o : Option (HeapNode T)) → is_some (picked value_in o) ≡ true → IsSome o
-      from None e = absurd (false≢true e)
-      from (Some n) e = refl
+  value-live s k at = sym (valued (get s.store k)) ∙ at
 
   -- links written under one slot
 
@@ -114,14 +110,6 @@ module _ {T : Type 0} where
 pub back_to-some : (o : Option HeapLinks) (back : Back) → is_some (back_to o back) ≡ is_some o
 back_to-some None back = refl
 back_to-some (Some l) back = refl
-
-pub child_to-some : (o : Option HeapLinks) (child : Option ℕ) → is_some (child_to o child) ≡ is_some o
-child_to-some None child = refl
-child_to-some (Some l) child = refl
-
-pub next_to-some : (o : Option HeapLinks) (next : Option ℕ) → is_some (next_to o next) ≡ is_some o
-next_to-some None next = refl
-next_to-some (Some l) next = refl
 
 pub placed-some : (o : Option HeapLinks) (next : Option ℕ) (back : Back) → is_some (placed o next back) ≡ is_some o
 placed-some None next back = refl

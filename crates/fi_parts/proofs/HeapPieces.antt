@@ -1,17 +1,16 @@
 -- How the pieces of a heap change while trees are popped, melded and chained.
-use Rattle.std.proofs.Common.{IfSome, ◌⊎◌, ◌≡◌, ℕ, suc, ◌+◌, ◌≤◌, ◌<◌, true, false, Option, Some, None, cond, is_some, refl, sym}
-use Rattle.std.proofs.Common.{ap, subst, ◌∙◌, inl, inr, arith}
+use Rattle.std.proofs.Common.{IfSome, ◌⊎◌, ◌≡◌, ℕ, suc, ◌+◌, ◌≤◌, ◌<◌, true, false, Option, Some, None, cond, is_some, refl, sym, ap, subst}
+use Rattle.std.proofs.Common.{◌∙◌, inl, inr, arith}
 use Rattle.std.proofs.lemmas.Bool.{cases_eq, false≢true}
 use Rattle.std.specs.declared.cmp.Ordering.{Ordering}
 use Rattle.fi_parts.specs.declared.heap_nodes.Back.{Back}
 use Rattle.fi_parts.specs.declared.heap_nodes.Back.TheVariants.{Root, Parent}
 use Rattle.fi_parts.specs.declared.heap_nodes.HeapLinks.{HeapLinks}
-use Rattle.fi_parts.specs.HeapForests.{Forest, nil, node, Tree, no_tree, tree, head, top, one_at, count, count_in, roots}
-use Rattle.fi_parts.specs.HeapForests.{child_of, next_of, next_to, placed, linked, Makes, Strings, Holds, Roots, span, Ordered}
-use Rattle.fi_parts.specs.HeapForests.{OrderedIn}
+use Rattle.fi_parts.specs.HeapForests.{Forest, nil, node, Tree, no_tree, tree, head, top, one_at, count, count_in, roots, child_of, next_of}
+use Rattle.fi_parts.specs.HeapForests.{next_to, placed, linked, Makes, Strings, Holds, Roots, span, Ordered, OrderedIn}
 use Rattle.fi_parts.specs.HeapPieces.{flag, Pieces, HeapSplit, Meldable, Melds}
-use Rattle.fi_parts.proofs.HeapForests.{one_at-same, one_at-other, linked-same, linked-other, not_there, Strings-alike}
-use Rattle.fi_parts.proofs.HeapForests.{Roots-alike, Makes-alike, Holds-root, Holds-adopted, adopted-apart, roots-le, span-roots}
+use Rattle.fi_parts.proofs.HeapForests.{one_at-same, one_at-other, linked-same, linked-other, not_there, Strings-alike, Roots-alike}
+use Rattle.fi_parts.proofs.HeapForests.{Makes-alike, Holds-root, Holds-adopted, adopted-apart, roots-le, span-roots, next_to-some}
 use Rattle.fi_parts.proofs.HeapForests.{placed-is, linked-some, not_in, some_same}
 
 pub flag-le : (o : Option HeapLinks) → flag o ≤ 1
@@ -57,10 +56,6 @@ module _ {T : Type 0} (cmp : T → T → Ordering) (g : ℕ → Option HeapLinks
     pairs_ordered = tt;
     tally = λ k. let was = p.tally k in omega arith;
   }
-
-next_to-some : (o : Option HeapLinks) (next : Option ℕ) → is_some (next_to o next) ≡ is_some o
-next_to-some None next = refl
-next_to-some (Some l) next = refl
 
 next_to-child : (o : Option HeapLinks) (next : Option ℕ) → child_of (next_to o next) ≡ child_of o
 next_to-child None next = refl
@@ -190,7 +185,7 @@ Into cmp g v h left right winner =
 
 module _ {T : Type 0} (cmp : T → T → Ordering) (v : ℕ → Option T) where
   -- the same pieces, where the slots at their fronts have other names
-  parts : (g : ℕ → Option HeapLinks) (m t : Tree) (ts us : Forest) (a b c d : Option ℕ) → top m ≡ a → top t ≡ b → head ts ≡ c → head us
+  pub parts : (g : ℕ → Option HeapLinks) (m t : Tree) (ts us : Forest) (a b c d : Option ℕ) → top m ≡ a → top t ≡ b → head ts ≡ c → head us
       ≡ d → Pieces cmp g v m t ts us → (P : HeapSplit cmp g v a b c d) × (roots P.rest ≡ roots ts)
   parts g m t ts us a b c d p q r s pieces = (
     record {
@@ -364,13 +359,6 @@ module _ {T : Type 0} (cmp : T → T → Ordering) (v : ℕ → Option T) where
               second_held = p.held_made;
               apart = λ k. let was = p.tally k in let most = flag-le (g k) in omega arith;
             }))
-
-    pub held-linked : (a : ℕ) (ma ra pa : Option ℕ) → HeapSplit cmp g v ma (Some a) ra pa → is_some (g a) ≡ true
-    held-linked a ma ra pa P = from P.held P.held_top P.pieces.held_made
-      where
-        from : (t : Tree) → top t ≡ Some a → Holds g t → is_some (g a) ≡ true
-        from no_tree e made = absurd (cc)
-        from (tree x kids) e made = subst (λ (q : ℕ). is_some (g q) ≡ true) (some_same e) made.0
 
     pub rest-linked : (a : ℕ) (ma ha pa : Option ℕ) → HeapSplit cmp g v ma ha (Some a) pa → is_some (g a) ≡ true
     rest-linked a ma ha pa P = from P.rest P.rest_head P.pieces.rest_made

@@ -1,6 +1,6 @@
 -- How the calls on a heap's store change the pieces that it is in.
-use Rattle.std.proofs.Common.{◌≡◌, ℕ, suc, ◌≤◌, true, false, length, Option, Some, None, is_some, IfSome, refl, sym, ap, subst, ◌∙◌}
-use Rattle.std.proofs.Common.{inl, inr, arith}
+use Rattle.std.proofs.Common.{◌≡◌, ℕ, suc, ◌≤◌, true, false, length, Option, Some, None, is_some, IfSome, refl, sym, ap, subst, ◌∙◌, inl}
+use Rattle.std.proofs.Common.{inr, arith}
 use Rattle.std.specs.declared.cmp.Ordering.{Ordering}
 use Rattle.fi_parts.specs.declared.heap_nodes.Back.TheVariants.{Root}
 use Rattle.fi_parts.specs.declared.heap_nodes.HeapLinks.{HeapLinks}
@@ -10,8 +10,9 @@ use Rattle.fi_parts.specs.HeapPieces.{HeapSplit}
 use Rattle.fi_parts.specs.HeapNodes.{values_of, links_of, IsLinked, Relinks, Keeps, KeepsValues, InParts, IsHeap, MeldsInto, TakesOut}
 use Rattle.fi_parts.proofs.HeapPieces.{pop-parts, push-parts, rest-linked, meld-parts, meld-root, root-parts, span-rest, add-parts}
 use Rattle.fi_parts.proofs.HeapCuts.{cut, without}
-use Rattle.fi_parts.proofs.HeapNodes.{is_within, Keeps-relinks, next_to-some, placed-some, Keeps-then, TakesOut-then}
-use Rattle.fi_parts.proofs.HeapNodes.{TakesOut-unlinked, KeepsValues-then, KeepsValues-relinks, values-kept}
+use Rattle.fi_parts.proofs.HeapForests.{next_to-some}
+use Rattle.fi_parts.proofs.HeapNodes.{is_within, Keeps-relinks, placed-some, Keeps-then, TakesOut-then, TakesOut-unlinked, KeepsValues-then}
+use Rattle.fi_parts.proofs.HeapNodes.{KeepsValues-relinks, values-kept}
 
 module _ {T : Type 0} (cmp : T → T → Ordering) where
   -- the measure of a loop over a chain falls with the number of its trees

@@ -1,5 +1,5 @@
 -- A heap as its callers see it, after each change of its store.
-use Rattle.std.proofs.Common.{◌≡◌, ◌≢◌, ℕ, Bool, true, false, not, eqb, [], get_or, Option, Some, None, is_some, IsSome, Bor}
+use Rattle.std.proofs.Common.{◌≡◌, ◌≢◌, ℕ, ◌+◌, ◌≤◌, Bool, true, false, not, eqb, [], get_or, Option, Some, None, is_some, IsSome, Bor}
 use Rattle.std.proofs.Common.{option_copied, refl, sym, ap, subst, ◌∙◌, inl, inr, arith}
 use Rattle.std.proofs.lemmas.Bool.{cases_eq, false≢true, true≢false, eq-eqb, ne_eqb}
 use Rattle.std.specs.Ordering.{nat_cmp, is_le, ordering_reverse}
@@ -14,15 +14,16 @@ use Rattle.fi_parts.specs.declared.heap_nodes.HeapLinks.{HeapLinks}
 use Rattle.fi_parts.specs.declared.heap_nodes.HeapNode.{HeapNode}
 use Rattle.fi_parts.specs.declared.heap_nodes.HeapNodes.{HeapNodes}
 use Rattle.fi_parts.specs.HeapModel.{HeapModel, IsLiveIn, with_values, MembersAreLive, IsLeastOf}
-use Rattle.fi_parts.specs.HeapForests.{Forest, nil, node, Tree, no_tree, tree, head, top, Roots, at_most}
+use Rattle.fi_parts.specs.HeapForests.{Forest, nil, node, Tree, no_tree, tree, head, top, count, count_in, Roots, at_most}
 use Rattle.fi_parts.specs.HeapPieces.{flag, Pieces, HeapSplit}
-use Rattle.fi_parts.specs.HeapNodes.{value_in, links_in, values_of, links_of, live_of, members_of, TakesOut, PutsIn, loose_node}
-use Rattle.fi_parts.specs.HeapNodes.{revalued, with_value, InParts, IsHeap}
+use Rattle.fi_parts.specs.HeapNodes.{value_in, links_in, values_of, links_of, live_of, members_of, TakesOut, PutsIn, loose_node, revalued}
+use Rattle.fi_parts.specs.HeapNodes.{with_value, InParts, IsHeap}
 use Rattle.fi_parts.specs.Picked.{picked}
 use Rattle.fi_parts.proofs.Picked.{get-insert_same, get-insert_other, get-remove_same, get-remove_other, contains-insert_same}
 use Rattle.fi_parts.proofs.Picked.{contains-insert_other, contains-remove_same, contains-remove_other}
 use Rattle.fi_parts.proofs.HeapForests.{one_at-other, Ordered-alike, OrderedIn-alike, at_most-all, some_same}
-use Rattle.fi_parts.proofs.HeapPieces.{flag-some, some-flag}
+use Rattle.fi_parts.proofs.FiniteMaps.{same_maps}
+use Rattle.fi_parts.proofs.HeapPieces.{flag-some, some-flag, parts}
 use Rattle.fi_parts.proofs.HeapNodes.{get-live_of, contains-members_of, is_live, live-value, value-live}
 
 module _ {T : Type 0} where
@@ -37,52 +38,35 @@ module _ {T : Type 0} where
 
   pub live-inserted : (s t : HeapNodes T) (x : ℕ) (v : T) → values_of t x ≡ Some v → ((k : ℕ) → k ≢ x → values_of t k ≡ values_of s k)
       → live_of t ≡ map.insert (live_of s) x v
-  live-inserted s t x v here others = map.same_map nat_cmp_total map.nat_cmp-IsAntisymmetric _ _ each
-    where
-      each : (q : ℕ) → map.get (live_of t) q ≡ map.get (map.insert (live_of s) x v) q
-      each q =
-          elim (cases_eq q x) [
-            | inl same ↦ rw same (get-live_of t x ∙ here ∙ sym (get-insert_same (live_of s) x v))
-            | inr ne ↦ get-live_of t q ∙ others q ne ∙ sym (get-live_of s q) ∙ sym (get-insert_other (live_of s) x v q ne)
-          ]
+  live-inserted s t x v here others =
+      same_maps _ _ x (get-live_of t x ∙ here ∙ sym (get-insert_same (live_of s) x v))
+      (λ q ne. get-live_of t q ∙ others q ne ∙ sym (get-live_of s q) ∙ sym (get-insert_other (live_of s) x v q ne))
 
   pub live-removed : (s t : HeapNodes T) (x : ℕ) → values_of t x ≡ None → ((k : ℕ) → k ≢ x → values_of t k ≡ values_of s k) → live_of t
       ≡ map.remove (live_of s) x
-  live-removed s t x here others = map.same_map nat_cmp_total map.nat_cmp-IsAntisymmetric _ _ each
-    where
-      each : (q : ℕ) → map.get (live_of t) q ≡ map.get (map.remove (live_of s) x) q
-      each q =
-          elim (cases_eq q x) [
-            | inl same ↦ rw same (get-live_of t x ∙ here ∙ sym (get-remove_same (live_of s) x))
-            | inr ne ↦ get-live_of t q ∙ others q ne ∙ sym (get-live_of s q) ∙ sym (get-remove_other (live_of s) x q ne)
-          ]
+  live-removed s t x here others =
+      same_maps _ _ x (get-live_of t x ∙ here ∙ sym (get-remove_same (live_of s) x))
+      (λ q ne. get-live_of t q ∙ others q ne ∙ sym (get-live_of s q) ∙ sym (get-remove_other (live_of s) x q ne))
 
   pub members-same : (s t : HeapNodes T) → links_of t ≡ links_of s → members_of t ≡ members_of s
   members-same s t same =
       finite.same_set nat_cmp_total map.nat_cmp-IsAntisymmetric _ _
       (λ q. contains-members_of t q ∙ ap (λ f. is_some (f q)) same ∙ sym (contains-members_of s q))
 
+  same_members : (t : HeapNodes T) (slots : finite.FinSet nat_cmp) (x : ℕ) → is_some (links_of t x) ≡ finite.contains slots x →
+      ((q : ℕ) → q ≢ x → is_some (links_of t q) ≡ finite.contains slots q) → members_of t ≡ slots
+  same_members t slots x here others = finite.same_set nat_cmp_total map.nat_cmp-IsAntisymmetric _ _
+      (λ q. contains-members_of t q ∙ elim (cases_eq q x) [ inl same ↦ rw same here | inr ne ↦ others q ne ])
+
   pub members-inserted : (s t : HeapNodes T) (x : ℕ) → PutsIn s t x → members_of t ≡ finite.insert (members_of s) x
-  members-inserted s t x puts = finite.same_set nat_cmp_total map.nat_cmp-IsAntisymmetric _ _ each
-    where
-      each : (q : ℕ) → finite.contains (members_of t) q ≡ finite.contains (finite.insert (members_of s) x) q
-      each q =
-          elim (cases_eq q x) [
-            | inl same ↦ rw same (contains-members_of t x ∙ puts.here ∙ sym (contains-insert_same (members_of s) x))
-            | inr ne ↦ contains-members_of t q ∙ puts.others q ne ∙ sym (contains-members_of s q) ∙ sym
-                (contains-insert_other (members_of s) x q ne)
-          ]
+  members-inserted s t x puts =
+      same_members t _ x (puts.here ∙ sym (contains-insert_same (members_of s) x))
+      (λ q ne. puts.others q ne ∙ sym (contains-members_of s q) ∙ sym (contains-insert_other (members_of s) x q ne))
 
   pub members-removed : (s t : HeapNodes T) (x : ℕ) → TakesOut s t x → members_of t ≡ finite.remove (members_of s) x
-  members-removed s t x takes = finite.same_set nat_cmp_total map.nat_cmp-IsAntisymmetric _ _ each
-    where
-      each : (q : ℕ) → finite.contains (members_of t) q ≡ finite.contains (finite.remove (members_of s) x) q
-      each q =
-          elim (cases_eq q x) [
-            | inl same ↦ rw same (contains-members_of t x ∙ takes.here ∙ sym (contains-remove_same (members_of s) x))
-            | inr ne ↦ contains-members_of t q ∙ takes.others q ne ∙ sym (contains-members_of s q) ∙ sym
-                (contains-remove_other (members_of s) x q ne)
-          ]
+  members-removed s t x takes =
+      same_members t _ x (takes.here ∙ sym (contains-remove_same (members_of s) x))
+      (λ q ne. takes.others q ne ∙ sym (contains-members_of s q) ∙ sym (contains-remove_other (members_of s) x q ne))
 
   -- the same links, and the same values under the slots that are linked
 
@@ -155,55 +139,40 @@ module _ {T : Type 0} where
     pub heap-stays : (s t : HeapNodes T) → Stays s t → IsHeap cmp s → IsHeap cmp t
     heap-stays s t same P =
         subst (λ (r : Option ℕ). InParts cmp t r None None None) (sym same.root)
-        (subst (λ (g : ℕ → Option HeapLinks). HeapSplit cmp g (values_of t) s.root None None None) (sym same.links) (record {
-          main = P.main;
-          held = P.held;
-          rest = P.rest;
-          pairs = P.pairs;
-          main_top = P.main_top;
-          held_top = P.held_top;
-          rest_head = P.rest_head;
-          pairs_head = P.pairs_head;
-          pieces = record {
-            main_made = P.pieces.main_made;
-            held_made = P.pieces.held_made;
-            rest_made = P.pieces.rest_made;
-            pairs_made = P.pieces.pairs_made;
-            main_ordered = OrderedIn-alike cmp (values_of s) (values_of t) P.main (λ k at. let was =
-                P.pieces.tally k in same.values k (some-flag (links_of s k) (omega arith))) P.pieces.main_ordered;
-            held_ordered = OrderedIn-alike cmp (values_of s) (values_of t) P.held (λ k at. let was =
-                P.pieces.tally k in same.values k (some-flag (links_of s k) (omega arith))) P.pieces.held_ordered;
-            rest_ordered = Ordered-alike cmp (values_of s) (values_of t) None P.rest (λ k e. absurd (cc)) (λ k at. let was =
-                P.pieces.tally k in same.values k (some-flag (links_of s k) (omega arith))) P.pieces.rest_ordered;
-            pairs_ordered = Ordered-alike cmp (values_of s) (values_of t) None P.pairs (λ k e. absurd (cc)) (λ k at. let was =
-                P.pieces.tally k in same.values k (some-flag (links_of s k) (omega arith))) P.pieces.pairs_ordered;
-            tally = P.pieces.tally;
-          };
-        }))
+        (subst (λ (g : ℕ → Option HeapLinks). HeapSplit cmp g (values_of t) s.root None None None) (sym same.links)
+        (parts cmp (values_of t) (links_of s) P.main P.held P.rest P.pairs s.root None None None P.main_top P.held_top P.rest_head
+        P.pairs_head (record {
+          main_made = P.pieces.main_made;
+          held_made = P.pieces.held_made;
+          rest_made = P.pieces.rest_made;
+          pairs_made = P.pieces.pairs_made;
+          main_ordered = OrderedIn-alike cmp (values_of s) (values_of t) P.main (λ k at. kept k (omega arith)) P.pieces.main_ordered;
+          held_ordered = OrderedIn-alike cmp (values_of s) (values_of t) P.held (λ k at. kept k (omega arith)) P.pieces.held_ordered;
+          rest_ordered = Ordered-alike cmp (values_of s) (values_of t) None P.rest (λ k e. absurd (cc)) (λ k at. kept k (omega arith))
+              P.pieces.rest_ordered;
+          pairs_ordered = Ordered-alike cmp (values_of s) (values_of t) None P.pairs (λ k e. absurd (cc)) (λ k at. kept k (omega arith))
+              P.pieces.pairs_ordered;
+          tally = P.pieces.tally;
+        })).0)
+      where
+        kept : (k : ℕ) → 1 ≤ (count_in k P.main + count_in k P.held) + (count k P.rest + count k P.pairs) →
+            values_of t k ≡ values_of s k
+        kept k at = same.values k (some-flag (links_of s k) (let was = P.pieces.tally k in omega arith))
 
     pub heap-empty : (s : HeapNodes T) → s.store.slots ≡ [] → s.root ≡ None → IsHeap cmp s
     heap-empty s none root =
-        subst (λ (r : Option ℕ). InParts cmp s r None None None) (sym root) (record {
-          main = no_tree;
-          held = no_tree;
-          rest = nil;
-          pairs = nil;
-          main_top = refl;
-          held_top = refl;
-          rest_head = refl;
-          pairs_head = refl;
-          pieces = record {
-            main_made = tt;
-            held_made = tt;
-            rest_made = tt;
-            pairs_made = tt;
-            main_ordered = tt;
-            held_ordered = tt;
-            rest_ordered = tt;
-            pairs_ordered = tt;
-            tally = λ k. sym (ap (λ xs. flag (picked links_in (get_or xs k None))) none);
-          };
-        })
+        subst (λ (r : Option ℕ). InParts cmp s r None None None) (sym root)
+        (parts cmp (values_of s) (links_of s) no_tree no_tree nil nil None None None None refl refl refl refl (record {
+          main_made = tt;
+          held_made = tt;
+          rest_made = tt;
+          pairs_made = tt;
+          main_ordered = tt;
+          held_ordered = tt;
+          rest_ordered = tt;
+          pairs_ordered = tt;
+          tally = λ k. sym (ap (λ xs. flag (picked links_in (get_or xs k None))) none);
+        })).0
 
     -- the least
 

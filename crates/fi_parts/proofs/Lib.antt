@@ -5,6 +5,7 @@ pub mod BlockCounts
 pub mod ChunkPlaces
 pub mod ChunkRooms
 pub mod ChunkSteps
+pub mod RawWalks
 pub mod BlockMemory
 pub mod BlockFresh
 pub mod BlockSharing

@@ -1,7 +1,7 @@
 -- What each line of a machine's table keeps.
 use Rattle.std.specs.Prelude.{◌≡◌, ◌≢◌, ℕ, ◌==◌, if◌then◌else◌, Bool, true, false, Option, Some, None, Result, Ok, Err, List, [], ◌∷◌, refl}
 use Rattle.std.proofs.Common.{sym, ◌∙◌, ap, subst, inl, inr, is_some, IfOk, OnErr}
-use Rattle.std.proofs.lemmas.Bool.{both_ways, cases_eq, cases_Bool, eq-eqb, ne_eqb}
+use Rattle.std.proofs.lemmas.Bool.{both_ways, cases_eq, cases_Bool, eq-eqb, ne_eqb, false_from_ne_true}
 use Rattle.std.specs.Ordering.{nat_cmp}
 use Rattle.std.specs.FinMap as map
 use Rattle.futures.specs.declared.task.Poll.{Poll}
@@ -13,30 +13,37 @@ use Rattle.fi_parts.specs.declared.phase.Notice.{Notice}
 use Rattle.fi_parts.specs.Noticed.{phase_after}
 use Rattle.fi_parts.specs.Oldest.{pop_first}
 use Rattle.fi_parts.specs.Order.{holds}
-use Rattle.fi_parts.specs.Waiting.{Waiters, Waiting, phase_of, phase_in, asks_of}
-use Rattle.fi_parts.specs.Waiting.{asks_in, is_registered, no_futures, insert_fresh, without_future}
-use Rattle.fi_parts.specs.Waiting.{IsLive, exchange, IsOrderedBy, AreSoundBy}
-use Rattle.fi_parts.proofs.Waiting.{Becomes, noticed_phase, placed, unregistered, asks-with_phase, asks-with_phases}
+use Rattle.fi_parts.specs.Waiting.{Waiters, Waiting, phase_of, phase_in, asks_of, asks_in, is_registered, no_futures, insert_fresh}
+use Rattle.fi_parts.specs.Waiting.{without_future, IsLive, exchange, IsOrderedBy, AreSoundBy}
+use Rattle.fi_parts.proofs.Waiting.{Becomes, noticed_phase, noticed_phase_other, placed, unregistered, asks-with_phase, asks-with_phases}
 use Rattle.fi_parts.proofs.Sound.{sound_by-empty}
 use Rattle.fi_parts.proofs.Oldest.{asks-with_asks, asks-with_asks_other}
 use Rattle.fi_parts.proofs.FiniteMaps.{get-insert_same, get-insert_other, get-remove_same, get-remove_other}
 use Rattle.fi_parts.specs.WakerHistory.{WakerChange, gives}
 use Rattle.fi_parts.specs.WakerHistory.WakerChange.{Leaves, NoEffect}
 use Rattle.fi_parts.proofs.PairsWithin.{if_true, if_false}
-use Rattle.fi_parts.proofs.Results.{either, of_made}
+use Rattle.fi_parts.proofs.Results.{either}
 use Rattle.fi_parts.specs.Effects.{WaiterEffect, TakesEffect}
-use Rattle.fi_parts.specs.MachineTable.{keeps_asks}
+use Rattle.fi_parts.specs.MachineTable.{keeps_asks, AllowsEffect, LacksAfter, StillLacks, waker_change, WaiterRules, TableLine, poll_change}
+use Rattle.fi_parts.specs.MachineTable.{answered_change, PollLine}
 use Rattle.fi_parts.specs.Effects.WaiterEffect.{NoChange, Inserts, Registers, RegistersApart, KeepsWaiting, Ends, EndsPlaced, Renews}
-use Rattle.fi_parts.specs.Effects.WaiterEffect.{NotifiesOldest, NotifiesAll, NotifiesListed, NotifiesFront, PopsOldest, AndThen}
-use Rattle.fi_parts.specs.Effects.WaiterEffect.{Asks, Removes, CompletesOldest}
+use Rattle.fi_parts.specs.Effects.WaiterEffect.{NotifiesOldest, NotifiesAll, NotifiesListed, NotifiesFront, PopsOldest, AndThen, Asks}
+use Rattle.fi_parts.specs.Effects.WaiterEffect.{Removes, CompletesOldest}
 use Rattle.fi_parts.specs.Machine.{Machine, phase_at, initial, StepsTo, HasSoundWaitersBy, AllLack}
-use Rattle.fi_parts.specs.MachineTable.{AllowsEffect, LacksAfter, StillLacks}
-use Rattle.fi_parts.specs.MachineTable.{waker_change, WaiterRules, TableLine, poll_change, answered_change, PollLine}
-use Rattle.fi_parts.specs.Stays.{AllStay, OthersStay, IsApart}
+use Rattle.fi_parts.specs.Stays.{AllStay, OthersStay}
 use Rattle.fi_parts.specs.declared.errors.Fault.{Fault}
 use Rattle.fi_parts.proofs.Effects.{After, AreNotified, IsOf, effect_after, effect_sound, notified_after, queues, oldest_are, all_are}
-use Rattle.fi_parts.proofs.Effects.{listed_are, front_are, polled_lives, AreFit, SparedBy, are_live, fit_one, stays_fit}
-use Rattle.fi_parts.proofs.Effects.{IsFitIfPending, pending_is_fit, added_fresh}
+use Rattle.fi_parts.proofs.Effects.{listed_are, front_are, polled_lives, AreFit, SparedBy, are_live, stays_fit, IsFitIfPending}
+use Rattle.fi_parts.proofs.Effects.{pending_is_fit, added_fresh}
+use Rattle.fi_parts.proofs.Notified.{fit_one}
+
+-- what stands at this name, and at others
+if_one : {X : Type 0} (name q : ℕ) (here other now : X) → (name ≡ q → here ≡ now) → (q ≢ name → other ≡ now) →
+    (if name == q then here else other) ≡ now
+if_one name q here other now at off = elim (cases_eq name q) [
+  | inl same ↦ if_true (name == q) here other (eq-eqb name q same) ∙ at same
+  | inr ne ↦ if_false (name == q) here other (ne_eqb name q ne) ∙ off (λ e. ne (sym e))
+]
 
 module _ {D W : Type 0} where
   -- one name changed: another is registered as before, and asks the same
@@ -51,14 +58,17 @@ module _ {D W : Type 0} where
   oldest_asks phase [] side q = refl
   oldest_asks phase (n ∷ others) side q = asks-with_phase side.live n phase q
 
+  -- one name asks for this, or for nothing, and the others for what they did
+  asks_if : (old new : Waiters D W) (name q : ℕ) (asks : Option D) → asks_of new name ≡ asks →
+      (q ≢ name → asks_of new q ≡ asks_of old q) → asks_of new q ≡ (if name == q then asks else asks_of old q)
+  asks_if old new name q asks here other =
+      sym (if_one name q asks (asks_of old q) (asks_of new q) (λ same. sym here ∙ ap (asks_of new) same) (λ ne. sym (other ne)))
+
   asks_asking : (name : ℕ) (asks : D) (side : Waiters D W) (q : ℕ) → IsLive side name →
       asks_of (exchange side name asks) q ≡ (if name == q then Some asks else asks_of side q)
-  asks_asking name asks side q lives = elim (cases_eq name q) [
-    | inl same ↦ ap (asks_of (exchange side name asks)) (sym same) ∙ asks-with_asks side.live name asks lives
-        ∙ sym (if_true (name == q) (Some asks) (asks_of side q) (eq-eqb name q same))
-    | inr ne ↦ asks-with_asks_other side.live name asks q (λ e. ne (sym e))
-        ∙ sym (if_false (name == q) (Some asks) (asks_of side q) (ne_eqb name q ne))
-  ]
+  asks_asking name asks side q lives =
+      asks_if side (exchange side name asks) name q (Some asks) (asks-with_asks side.live name asks lives)
+      (λ ne. asks-with_asks_other side.live name asks q ne)
 
   asks_to : (new is : Waiting D W) (q : ℕ) → new ≡ is → asks_of new.side q ≡ asks_of is.side q
   asks_to new is q same = ap (λ (w : Waiting D W). asks_of w.side q) same
@@ -81,13 +91,9 @@ module _ {D W : Type 0} where
   pub asks_after : (effect : WaiterEffect D W) (old new : Waiting D W) → TakesEffect effect old new → (q : ℕ) →
       asks_of new.side q ≡ asks_step effect q (asks_of old.side q)
   asks_after NoChange old new did q = asks_to new old q did
-  asks_after (Inserts name asks) old new did q = elim (cases_eq name q) [
-    | inl same ↦ asks_to new _ q did.1 ∙ ap (asks_of (insert_fresh old.side name asks)) (sym same)
-        ∙ ap asks_in (get-insert_same old.side.live name _) ∙ sym
-        (if_true (name == q) (Some asks) (asks_of old.side q) (eq-eqb name q same))
-    | inr ne ↦ asks_to new _ q did.1 ∙ asks_made old.side name asks q (λ e. ne (sym e))
-        ∙ sym (if_false (name == q) (Some asks) (asks_of old.side q) (ne_eqb name q ne))
-  ]
+  asks_after (Inserts name asks) old new did q =
+      asks_to new _ q did.1 ∙ asks_if old.side (insert_fresh old.side name asks) name q (Some asks)
+      (ap asks_in (get-insert_same old.side.live name _)) (λ ne. asks_made old.side name asks q ne)
   asks_after (Registers name waker) old new did q = asks_to new _ q did.1 ∙ asks-with_phase old.side.live name (Registered waker) q
   asks_after (RegistersApart name waker) old new did q = asks_to new _ q did.1 ∙ asks-with_phase old.side.live name (Registered waker) q
   asks_after (KeepsWaiting name waker) old new did q = asks_to new _ q did.1 ∙ asks-with_phase old.side.live name (Registered waker) q
@@ -95,12 +101,9 @@ module _ {D W : Type 0} where
   asks_after (EndsPlaced name) old new did q = asks_to new _ q did.1 ∙ asks-with_phase old.side.live name Ended q
   asks_after (Renews name) old new did q = asks_to new _ q did.1 ∙ asks-with_phase old.side.live name Fresh q
   asks_after (Asks name asks) old new did q = asks_to new _ q did.1 ∙ asks_asking name asks old.side q did.0
-  asks_after (Removes name) old new did q = elim (cases_eq name q) [
-    | inl same ↦ asks_to new _ q did.1 ∙ ap (asks_of (without_future old.side name)) (sym same)
-        ∙ ap asks_in (get-remove_same old.side.live name) ∙ sym (if_true (name == q) None (asks_of old.side q) (eq-eqb name q same))
-    | inr ne ↦ asks_to new _ q did.1 ∙ asks_forgotten old.side name q (λ e. ne (sym e))
-        ∙ sym (if_false (name == q) None (asks_of old.side q) (ne_eqb name q ne))
-  ]
+  asks_after (Removes name) old new did q =
+      asks_to new _ q did.1 ∙ asks_if old.side (without_future old.side name) name q None (ap asks_in (get-remove_same old.side.live name))
+      (λ ne. asks_forgotten old.side name q ne)
   asks_after (NotifiesOldest notice) old new did q = asks_to new _ q did ∙ oldest_asks (phase_after notice) old.side.queue old.side q
   asks_after (NotifiesAll notice) old new did q = asks_to new _ q did ∙ asks-with_phases (phase_after notice) old.side.queue old.side.live q
   asks_after (NotifiesListed notice names) old new did q =
@@ -417,8 +420,8 @@ module _ {S D W : Type 0} (rules : WaiterRules S D W) (can_poll : Option (Phase 
   making_stays own name asks did =
       let now = phases_after rules own (Inserts name asks) old new sound tt did in
       record {
-        live = λ q. fit_one is_some old.waiting.side new.waiting.side q name Fresh refl now;
-        pollable = λ q. fit_one can_poll old.waiting.side new.waiting.side q name Fresh can.fresh now;
+        live = λ q. fit_one is_some old.waiting.side new.waiting.side q name (Some Fresh) refl now;
+        pollable = λ q. fit_one can_poll old.waiting.side new.waiting.side q name (Some Fresh) can.fresh now;
       }
 
   -- a making that may be refused
@@ -446,41 +449,16 @@ module _ {S D W : Type 0} (rules : WaiterRules S D W) (can_poll : Option (Phase 
   pending_answer_stays name waker Pending did = is_fit did
   pending_answer_stays name waker (Ready x) did = tt
 
-module _ {S D W : Type 0} (old new : Machine S D W) where
-  -- the taking out of the oldest waker
-  pub popping_stays : (can_poll : Option (Phase W) → Bool) (own : S) (waker : Option W) → StepsTo old own (PopsOldest waker) new →
-      AllStay can_poll old new
-  popping_stays can_poll own waker did = record {
-    live = λ name is. ap (λ (w : Waiting D W). is_some (phase_of w.side name)) did.1.1 ∙ is;
-    pollable = λ name is. ap (λ (w : Waiting D W). can_poll (phase_of w.side name)) did.1.1 ∙ is;
-  }
-
-  -- whoever lived has another name than the one that was made
-  made_apart : (own : S) (name : ℕ) (asks : D) → StepsTo old own (Inserts name asks) new → IsApart name old
-  made_apart own name asks did q lives same =
-      both_ways false refl (sym (ap is_some did.1.0) ∙ ap (λ n. is_some (phase_at old n)) (sym same) ∙ lives)
-
-  pub claimed_apart : {A E : Type 0} (result : Result A E) (name : A → ℕ) (own : S) (asks : D) →
-      IfOk result (λ x. StepsTo old own (Inserts (name x) asks) new) → IfOk result (λ x. IsApart (name x) old)
-  claimed_apart result name own asks made =
-      of_made result _ (λ x. IsApart (name x) old) made (λ x did. made_apart own (name x) asks did)
-
 -- What the history says of a name and what the name's phase says stay the same, where one name changed.
 module _ {X D W : Type 0} (said : Option (Phase W) → X) where
   pub history_by : (old new : Waiters D W) (name : ℕ) (phase : Option (Phase W)) (was is : ℕ → X) → Becomes old new name phase →
       ((q : ℕ) → was q ≡ said (phase_of old q)) → is name ≡ said phase → (q : ℕ) →
       (if name == q then is q else was q) ≡ said (phase_of new q)
-  history_by old new name phase was is b says here q = elim (cases_eq name q) [
-    | inl same ↦ if_true (name == q) (is q) (was q) (eq-eqb name q same) ∙ ap is (sym same) ∙ here ∙ ap said (sym b.here) ∙ ap
-        (λ n. said (phase_of new n)) same
-    | inr ne ↦ if_false (name == q) (is q) (was q) (ne_eqb name q ne) ∙ says q ∙ ap said (sym (b.others q (λ e. ne (sym e))))
-  ]
+  history_by old new name phase was is b says here q =
+      if_one name q (is q) (was q) (said (phase_of new q))
+      (λ same. ap is (sym same) ∙ here ∙ ap said (sym b.here) ∙ ap (λ n. said (phase_of new n)) same)
+      (λ ne. says q ∙ ap said (sym (b.others q ne)))
 
 -- a notice leaves those who are not registered
 pub apart_noticed : {W : Type 0} (phase : Phase W) (p : Option (Phase W)) → (is_registered p ≡ true → ⊥) → noticed_phase phase p ≡ p
-apart_noticed phase None h = refl
-apart_noticed phase (Some Fresh) h = refl
-apart_noticed phase (Some (Registered w)) h = absurd (h refl)
-apart_noticed phase (Some Told) h = refl
-apart_noticed phase (Some Complete) h = refl
-apart_noticed phase (Some Ended) h = refl
+apart_noticed phase p h = noticed_phase_other phase p (false_from_ne_true _ h)

@@ -1,13 +1,13 @@
 -- Some of the futures are notified: the phases then, and that the waiters stay in order.
-use Rattle.std.proofs.Common.{◌≡◌, ℕ, Bool, true, false, eqb, ◌||◌, if◌then◌else◌, List, [], ◌∷◌, ◌++◌, Option, Some, None, refl, sym, ap}
-use Rattle.std.proofs.Common.{subst, ◌∙◌, inl, inr, ◌⊎◌}
-use Rattle.std.proofs.lemmas.Bool.{eqb-true, or_from, or_left, or_right, or_cases, both_ways, cases_Bool, false_from_ne_true}
+use Rattle.std.proofs.Common.{◌≡◌, ℕ, Bool, true, false, eqb, ◌||◌, if◌then◌else◌, List, [], ◌∷◌, ◌++◌, Option, Some, refl, sym, ap, subst}
+use Rattle.std.proofs.Common.{◌∙◌, inl, inr, ◌⊎◌}
+use Rattle.std.proofs.lemmas.Bool.{eqb-true, or_from, or_left, or_right, or_cases, both_ways, cases_eq, cases_Bool, false_from_ne_true}
 use Rattle.std.proofs.lemmas.List.{append-nil}
 use Rattle.std.proofs.lemmas.List.Folds.{list_any-append}
 use Rattle.std.specs.Ordering.{nat_cmp}
 use Rattle.std.specs.FinMap as map
 use Rattle.fi_parts.specs.declared.phase.Phase.{Phase}
-use Rattle.fi_parts.specs.declared.phase.Phase.TheVariants.{Fresh, Registered, Told, Complete, Ended}
+use Rattle.fi_parts.specs.declared.phase.Phase.TheVariants.{Registered}
 use Rattle.fi_parts.specs.declared.phase.LiveFuture.{LiveFuture}
 use Rattle.fi_parts.specs.Effects.{notified, AreRegistered}
 use Rattle.fi_parts.specs.Order.{holds, Apart}
@@ -16,27 +16,19 @@ use Rattle.fi_parts.specs.PlaceRules.{IsPlaceRule}
 use Rattle.fi_parts.specs.Waiting.{Waiters, Waiting, phase_in, phase_of, is_registered, may_be_named, with_phase, pair_of, pair, IsLive}
 use Rattle.fi_parts.specs.Waiting.{IsOrderedBy, noticed, named, with_phases}
 use Rattle.fi_parts.proofs.Slots.{eqb_same, holds-append, Apart-front, Apart-back, Apart-disjoint}
-use Rattle.fi_parts.proofs.Waiting.{placed, live_if_placed, live_if_registered, no_pair, phase-with_phases, phase-held}
+use Rattle.fi_parts.proofs.Waiting.{Becomes, placed, live_if_placed, live_if_registered, no_pair, phase-with_phases, phase-held}
 
 module _ {W : Type 0} where
   has-pair_of : (q n : ℕ) (p : Option (Phase W)) (ps : List (ℕ × W)) → has q (pair_of n p ++ ps) ≡ true →
       ((eqb q n ≡ true) × (is_registered p ≡ true)) ⊎ (has q ps ≡ true)
-  has-pair_of q n None ps at = inr at
-  has-pair_of q n (Some Fresh) ps at = inr at
   has-pair_of q n (Some (Registered w)) ps at =
       elim (or_cases (eqb q n) (has q ps) at) [ inl e ↦ inl (e, refl) | inr r ↦ inr r ]
-  has-pair_of q n (Some Told) ps at = inr at
-  has-pair_of q n (Some Complete) ps at = inr at
-  has-pair_of q n (Some Ended) ps at = inr at
+  has-pair_of q n p ps at = inr at
 
   PairsApart-pair_of : (n : ℕ) (p : Option (Phase W)) (ps : List (ℕ × W)) → has n ps ≡ false → PairsApart ps →
       PairsApart (pair_of n p ++ ps)
-  PairsApart-pair_of n None ps off a = a
-  PairsApart-pair_of n (Some Fresh) ps off a = a
   PairsApart-pair_of n (Some (Registered w)) ps off a = (off, a)
-  PairsApart-pair_of n (Some Told) ps off a = a
-  PairsApart-pair_of n (Some Complete) ps off a = a
-  PairsApart-pair_of n (Some Ended) ps off a = a
+  PairsApart-pair_of n p ps off a = a
 
   PairsApart-append : (ps qs : List (ℕ × W)) → PairsApart ps → PairsApart qs →
       ((k : ℕ) → has k ps ≡ true → has k qs ≡ false) → PairsApart (ps ++ qs)
@@ -73,6 +65,22 @@ module _ {D W : Type 0} where
 pub record AllBecome {D W : Type 0} (old new : Waiters D W) (names : List ℕ) (phase : Phase W) : Type 0 where
   pub these : (q : ℕ) → holds q names ≡ true → phase_of new q ≡ Some phase
   pub others : (q : ℕ) → holds q names ≡ false → phase_of new q ≡ phase_of old q
+
+-- Who was fit before is fit after, where one or some have another phase that is fit.
+module _ {D W : Type 0} (fit : Option (Phase W) → Bool) (old new : Waiters D W) (q : ℕ) where
+  pub fit_one : (name : ℕ) (phase : Option (Phase W)) → fit phase ≡ true → Becomes old new name phase → fit (phase_of old q) ≡ true →
+      fit (phase_of new q) ≡ true
+  fit_one name phase can now was = elim (cases_eq q name) [
+    | inl same ↦ rw same (ap fit now.here ∙ can)
+    | inr ne ↦ ap fit (now.others q ne) ∙ was
+  ]
+
+  pub fit_among : (names : List ℕ) (phase : Phase W) → fit (Some phase) ≡ true → AllBecome old new names phase →
+      fit (phase_of old q) ≡ true → fit (phase_of new q) ≡ true
+  fit_among names phase can now was = elim (cases_Bool (holds q names)) [
+    | inl at ↦ ap fit (now.these q at) ∙ can
+    | inr off ↦ ap fit (now.others q off) ∙ was
+  ]
 
 -- These names, none twice, live, and the queue then holds those of them whose new phase has a place, and of the others whom it held.
 pub record MayNotify {D W : Type 0} (place : Option (Phase W) → Bool) (phase : Phase W) (names queue : List ℕ)

@@ -1,6 +1,6 @@
 -- What becomes of a side whose oldest future is named, and of one whose future asks for something else.
-use Rattle.std.proofs.Common.{◌≡◌, ◌≢◌, ℕ, Bool, false, List, [], ◌∷◌, ◌++◌, Option, Some, None, map, refl, sym, ap}
-use Rattle.std.proofs.Common.{append_assoc, ◌∙◌, inl, inr}
+use Rattle.std.proofs.Common.{◌≡◌, ◌≢◌, ℕ, Bool, false, List, [], ◌∷◌, ◌++◌, Option, Some, None, map, refl, sym, ap, append_assoc, ◌∙◌, inl}
+use Rattle.std.proofs.Common.{inr}
 use Rattle.std.proofs.lemmas.Bool.{cases_eq, both_ways}
 use Rattle.std.proofs.lemmas.List.{append-nil, map-append}
 use Rattle.std.specs.Option.{IsSome}
@@ -8,11 +8,10 @@ use Rattle.std.specs.Ordering.{nat_cmp}
 use Rattle.std.specs.FinMap as finmap
 use Rattle.fi_parts.specs.declared.phase.Phase.{Phase}
 use Rattle.fi_parts.specs.declared.phase.LiveFuture.{LiveFuture}
-use Rattle.fi_parts.specs.Waiting.{Waiters, Waiting, phase_in, asks_in, may_be_named, with_asks_in, with_asks, exchange}
-use Rattle.fi_parts.specs.Waiting.{noticed, pair, clear_queue, named_all, IsOrdered, AreSoundBy}
+use Rattle.fi_parts.specs.Waiting.{Waiters, Waiting, phase_in, asks_in, may_be_named, with_asks_in, with_asks, exchange, noticed, pair}
+use Rattle.fi_parts.specs.Waiting.{clear_queue, named_all, IsOrdered, AreSoundBy}
 use Rattle.fi_parts.proofs.FiniteMaps.{get-insert_same, get-insert_other}
-use Rattle.fi_parts.proofs.Waiting.{all_noticed-step}
-use Rattle.fi_parts.proofs.Waiting.{all_noticed-none}
+use Rattle.fi_parts.proofs.Waiting.{all_noticed-step, all_noticed-none}
 
 module _ {D W : Type 0} where
   -- only what this name asks for has changed

@@ -1,26 +1,15 @@
 -- What the maps and sets that a store's slots make answer.
 use Rattle.std.proofs.Common.{◌≡◌, ◌≢◌, ℕ, zero, suc, ◌+◌, ◌<◌, Bool, true, false, cond, not, ◌&&◌, ◌||◌, List, [], ◌∷◌, get_or}
 use Rattle.std.proofs.Common.{Option, Some, None, refl, sym, ap, ◌∙◌, arith, zero-add}
-use Rattle.std.proofs.lemmas.Bool.{eq-eqb, ne_eqb, cond-true, cond-false}
+use Rattle.std.proofs.lemmas.Bool.{eq-eqb, ne_eqb}
 use Rattle.std.specs.Ordering.{nat_cmp}
 use Rattle.std.specs.Cmp.{nat_cmp_total, unsigned_tied}
 use Rattle.std.specs.FinMap as map
 use Rattle.std.specs.FinSet as set
 use Rattle.fi_parts.specs.Picked.{put_if, picked, picked_from, chosen, chosen_from}
+pub use Rattle.fi_parts.proofs.FiniteMaps.{get-insert_same, get-insert_other, get-remove_same, get-remove_other}
 
 module _ {Y : Type 0} where
-  pub get-insert_same : (m : map.FinMap nat_cmp Y) (k : ℕ) (y : Y) → map.get (map.insert m k y) k ≡ Some y
-  get-insert_same m k y = map.get-insert nat_cmp_total m k y k ∙ cond-true _ _ _ (unsigned_tied k k ∙ eq-eqb k k refl)
-
-  pub get-insert_other : (m : map.FinMap nat_cmp Y) (k : ℕ) (y : Y) (q : ℕ) → q ≢ k → map.get (map.insert m k y) q ≡ map.get m q
-  get-insert_other m k y q ne = map.get-insert nat_cmp_total m k y q ∙ cond-false _ _ _ (unsigned_tied q k ∙ ne_eqb q k ne)
-
-  pub get-remove_same : (m : map.FinMap nat_cmp Y) (k : ℕ) → map.get (map.remove m k) k ≡ None
-  get-remove_same m k = map.get-remove nat_cmp_total m k k ∙ cond-true _ _ _ (unsigned_tied k k ∙ eq-eqb k k refl)
-
-  pub get-remove_other : (m : map.FinMap nat_cmp Y) (k q : ℕ) → q ≢ k → map.get (map.remove m k) q ≡ map.get m q
-  get-remove_other m k q ne = map.get-remove nat_cmp_total m k q ∙ cond-false _ _ _ (unsigned_tied q k ∙ ne_eqb q k ne)
-
   put_if-here : (m : map.FinMap nat_cmp Y) (k : ℕ) (o : Option Y) → map.get m k ≡ None → map.get (put_if m k o) k ≡ o
   put_if-here m k None none = none
   put_if-here m k (Some y) none = get-insert_same m k y

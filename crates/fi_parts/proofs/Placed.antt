@@ -1,6 +1,6 @@
 -- The blocks are cut at a pointer.
-use Rattle.std.proofs.Common.{◌≡◌, suc, length, Bool, true, false, ◌&&◌, ◌==◌, cond, List, [], ◌∷◌, ◌++◌, Option, Some, None}
-use Rattle.std.proofs.Common.{IsSome, refl, sym, ap, ◌∙◌, subst, eqb→eq, T}
+use Rattle.std.proofs.Common.{◌≡◌, suc, length, Bool, true, false, ◌&&◌, ◌==◌, List, [], ◌∷◌, ◌++◌, Option, Some, None, IsSome, refl, sym}
+use Rattle.std.proofs.Common.{ap, ◌∙◌, eqb→eq, T, arith}
 use Rattle.std.proofs.lemmas.Bool.{cond-true, cond-false}
 use lib.Dec.{eqb_refl}
 use denote.RawPtr.{Ptr, block_ptr, null_ptr}
@@ -67,61 +67,27 @@ module _ {B : Type 0} where
   pub at-with_same : (bs : List (Ptr × B)) (p : Ptr) (w : B) → IsSome (at_ptr bs p) → at_ptr (with_at bs p w) p ≡ Some w
   unfolding at_ptr with_at
   at-with_same [] p w some = cc
-  at-with_same (x ∷ bs) p w some =
-      (elim (same_ptr x.0 p) as (λ y. same_ptr x.0 p ≡ y → at_ptr (with_at (x ∷ bs) p w) p ≡ Some w) [
-        | true ↦ λ e. ap (λ l. at_ptr l p) (cond-true (same_ptr x.0 p) ((x.0, w) ∷ bs) (x ∷ with_at bs p w) e) ∙ cond-true
-            (same_ptr x.0 p) _ _ e
-        | false ↦ λ e.
-            ap (λ l. at_ptr l p) (cond-false (same_ptr x.0 p) ((x.0, w) ∷ bs) (x ∷ with_at bs p w) e) ∙ cond-false (same_ptr x.0 p) _ _ e
-            ∙ at-with_same bs p w (subst IsSome (cond-false (same_ptr x.0 p) (Some x.1) (at_ptr bs p) e) some)
-      ]) refl
+  at-with_same (x ∷ bs) p w some = grind (arith, at-with_same bs p w, some)
 
   pub at-with_other : (bs : List (Ptr × B)) (p : Ptr) (w : B) (q : Ptr) → same_ptr p q ≡ false → at_ptr (with_at bs p w) q ≡ at_ptr bs q
   unfolding at_ptr with_at
   at-with_other [] p w q ne = refl
-  at-with_other (x ∷ bs) p w q ne =
-      (elim (same_ptr x.0 p) as (λ y. same_ptr x.0 p ≡ y → at_ptr (with_at (x ∷ bs) p w) q ≡ at_ptr (x ∷ bs) q) [
-        | true ↦ λ e.
-            let off : same_ptr x.0 q ≡ false = subst (λ s. same_ptr s q ≡ false) (sym (same_ptr_eq x.0 p e)) ne in
-            ap (λ l. at_ptr l q) (cond-true (same_ptr x.0 p) ((x.0, w) ∷ bs) (x ∷ with_at bs p w) e) ∙ cond-false (same_ptr x.0 q) _ _
-            off ∙ sym (cond-false (same_ptr x.0 q) _ _ off)
-        | false ↦ λ e.
-            ap (λ l. at_ptr l q) (cond-false (same_ptr x.0 p) ((x.0, w) ∷ bs) (x ∷ with_at bs p w) e) ∙ ap
-            (cond (same_ptr x.0 q) (Some x.1)) (at-with_other bs p w q ne)
-      ]) refl
+  at-with_other (x ∷ bs) p w q ne = grind (arith, at-with_other bs p w q ne, same_ptr_eq x.0 p, ne)
 
   pub at-without_other : (bs : List (Ptr × B)) (p q : Ptr) → same_ptr p q ≡ false → at_ptr (without_at bs p) q ≡ at_ptr bs q
   unfolding at_ptr without_at
   at-without_other [] p q ne = refl
-  at-without_other (x ∷ bs) p q ne =
-      (elim (same_ptr x.0 p) as (λ y. same_ptr x.0 p ≡ y → at_ptr (without_at (x ∷ bs) p) q ≡ at_ptr (x ∷ bs) q) [
-        | true ↦ λ e.
-            let off : same_ptr x.0 q ≡ false = subst (λ s. same_ptr s q ≡ false) (sym (same_ptr_eq x.0 p e)) ne in
-            ap (λ l. at_ptr l q) (cond-true (same_ptr x.0 p) bs (x ∷ without_at bs p) e) ∙ sym (cond-false (same_ptr x.0 q) _ _ off)
-        | false ↦ λ e. ap (λ l. at_ptr l q) (cond-false (same_ptr x.0 p) bs (x ∷ without_at bs p) e) ∙ ap
-            (cond (same_ptr x.0 q) (Some x.1)) (at-without_other bs p q ne)
-      ]) refl
+  at-without_other (x ∷ bs) p q ne = grind (arith, at-without_other bs p q ne, same_ptr_eq x.0 p, ne)
 
   pub length-without_at : (bs : List (Ptr × B)) (p : Ptr) → IsSome (at_ptr bs p) → suc (length (without_at bs p)) ≡ length bs
   unfolding at_ptr without_at
   length-without_at [] p some = cc
-  length-without_at (x ∷ bs) p some =
-      (elim (same_ptr x.0 p) as (λ y. same_ptr x.0 p ≡ y → suc (length (without_at (x ∷ bs) p)) ≡ length (x ∷ bs)) [
-        | true ↦ λ e. ap (λ l. suc (length l)) (cond-true (same_ptr x.0 p) bs (x ∷ without_at bs p) e)
-        | false ↦ λ e.
-            ap (λ l. suc (length l)) (cond-false (same_ptr x.0 p) bs (x ∷ without_at bs p) e)
-            ∙ ap suc (length-without_at bs p (subst IsSome (cond-false (same_ptr x.0 p) (Some x.1) (at_ptr bs p) e) some))
-      ]) refl
+  length-without_at (x ∷ bs) p some = grind (arith, length-without_at bs p, some)
 
   pub length-with_at : (bs : List (Ptr × B)) (p : Ptr) (w : B) → length (with_at bs p w) ≡ length bs
   unfolding with_at
   length-with_at [] p w = refl
-  length-with_at (x ∷ bs) p w =
-      (elim (same_ptr x.0 p) as (λ y. same_ptr x.0 p ≡ y → length (with_at (x ∷ bs) p w) ≡ length (x ∷ bs)) [
-        | true ↦ λ e. ap length (cond-true (same_ptr x.0 p) ((x.0, w) ∷ bs) (x ∷ with_at bs p w) e)
-        | false ↦ λ e.
-            ap length (cond-false (same_ptr x.0 p) ((x.0, w) ∷ bs) (x ∷ with_at bs p w) e) ∙ ap suc (length-with_at bs p w)
-      ]) refl
+  length-with_at (x ∷ bs) p w = grind (arith, length-with_at bs p w)
 
   pub at-cons_same : (p : Ptr) (b : B) (bs : List (Ptr × B)) → at_ptr ((p, b) ∷ bs) p ≡ Some b
   unfolding at_ptr

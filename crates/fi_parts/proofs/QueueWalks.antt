@@ -26,9 +26,8 @@ module _ (queue : List ℕ) (old : List Slot) where
       queue ≡ w.front ++ slot.0 ∷ (here now next slot is w).0
   cut now next slot is w = w.split ∙ ap (λ xs. w.front ++ xs) (here now next slot is w).1
 
-  pub walk_on : (now : List Slot) (next : Option Slot) (slot : Slot) (after : Option Slot) → next ≡ Some slot →
-      Walked queue old now next → ((front rest : List ℕ) → queue ≡ front ++ slot.0 ∷ rest → IsNext after rest) →
-      Walked queue old (now ++ slot ∷ []) after
+  pub walk_on : (now : List Slot) (next : Option Slot) (slot : Slot) (after : Option Slot) → next ≡ Some slot → Walked queue old now next
+      → ((front rest : List ℕ) → queue ≡ front ++ slot.0 ∷ rest → IsNext after rest) → Walked queue old (now ++ slot ∷ []) after
   walk_on now next slot after is w younger =
       let others = (here now next slot is w).0 in
       let split = cut now next slot is w in

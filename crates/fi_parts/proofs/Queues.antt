@@ -1,24 +1,17 @@
 -- Names in a queue, and pairs in an outbox.
-use Rattle.std.proofs.Common.{◌≡◌, ◌≢◌, ℕ, Bool, true, false, not, eqb, ◌||◌, List, [], ◌∷◌, ◌++◌, cond, reverse, drop, refl, sym}
-use Rattle.std.proofs.Common.{ap, ◌∙◌, inl, inr}
-use Rattle.std.proofs.lemmas.Bool.{eqb-true, eq-eqb, ne_eqb, or_parts, or_from, or_right, both_ways, cases_eq}
+use Rattle.std.proofs.Common.{◌≡◌, ◌≢◌, ℕ, Bool, true, false, not, eqb, ◌||◌, List, [], ◌∷◌, ◌++◌, cond, reverse, drop, refl, sym, ap, ◌∙◌}
+use Rattle.std.proofs.Common.{arith}
+use Rattle.std.proofs.lemmas.Bool.{eq-eqb, ne_eqb, or_parts, or_from, or_right, both_ways, cases_eq}
 use Rattle.std.proofs.lemmas.List.{append-nil}
 use Rattle.std.proofs.lemmas.List.Elements.{filter-append}
 use Rattle.std.proofs.lemmas.Grind.{reverse_onto}
-use Rattle.fi_parts.specs.Order.{holds, Apart}
-use Rattle.fi_parts.specs.Order.{without}
+use Rattle.fi_parts.specs.Order.{holds, Apart, without}
 use Rattle.fi_parts.specs.Pairs.{has, without_pair, PairsApart}
 use Rattle.fi_parts.proofs.Slots.{holds-append, without_absent}
 use Rattle.fi_parts.proofs.Pairs.{has-push}
 
-or_turned : (a b : Bool) → (a || (b || false)) ≡ (b || a)
-or_turned true true = refl
-or_turned true false = refl
-or_turned false true = refl
-or_turned false false = refl
-
 pub holds-push : (k : ℕ) (xs : List ℕ) (x : ℕ) → holds k (xs ++ x ∷ []) ≡ (eqb k x || holds k xs)
-holds-push k xs x = holds-append k xs (x ∷ []) ∙ or_turned (holds k xs) (eqb k x)
+holds-push k xs x = grind (arith, holds-append k xs (x ∷ []))
 
 pub reverse_cons : (x : ℕ) (xs : List ℕ) → reverse (x ∷ xs) ≡ reverse xs ++ x ∷ []
 reverse_cons x xs = reverse_onto xs x []
@@ -41,32 +34,15 @@ without-push x xs y = filter-append _ xs (y ∷ [])
 
 pub reverse-without : (x : ℕ) (xs : List ℕ) → reverse (without x xs) ≡ without x (reverse xs)
 reverse-without x [] = refl
-reverse-without x (y ∷ ys) =
-    sym (ap (without x) (reverse_cons y ys) ∙ without-push x (reverse ys) y ∙ ap (λ zs. zs ++ without x (y ∷ []))
-    (sym (reverse-without x ys)) ∙ step (eqb x y))
-  where
-    step : (b : Bool) → reverse (without x ys) ++ cond (not b) (y ∷ []) [] ≡ reverse (cond (not b) (y ∷ without x ys) (without x ys))
-    step true = append-nil _
-    step false = sym (reverse_cons y (without x ys))
+reverse-without x (y ∷ ys) = grind (arith, reverse_cons, without-push x (reverse ys) y, reverse-without x ys, append-nil)
 
 pub holds-without_same : (x : ℕ) (xs : List ℕ) → holds x (without x xs) ≡ false
 holds-without_same x [] = refl
-holds-without_same x (y ∷ ys) = step (holds-without_same x ys) (eqb x y) refl
-  where
-    step : holds x (without x ys) ≡ false → (b : Bool) → eqb x y ≡ b → holds x (cond (not b) (y ∷ without x ys) (without x ys)) ≡ false
-    step rest true is = rest
-    step rest false is = or_from _ _ is rest
+holds-without_same x (y ∷ ys) = grind (arith, holds-without_same x ys)
 
 pub holds-without_other : (k x : ℕ) (xs : List ℕ) → k ≢ x → holds k (without x xs) ≡ holds k xs
 holds-without_other k x [] ne = refl
-holds-without_other k x (y ∷ ys) ne = step (holds-without_other k x ys ne) (eqb x y) refl
-  where
-    step : holds k (without x ys) ≡ holds k ys → (b : Bool) → eqb x y ≡ b → holds k (cond (not b) (y ∷ without x ys) (without x ys))
-        ≡ (eqb k y || holds k ys)
-    step rest true is =
-        let off : eqb k y ≡ false = ne_eqb k y (λ same. ne (same ∙ sym (eqb-true x y is))) in
-        rw off rest
-    step rest false is = ap (λ b. eqb k y || b) rest
+holds-without_other k x (y ∷ ys) ne = grind (arith, holds-without_other k x ys ne, ne)
 
 pub Apart-without_one : (x : ℕ) (xs : List ℕ) → Apart xs → Apart (without x xs)
 Apart-without_one x [] a = tt
@@ -78,16 +54,11 @@ Apart-without_one x (y ∷ ys) a = step (Apart-without_one x ys a.1) (eqb x y) r
 
 module _ {W : Type 0} where
   pub has_pushed : (k : ℕ) (ps : List (ℕ × W)) (x : ℕ) (w : W) → has k (ps ++ (x, w) ∷ []) ≡ (eqb k x || has k ps)
-  has_pushed k ps x w = has-push k ps x w ∙ or_turned (has k ps) (eqb k x)
+  has_pushed k ps x w = grind (arith, has-push k ps x w)
 
   pub has-without_same : (x : ℕ) (ps : List (ℕ × W)) → has x (without_pair x ps) ≡ false
   has-without_same x [] = refl
-  has-without_same x (p ∷ ps) = step (has-without_same x ps) (eqb x p.0) refl
-    where
-      step : has x (without_pair x ps) ≡ false → (b : Bool) → eqb x p.0 ≡ b
-          → has x (cond (not b) (p ∷ without_pair x ps) (without_pair x ps)) ≡ false
-      step rest true is = rest
-      step rest false is = or_from _ _ is rest
+  has-without_same x (p ∷ ps) = grind (arith, has-without_same x ps)
 
   pub has-drop : (k : ℕ) (ps : List (ℕ × W)) → has k (drop 1 ps) ≡ true → has k ps ≡ true
   has-drop k [] at = at
@@ -98,10 +69,7 @@ module _ {W : Type 0} where
   PairsApart-drop (p ∷ ps) a = a.1
 
 pub holds-without : (k x : ℕ) (xs : List ℕ) → holds k (without x xs) ≡ true → holds k xs ≡ true
-holds-without k x xs at = elim (cases_eq k x) [
-  | inl same ↦ absurd (both_ways _ (holds-without_same x xs) (ap (λ n. holds n (without x xs)) (sym same) ∙ at))
-  | inr ne ↦ sym (holds-without_other k x xs ne) ∙ at
-]
+holds-without k x xs at = grind (arith, cases_eq k x, holds-without_same x xs, holds-without_other k x xs, at)
 
 -- what is known of a list that a slot was taken out of
 pub ruleset taken_out = (without_absent, holds-without_same)

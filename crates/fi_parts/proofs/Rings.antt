@@ -16,8 +16,7 @@ module _ {T : Type 0} where
 
   -- Slots that hold the items in order are a ring of them.
   IsRing-from_Holds : (slots : List (Option T)) (start count n : ℕ) (xs : List T) → length slots ≡ n → (start ≤ n) × (0 < n → start < n)
-      → count ≤ n → count ≡ length xs
-      → Holds slots start n (slice_get xs) → IsRing slots start count × (ring_items start slots ≡ xs)
+      → count ≤ n → count ≡ length xs → Holds slots start n (slice_get xs) → IsRing slots start count × (ring_items start slots ≡ xs)
   unfolding ring_items
   IsRing-from_Holds slots start count n xs long first fits counted h =
       let laid = laid-from_Holds slots start n xs long first.0 first.1 (omega arith) h in
@@ -47,9 +46,8 @@ module _ {T : Type 0} where
 
   -- An item is written to the slot behind the last.
   pub IsRing-pushed : (slots : List (Option T)) (start count n back : ℕ) (item : T) → IsRing slots start count → n ≡ length slots
-      → Wraps start count n back → count < length slots
-      → IsRing (set slots back (Some item)) start (count + 1) × (ring_items start (set slots back (Some item))
-      ≡ ring_items start slots ++ item ∷ [])
+      → Wraps start count n back → count < length slots → IsRing (set slots back (Some item)) start (count + 1)
+      × (ring_items start (set slots back (Some item)) ≡ ring_items start slots ++ item ∷ [])
   IsRing-pushed slots start count m back item h long counts room =
       let n = length slots in let at = subst (λ k. Wraps start count k back) long counts in let xs = ring_items start slots in let ys =
       xs ++ item ∷ [] in let counted = h.counted in

@@ -1,22 +1,20 @@
 -- The futures of a timer without their seats, and that each change keeps futures and seats together.
-use Rattle.std.proofs.Common.{◌≡◌, ◌≢◌, ◌<◌, ◌-◌, arith, ℕ, Bool, true, false, List, [], ◌∷◌, ◌++◌, Option, Some, None}
-use Rattle.std.proofs.Common.{IsSome, option_map}
+use Rattle.std.proofs.Common.{◌≡◌, ◌≢◌, ◌<◌, ◌-◌, arith, ℕ, true, false, List, [], ◌∷◌, ◌++◌, Option, Some, None, IsSome, option_map}
 use Rattle.std.proofs.Common.{is_some, cond, map, refl, sym, ap, ◌∙◌, inl, inr}
 use Rattle.std.proofs.lemmas.Bool.{both_ways, cases_eq}
-use Rattle.std.proofs.lemmas.Option.{none-some}
-use Rattle.std.specs.Ordering.{nat_cmp, eq_by_cmp}
+use Rattle.std.proofs.lemmas.Option.{same_Some, none-some}
+use Rattle.std.specs.Ordering.{nat_cmp}
 use Rattle.std.specs.Cmp.{nat_cmp_total}
 use Rattle.std.specs.FinMap as finmap
 use Rattle.std.specs.FinSet as set
 use Rattle.fi_parts.specs.declared.phase.Phase.{Phase}
 use Rattle.fi_parts.specs.declared.phase.LiveFuture.{LiveFuture}
 use Rattle.fi_parts.specs.HeapModel.{HeapModel, value_under, with_values}
-use Rattle.fi_parts.specs.Waiting.{Waiting, phase_in, asks_in, is_registered, rephased}
-use Rattle.fi_parts.specs.Waiting.{with_phase, insert_fresh, without_future, pair, pair_of}
+use Rattle.fi_parts.specs.Waiting.{Waiting, phase_in, asks_in, is_registered, rephased, with_phase, insert_fresh, without_future, pair}
+use Rattle.fi_parts.specs.Waiting.{pair_of}
 use Rattle.fi_parts.specs.declared.phase.Phase.TheVariants.{Fresh, Registered, Told}
 use Rattle.fi_parts.specs.Pairs.{without_pair}
-use Rattle.fi_parts.proofs.Picked.{contains-insert_same, contains-insert_other, contains-remove_same}
-use Rattle.fi_parts.proofs.Picked.{contains-remove_other}
+use Rattle.fi_parts.proofs.Picked.{contains-insert_same, contains-insert_other, contains-remove_same, contains-remove_other}
 use Rattle.fi_parts.proofs.Waiting.{get-with_phase, get-with_phase_other}
 use Rattle.fi_parts.proofs.FiniteMaps.{get-insert_same, get-insert_other, get-remove_same, get-remove_other}
 use Rattle.fi_parts.specs.declared.deadlines.Deadline.{Deadline}
@@ -24,9 +22,9 @@ use Rattle.fi_parts.specs.declared.deadlines.Due.{Due}
 use Rattle.fi_parts.specs.Deadlines.{told_due}
 use Rattle.fi_parts.specs.Seats.{unseated, unseated_all, deadlines_of, due_of, AreSeated}
 
-module _ {X : Type 0} where
-  pub one_value : (x y : X) → ◌≡◌ {A = Option X} (Some x) (Some y) → x ≡ y
-  one_value x y e = cc
+-- the futures of a timer, with their seats
+abbrev pub Live : Type 0 → Type 0
+Live W = finmap.FinMap nat_cmp (LiveFuture Deadline W)
 
 abbrev name_in : Option Due → ℕ
 name_in None = 0
@@ -44,43 +42,30 @@ module _ {W : Type 0} where
   find-unseated : (q : ℕ) (es : List (ℕ × LiveFuture Deadline W)) → finmap.find nat_cmp q (map (λ e. (e.0, unseated e.1)) es) ≡
       unseated_in (finmap.find nat_cmp q es)
   find-unseated q [] = refl
-  find-unseated q (e ∷ es) = step (eq_by_cmp nat_cmp q e.0) (find-unseated q es)
-    where
-      step : (b : Bool) → finmap.find nat_cmp q (map (λ e'. (e'.0, unseated e'.1)) es) ≡ unseated_in (finmap.find nat_cmp q es) →
-          cond b (Some (unseated e.1)) (finmap.find nat_cmp q (map (λ e'. (e'.0, unseated e'.1)) es)) ≡
-          unseated_in (cond b (Some e.1) (finmap.find nat_cmp q es))
-      step true rest = refl
-      step false rest = rest
+  find-unseated q (e ∷ es) = grind (arith, find-unseated q es)
 
-  pub get-unseated : (live : finmap.FinMap nat_cmp (LiveFuture Deadline W)) (q : ℕ) → finmap.get (unseated_all live) q ≡
-      unseated_in (finmap.get live q)
+  pub get-unseated : (live : Live W) (q : ℕ) → finmap.get (unseated_all live) q ≡ unseated_in (finmap.get live q)
   unfolding unseated_all
   get-unseated live q = finmap.get-from_entries nat_cmp_total (map (λ e. (e.0, unseated e.1)) (finmap.entries live)) q ∙
       find-unseated q (finmap.entries live) ∙ ap unseated_in (sym (finmap.get-entries live q))
 
-  same_unseated : (live : finmap.FinMap nat_cmp (LiveFuture Deadline W)) (others : finmap.FinMap nat_cmp (LiveFuture ℕ W)) →
+  same_unseated : (live : Live W) (others : finmap.FinMap nat_cmp (LiveFuture ℕ W)) →
       ((q : ℕ) → unseated_in (finmap.get live q) ≡ finmap.get others q) → unseated_all live ≡ others
   same_unseated live others same = finmap.same_map nat_cmp_total finmap.nat_cmp-IsAntisymmetric _ _ (λ q. get-unseated live q ∙ same q)
 
   pub unseated-empty : unseated_all (finmap.empty {X = LiveFuture Deadline W} {R = nat_cmp}) ≡ finmap.empty
   unseated-empty = same_unseated _ _ (λ q. ap unseated_in (finmap.get-empty nat_cmp q) ∙ sym (finmap.get-empty nat_cmp q))
 
-  pub unseated-insert : (live : finmap.FinMap nat_cmp (LiveFuture Deadline W)) (n : ℕ) (f : LiveFuture Deadline W) →
+  pub unseated-insert : (live : Live W) (n : ℕ) (f : LiveFuture Deadline W) →
       unseated_all (finmap.insert live n f) ≡ finmap.insert (unseated_all live) n (unseated f)
-  unseated-insert live n f = same_unseated _ _ (λ q. elim (cases_eq q n) [
-    | inl same ↦ rw same (ap unseated_in (get-insert_same live n f) ∙ sym (get-insert_same (unseated_all live) n (unseated f)))
-    | inr ne ↦ ap unseated_in (get-insert_other live n f q ne) ∙ sym (get-unseated live q) ∙
-        sym (get-insert_other (unseated_all live) n (unseated f) q ne)
-  ])
+  unseated-insert live n f = same_unseated _ _
+      (λ q. grind (arith, cases_eq q n, get-unseated live q, get-insert_same, get-insert_other))
 
-  pub unseated-remove : (live : finmap.FinMap nat_cmp (LiveFuture Deadline W)) (n : ℕ) → unseated_all (finmap.remove live n) ≡
-      finmap.remove (unseated_all live) n
-  unseated-remove live n = same_unseated _ _ (λ q. elim (cases_eq q n) [
-    | inl same ↦ rw same (ap unseated_in (get-remove_same live n) ∙ sym (get-remove_same (unseated_all live) n))
-    | inr ne ↦ ap unseated_in (get-remove_other live n q ne) ∙ sym (get-unseated live q) ∙ sym (get-remove_other (unseated_all live) n q ne)
-  ])
+  pub unseated-remove : (live : Live W) (n : ℕ) → unseated_all (finmap.remove live n) ≡ finmap.remove (unseated_all live) n
+  unseated-remove live n = same_unseated _ _
+      (λ q. grind (arith, cases_eq q n, get-unseated live q, get-remove_same, get-remove_other))
 
-  pub unseated-with_phase : (live : finmap.FinMap nat_cmp (LiveFuture Deadline W)) (n : ℕ) (phase : Phase W) →
+  pub unseated-with_phase : (live : Live W) (n : ℕ) (phase : Phase W) →
       unseated_all (with_phase live n phase) ≡ with_phase (unseated_all live) n phase
   unfolding with_phase
   unseated-with_phase live n phase = each (finmap.get live n) ∙ sym (ap (rephased (unseated_all live) n phase) (get-unseated live n))
@@ -90,15 +75,11 @@ module _ {W : Type 0} where
       each None = refl
       each (Some f) = unseated-insert live n (record f { phase = phase })
 
-  pub phase-unseated : (live : finmap.FinMap nat_cmp (LiveFuture Deadline W)) (q : ℕ) → phase_in (finmap.get (unseated_all live) q) ≡
-      phase_in (finmap.get live q)
-  phase-unseated live q = ap phase_in (get-unseated live q) ∙ each (finmap.get live q)
-    where
-      each : (o : Option (LiveFuture Deadline W)) → phase_in (unseated_in o) ≡ phase_in o
-      each None = refl
-      each (Some f) = refl
+  pub phase-unseated : (live : Live W) (q : ℕ) → phase_in (finmap.get (unseated_all live) q) ≡ phase_in (finmap.get live q)
+  phase-unseated live q = ap phase_in (get-unseated live q)
+      ∙ elim (finmap.get live q) as (λ o. phase_in (unseated_in o) ≡ phase_in o) [ None ↦ refl | Some f ↦ refl ]
 
-  module _ (live : finmap.FinMap nat_cmp (LiveFuture Deadline W)) (heap : HeapModel Due) (was : AreSeated live heap) where
+  module _ (live : Live W) (heap : HeapModel Due) (was : AreSeated live heap) where
     -- two names have two seats
     pub own_seat : (n q : ℕ) (f g : LiveFuture Deadline W) → finmap.get live n ≡ Some f → finmap.get live q ≡ Some g → g.asks.seat.0 ≡
         f.asks.seat.0 → q ≡ n
@@ -106,24 +87,18 @@ module _ {W : Type 0} where
 
     module _ (n : ℕ) (f : LiveFuture Deadline W) (here : finmap.get live n ≡ Some f) where
       -- One future stands otherwise, and only its seat may be taken or left.
-      pub seated-by : (new : finmap.FinMap nat_cmp (LiveFuture Deadline W)) (heap' : HeapModel Due) (g : LiveFuture Deadline W) →
-          finmap.get new n ≡
-          Some g → g.asks ≡ f.asks → ((q : ℕ) → q ≢ n → finmap.get new q ≡ finmap.get live q) →
-          heap'.live ≡ heap.live → set.contains heap'.members f.asks.seat.0 ≡ is_registered (Some g.phase) →
-          ((k : ℕ) → k ≢ f.asks.seat.0 → set.contains heap'.members k ≡ set.contains heap.members k) → AreSeated new heap'
+      pub seated-by : (new : Live W) (heap' : HeapModel Due) (g : LiveFuture Deadline W) → finmap.get new n ≡ Some g → g.asks ≡ f.asks
+          → ((q : ℕ) → q ≢ n → finmap.get new q ≡ finmap.get live q) → heap'.live ≡ heap.live → set.contains heap'.members f.asks.seat.0
+          ≡ is_registered (Some g.phase) → ((k : ℕ) → k ≢ f.asks.seat.0 → set.contains heap'.members k ≡ set.contains heap.members k)
+          → AreSeated new heap'
       seated-by new heap' g now asks others values taken elsewhere = record {
-        seated = λ q h is. ap (λ l. finmap.get l h.asks.seat.0) values ∙ elim (cases_eq q n) [
-          | inl same ↦
-              let e : h ≡ g = one_value h g (sym is ∙ ap (finmap.get new) same ∙ now) in
-              let there : value_under heap g.asks.seat.0 ≡ Some (due_of g n) = rw asks (was.seated n f here) in
-              rw (e, same) there
-          | inr ne ↦ was.seated q h (sym (others q ne) ∙ is)
-        ];
+        seated = λ q h is.
+            grind (arith, cases_eq q n, now, asks, others q, ap finmap.get values, was.seated n f here, was.seated q h, is);
         owned = λ k due is.
             let before = was.owned k due (ap (λ l. finmap.get l k) (sym values) ∙ is) in
             elim (cases_eq due.name n) [
               | inl same ↦
-                  let e : f ≡ before.0 = one_value f before.0 (sym here ∙ ap (finmap.get live) (sym same) ∙ before.1) in (
+                  let e : f ≡ before.0 = same_Some f before.0 (sym here ∙ ap (finmap.get live) (sym same) ∙ before.1) in (
                     g,
                     ap (finmap.get new) same ∙ now,
                     ap (λ (a : Deadline). a.seat.0) asks ∙ ap (λ (h : LiveFuture Deadline W). h.asks.seat.0) e ∙
@@ -131,15 +106,8 @@ module _ {W : Type 0} where
                   )
               | inr ne ↦ (before.0, others due.name ne ∙ before.1, before.2)
             ];
-        taken = λ q h is. elim (cases_eq q n) [
-          | inl same ↦
-              let e : h ≡ g = one_value h g (sym is ∙ ap (finmap.get new) same ∙ now) in
-              let there : set.contains heap'.members g.asks.seat.0 ≡ is_registered (Some g.phase) = rw asks taken in
-              rw e there
-          | inr ne ↦
-              let before : finmap.get live q ≡ Some h = sym (others q ne) ∙ is in
-              elsewhere h.asks.seat.0 (λ same. ne (own_seat n q f h here before same)) ∙ was.taken q h before
-        ];
+        taken = λ q h is.
+            grind (arith, cases_eq q n, others q, was.taken q h, elsewhere h.asks.seat.0, own_seat n q f h here);
       }
 
       -- One future is gone, and its seat.
@@ -147,9 +115,8 @@ module _ {W : Type 0} where
           ((k : ℕ) → k ≢ f.asks.seat.0 → set.contains heap'.members k ≡ set.contains heap.members k) →
           AreSeated (finmap.remove live n) heap'
       seated-without heap' values elsewhere = record {
-        seated = λ q h is. let before = still q h is in ap (λ l. finmap.get l h.asks.seat.0) values ∙
-            get-remove_other heap.live f.asks.seat.0 h.asks.seat.0 (λ same. left q h is (own_seat n q f h here before same)) ∙
-            was.seated q h before;
+        seated = λ q h is. let before = still q h is in
+            grind (arith, values, get-remove_other heap.live, left q h is, own_seat n q f h here before, was.seated q h before);
         owned = λ k due is.
             let apart : k ≢ f.asks.seat.0 = λ same. none-some due (sym (get-remove_same heap.live f.asks.seat.0) ∙
             ap (finmap.get (finmap.remove heap.live f.asks.seat.0)) (sym same) ∙ ap (λ l. finmap.get l k) (sym values) ∙ is) in
@@ -157,13 +124,13 @@ module _ {W : Type 0} where
             ap (λ l. finmap.get l k) (sym values) ∙ is) in (
               before.0,
               get-remove_other live n due.name (λ same. apart (sym before.2 ∙
-                  ap (λ (h : LiveFuture Deadline W). h.asks.seat.0) (one_value before.0 f (sym before.1 ∙ ap (finmap.get live) same ∙
+                  ap (λ (h : LiveFuture Deadline W). h.asks.seat.0) (same_Some before.0 f (sym before.1 ∙ ap (finmap.get live) same ∙
                   here)))) ∙
                   before.1,
               before.2,
             );
-        taken = λ q h is. let before = still q h is in elsewhere h.asks.seat.0 (λ same. left q h is (own_seat n q f h here before same))
-            ∙ was.taken q h before;
+        taken = λ q h is. let before = still q h is in
+            grind (arith, elsewhere h.asks.seat.0, left q h is, own_seat n q f h here before, was.taken q h before);
       }
         where
           left : (q : ℕ) (h : LiveFuture Deadline W) → finmap.get (finmap.remove live n) q ≡ Some h → q ≢ n
@@ -179,15 +146,11 @@ module _ {W : Type 0} where
         ((k : ℕ) → k ≢ g.asks.seat.0 → value_under heap' k ≡ value_under heap k) → heap'.members ≡ heap.members →
         set.contains heap.members g.asks.seat.0 ≡ is_registered (Some g.phase) → AreSeated (finmap.insert live n g) heap'
     seated-made n g heap' free unclaimed claimed elsewhere members taken = record {
-      seated = λ q h is. elim (cases_eq q n) [
-        | inl same ↦ let e = new_one q h same is in rw (e, same) claimed
-        | inr ne ↦ let before = sym (get-insert_other live n g q ne) ∙ is in
-            elsewhere h.asks.seat.0 (λ same. none-some _ (sym unclaimed ∙ ap (value_under heap) (sym same) ∙ was.seated q h before))
-            ∙ was.seated q h before
-      ];
+      seated = λ q h is.
+          grind (arith, cases_eq q n, new_one q h, get-insert_other live n g q, elsewhere h.asks.seat.0, was.seated q h);
       owned = λ k due is. elim (cases_eq k g.asks.seat.0) [
         | inl same ↦
-            let e : due.name ≡ n = ap (λ (d : Due). d.name) (one_value due (due_of g n) (sym is ∙ ap (value_under heap') same ∙ claimed)) in
+            let e : due.name ≡ n = ap (λ (d : Due). d.name) (same_Some due (due_of g n) (sym is ∙ ap (value_under heap') same ∙ claimed)) in
             (g, ap (finmap.get (finmap.insert live n g)) e ∙ get-insert_same live n g, sym same)
         | inr ne ↦
             let before = was.owned k due (sym (elsewhere k ne) ∙ is) in (
@@ -197,35 +160,26 @@ module _ {W : Type 0} where
               before.2,
             )
       ];
-      taken = λ q h is. ap (λ m. set.contains m h.asks.seat.0) members ∙ elim (cases_eq q n) [
-        | inl same ↦ let e = new_one q h same is in rw e taken
-        | inr ne ↦ was.taken q h (sym (get-insert_other live n g q ne) ∙ is)
-      ];
+      taken = λ q h is. grind (arith, members, cases_eq q n, new_one q h, taken, get-insert_other live n g q, was.taken q h, is);
     }
       where
         new_one : (q : ℕ) (h : LiveFuture Deadline W) → q ≡ n → finmap.get (finmap.insert live n g) q ≡ Some h → h ≡ g
-        new_one q h same is = one_value h g (sym is ∙ ap (finmap.get (finmap.insert live n g)) same ∙ get-insert_same live n g)
+        new_one q h same is = same_Some h g (sym is ∙ ap (finmap.get (finmap.insert live n g)) same ∙ get-insert_same live n g)
 
-  asks_here : (live : finmap.FinMap nat_cmp (LiveFuture Deadline W)) (n : ℕ) (asks : Deadline) → asks_in (finmap.get live n) ≡ Some asks →
+  asks_here : (live : Live W) (n : ℕ) (asks : Deadline) → asks_in (finmap.get live n) ≡ Some asks →
       (f : LiveFuture Deadline W) × (finmap.get live n ≡ Some f) × (f.asks ≡ asks)
   asks_here live n asks is = each (finmap.get live n) refl is
     where
       each : (o : Option (LiveFuture Deadline W)) → finmap.get live n ≡ o → asks_in o ≡ Some asks → (f : LiveFuture Deadline W) ×
           (finmap.get live n ≡ Some f) × (f.asks ≡ asks)
       each None at e = absurd (none-some asks e)
-      each (Some f) at e = (f, at, one_value f.asks asks e)
+      each (Some f) at e = (f, at, same_Some f.asks asks e)
 
-  pub asks_live : (live : finmap.FinMap nat_cmp (LiveFuture Deadline W)) (n : ℕ) → IsSome (finmap.get live n) →
-      IsSome (asks_in (finmap.get live n))
-  asks_live live n lives = each (finmap.get live n) lives
-    where
-      each : (o : Option (LiveFuture Deadline W)) → IsSome o → IsSome (asks_in o)
-      each None h = h
-      each (Some f) h = refl
+  pub asks_live : (live : Live W) (n : ℕ) → IsSome (finmap.get live n) → IsSome (asks_in (finmap.get live n))
+  asks_live live n lives =
+      elim (finmap.get live n) as (λ o. IsSome o → IsSome (asks_in o)) [ None ↦ λ h. h | Some f ↦ λ h. refl ] lives
 
-  pub future_here : (live : finmap.FinMap nat_cmp (LiveFuture Deadline W)) (n : ℕ) → IsSome (finmap.get live n) →
-      (f : LiveFuture Deadline W) ×
-      (finmap.get live n ≡ Some f)
+  pub future_here : (live : Live W) (n : ℕ) → IsSome (finmap.get live n) → (f : LiveFuture Deadline W) × (finmap.get live n ≡ Some f)
   future_here live n lives = each (finmap.get live n) refl lives
     where
       each : (o : Option (LiveFuture Deadline W)) → finmap.get live n ≡ o → IsSome o → (f : LiveFuture Deadline W) ×
@@ -234,10 +188,8 @@ module _ {W : Type 0} where
       each (Some f) at e = (f, at)
 
   -- a future stands otherwise, and is registered exactly if it was
-  pub kept-stand : (live : finmap.FinMap nat_cmp (LiveFuture Deadline W)) (heap : HeapModel Due) (n : ℕ) (phase : Phase W) →
-      AreSeated live heap →
-      IsSome (finmap.get live n) → is_registered (Some phase) ≡ is_registered (phase_in (finmap.get live n)) →
-      AreSeated (with_phase live n phase) heap
+  pub kept-stand : (live : Live W) (heap : HeapModel Due) (n : ℕ) (phase : Phase W) → AreSeated live heap → IsSome (finmap.get live n)
+      → is_registered (Some phase) ≡ is_registered (phase_in (finmap.get live n)) → AreSeated (with_phase live n phase) heap
   kept-stand live heap n phase was lives same =
       let f = future_here live n lives in
       seated-by live heap was n f.0 f.1 (with_phase live n phase) heap (record f.0 { phase = phase })
@@ -245,11 +197,9 @@ module _ {W : Type 0} where
       refl (was.taken n f.0 f.1 ∙ sym (same ∙ ap (λ o. is_registered (phase_in o)) f.1)) (λ k ne. refl)
 
   -- a future is registered, and takes its seat
-  pub kept-registered : (live : finmap.FinMap nat_cmp (LiveFuture Deadline W)) (heap heap' : HeapModel Due) (n : ℕ) (waker : W)
-      (asks : Deadline) →
-      AreSeated live heap → asks_in (finmap.get live n) ≡ Some asks → heap'.live ≡ heap.live → heap'.members ≡
-      set.insert heap.members asks.seat.0 →
-      AreSeated (with_phase live n (Registered waker)) heap'
+  pub kept-registered : (live : Live W) (heap heap' : HeapModel Due) (n : ℕ) (waker : W) (asks : Deadline) → AreSeated live heap
+      → asks_in (finmap.get live n) ≡ Some asks → heap'.live ≡ heap.live → heap'.members ≡ set.insert heap.members asks.seat.0
+      → AreSeated (with_phase live n (Registered waker)) heap'
   kept-registered live heap heap' n waker asks was is values members =
       let f = asks_here live n asks is in
       let members' : heap'.members ≡ set.insert heap.members f.0.asks.seat.0 = rw f.2 members in
@@ -259,19 +209,16 @@ module _ {W : Type 0} where
       (λ k ne. ap (λ m. set.contains m k) members' ∙ contains-insert_other heap.members f.0.asks.seat.0 k ne)
 
   -- who is not registered has not taken its seat
-  pub seat_free : (live : finmap.FinMap nat_cmp (LiveFuture Deadline W)) (heap : HeapModel Due) (n : ℕ) (asks : Deadline) →
-      AreSeated live heap →
-      asks_in (finmap.get live n) ≡ Some asks → is_registered (phase_in (finmap.get live n)) ≡ false →
-      set.contains heap.members asks.seat.0 ≡ false
+  pub seat_free : (live : Live W) (heap : HeapModel Due) (n : ℕ) (asks : Deadline) → AreSeated live heap → asks_in (finmap.get live n)
+      ≡ Some asks → is_registered (phase_in (finmap.get live n)) ≡ false → set.contains heap.members asks.seat.0 ≡ false
   seat_free live heap n asks was is apart =
       let f = asks_here live n asks is in
       ap (λ (a : Deadline). set.contains heap.members a.seat.0) (sym f.2) ∙ was.taken n f.0 f.1 ∙
       ap (λ o. is_registered (phase_in o)) (sym f.1) ∙ apart
 
-  pub kept-told : (live : finmap.FinMap nat_cmp (LiveFuture Deadline W)) (heap heap' : HeapModel Due) (n seat : ℕ) (phase : Phase W)
-      (f : LiveFuture Deadline W) → AreSeated live heap → finmap.get live n ≡ Some f → f.asks.seat.0 ≡ seat → is_registered (Some phase) ≡
-      false →
-      heap'.live ≡ heap.live → heap'.members ≡ set.remove heap.members seat → AreSeated (with_phase live n phase) heap'
+  pub kept-told : (live : Live W) (heap heap' : HeapModel Due) (n seat : ℕ) (phase : Phase W) (f : LiveFuture Deadline W)
+      → AreSeated live heap → finmap.get live n ≡ Some f → f.asks.seat.0 ≡ seat → is_registered (Some phase) ≡ false → heap'.live
+      ≡ heap.live → heap'.members ≡ set.remove heap.members seat → AreSeated (with_phase live n phase) heap'
   kept-told live heap heap' n seat phase f was here same apart values members =
       let members' : heap'.members ≡ set.remove heap.members f.asks.seat.0 = rw same members in
       seated-by live heap was n f here (with_phase live n phase) heap' (record f { phase = phase }) (get-with_phase live n phase f here)
@@ -279,7 +226,7 @@ module _ {W : Type 0} where
       values (ap (λ m. set.contains m f.asks.seat.0) members' ∙ contains-remove_same heap.members f.asks.seat.0 ∙ sym apart)
       (λ k ne. ap (λ m. set.contains m k) members' ∙ contains-remove_other heap.members f.asks.seat.0 k ne)
 
-  pub kept-forgotten : (live : finmap.FinMap nat_cmp (LiveFuture Deadline W)) (heap heap' : HeapModel Due) (n : ℕ) (asks : Deadline) →
+  pub kept-forgotten : (live : Live W) (heap heap' : HeapModel Due) (n : ℕ) (asks : Deadline) →
       AreSeated live heap → asks_in (finmap.get live n) ≡ Some asks → heap'.live ≡ finmap.remove heap.live asks.seat.0 →
       ((k : ℕ) → k ≢ asks.seat.0 → set.contains heap'.members k ≡ set.contains heap.members k) → AreSeated (finmap.remove live n) heap'
   kept-forgotten live heap heap' n asks was is values elsewhere =
@@ -296,12 +243,10 @@ module _ {W : Type 0} where
   none_here (Some f) h = absurd (none-some f.phase (sym h))
 
   -- a future is made: its seat was claimed, and then got its name
-  pub kept-made : (live : finmap.FinMap nat_cmp (LiveFuture Deadline W)) (heap mid heap' : HeapModel Due) (n expiry seat : ℕ)
-      (claimed : Due) →
-      AreSeated live heap → phase_in (finmap.get live n) ≡ None → value_under heap seat ≡ None →
-      mid ≡ with_values heap (finmap.insert heap.live seat claimed) → set.contains mid.members seat ≡ false → heap' ≡
-      with_values mid (finmap.insert mid.live seat (due_of (fresh expiry seat) n)) →
-      AreSeated (finmap.insert live n (fresh expiry seat)) heap'
+  pub kept-made : (live : Live W) (heap mid heap' : HeapModel Due) (n expiry seat : ℕ) (claimed : Due) → AreSeated live heap
+      → phase_in (finmap.get live n) ≡ None → value_under heap seat ≡ None → mid ≡ with_values heap (finmap.insert heap.live seat claimed)
+      → set.contains mid.members seat ≡ false → heap' ≡ with_values mid (finmap.insert mid.live seat (due_of (fresh expiry seat) n))
+      → AreSeated (finmap.insert live n (fresh expiry seat)) heap'
   kept-made live heap mid heap' n expiry seat claimed was free unclaimed is apart named =
       let members : heap'.members ≡ heap.members = ap (λ (h : HeapModel Due). h.members) named ∙ ap (λ (h : HeapModel Due). h.members) is in
       let values : heap'.live ≡ finmap.insert mid.live seat (due_of (fresh expiry seat) n) = ap (λ (h : HeapModel Due). h.live) named in
@@ -313,17 +258,13 @@ module _ {W : Type 0} where
       members (ap (λ (h : HeapModel Due). set.contains h.members seat) (sym is) ∙ apart)
 
   -- a seat that was claimed and ended again
-  pub kept-refused : (live after : finmap.FinMap nat_cmp (LiveFuture Deadline W)) (heap mid heap' : HeapModel Due) (seat : ℕ)
-      (claimed : Due) →
-      AreSeated live heap → after ≡ live → value_under heap seat ≡ None →
-      mid ≡ with_values heap (finmap.insert heap.live seat claimed) → heap' ≡ with_values mid (finmap.remove mid.live seat) →
-      AreSeated after heap'
+  pub kept-refused : (live after : Live W) (heap mid heap' : HeapModel Due) (seat : ℕ) (claimed : Due) → AreSeated live heap → after ≡ live
+      → value_under heap seat ≡ None → mid ≡ with_values heap (finmap.insert heap.live seat claimed) → heap'
+      ≡ with_values mid (finmap.remove mid.live seat) → AreSeated after heap'
   kept-refused live after heap mid heap' seat claimed was same unclaimed is back =
       let values : finmap.remove (finmap.insert heap.live seat claimed) seat ≡ heap.live =
-      finmap.same_map nat_cmp_total finmap.nat_cmp-IsAntisymmetric _ _ (λ q. elim (cases_eq q seat) [
-        | inl e ↦ rw e (get-remove_same (finmap.insert heap.live seat claimed) seat ∙ sym unclaimed)
-        | inr ne ↦ get-remove_other (finmap.insert heap.live seat claimed) seat q ne ∙ get-insert_other heap.live seat claimed q ne
-      ]) in
+      finmap.same_map nat_cmp_total finmap.nat_cmp-IsAntisymmetric _ _
+      (λ q. grind (arith, cases_eq q seat, get-remove_same, get-remove_other, get-insert_other, unclaimed)) in
       let whole : heap' ≡ heap = back ∙ ap (λ (h : HeapModel Due).
       let k : HeapModel Due = with_values h (finmap.remove h.live seat) in k) is ∙
       ap (with_values heap) values in
@@ -338,9 +279,8 @@ module _ {W : Type 0} where
         each None h = h
         each (Some f) h = refl
 
-    pub seen-phase : (w' : Waiting Deadline W) (phase : Phase W) → w' ≡
-        record w { side = record w.side { live = with_phase w.side.live n phase } } →
-        deadlines_of w' ≡ record (deadlines_of w) {
+    pub seen-phase : (w' : Waiting Deadline W) (phase : Phase W) → w'
+        ≡ record w { side = record w.side { live = with_phase w.side.live n phase } } → deadlines_of w' ≡ record (deadlines_of w) {
           side = record (deadlines_of w).side {
             live =
                 with_phase (unseated_all w.side.live) n phase;

@@ -1,13 +1,11 @@
 -- The spare tickets of an outbox, which its list has and nobody else.
-use Rattle.std.proofs.Common.{◌≡◌, ◌≢◌, ◌⊎◌, ℕ, Bool, true, false, not, eqb, ◌||◌, ◌&&◌, List, [], ◌∷◌, ◌++◌, drop}
-use Rattle.std.proofs.Common.{refl, sym, ap, subst, ◌∙◌, inl, inr}
-use Rattle.std.proofs.lemmas.Bool.{eq-eqb, ne_eqb, cases_eq, both_ways, or_left, or_right, or_parts}
-use Rattle.std.proofs.lemmas.Bool.{and_parts, and_from, not_from_false, false_from_ne_true, false≢true}
+use Rattle.std.proofs.Common.{◌≡◌, ℕ, true, false, not, eqb, ◌&&◌, List, [], ◌∷◌, ◌++◌, drop, refl, sym, ap, subst, ◌∙◌, arith}
+use Rattle.std.proofs.lemmas.Bool.{eq-eqb, cases_eq, both_ways, or_left, or_right, or_parts, and_from, not_from_false, false_from_ne_true}
 use Rattle.std.proofs.lemmas.List.{append-nil}
 use Rattle.std.specs.Ordering.{nat_cmp}
 use Rattle.std.specs.Cmp.{nat_cmp_total}
 use Rattle.std.specs.FinSet as set
-use Rattle.fi_parts.specs.Order.{holds, Apart}
+use Rattle.fi_parts.specs.Order.{holds}
 use Rattle.fi_parts.specs.Pairs.{OutboxModel, with_tickets, has, without_pair}
 use Rattle.fi_parts.specs.OutboxList.{tickets_left, IsSpare}
 use Rattle.fi_parts.proofs.Pairs.{contains_inserted, contains_removed, has-push, has-without}
@@ -22,15 +20,7 @@ pub contains_left : (ts : set.FinSet nat_cmp) (xs : List ℕ) (t : ℕ)
     → set.contains (tickets_left ts xs) t ≡ (not (holds t xs) && set.contains ts t)
 unfolding tickets_left
 contains_left ts [] t = refl
-contains_left ts (x ∷ xs) t =
-    contains_left (set.remove ts x) xs t ∙ ap (λ b. not (holds t xs) && b) (contains_removed ts x t)
-    ∙ together (holds t xs) (eqb t x) (set.contains ts t)
-  where
-    together : (a b c : Bool) → (not a && (not b && c)) ≡ (not (b || a) && c)
-    together true true c = refl
-    together true false c = refl
-    together false true c = refl
-    together false false c = refl
+contains_left ts (x ∷ xs) t = grind (arith, contains_left (set.remove ts x) xs t, contains_removed ts x t)
 
 pub left_none : (ts : set.FinSet nat_cmp) → tickets_left ts [] ≡ ts
 unfolding tickets_left
@@ -39,20 +29,13 @@ left_none ts = refl
 -- a ticket that somebody has is one of the list's, and not spare
 pub taken : (ts : set.FinSet nat_cmp) (xs : List ℕ) (t : ℕ) → set.contains (tickets_left ts xs) t ≡ true
     → (holds t xs ≡ false) × (set.contains ts t ≡ true)
-taken ts xs t at =
-    let parts = and_parts (not (holds t xs)) (set.contains ts t) (sym (contains_left ts xs t) ∙ at) in
-    (turned (holds t xs) parts.0, parts.1)
-  where
-    turned : (b : Bool) → not b ≡ true → b ≡ false
-    turned true is = absurd (false≢true is)
-    turned false is = refl
+taken ts xs t at = let e = contains_left ts xs t in (grind (arith, e, at), grind (arith, e, at))
 
 pub in_list : (ts : set.FinSet nat_cmp) (xs : List ℕ) (t : ℕ) → set.contains (tickets_left ts xs) t ≡ true → set.contains ts t ≡ true
 in_list ts xs t at = (taken ts xs t at).1
 
 pub not_left : (ts : set.FinSet nat_cmp) (xs : List ℕ) (t : ℕ) → set.contains ts t ≡ false → set.contains (tickets_left ts xs) t ≡ false
-not_left ts xs t off =
-    false_from_ne_true (set.contains (tickets_left ts xs) t) (λ at. both_ways (set.contains ts t) off (in_list ts xs t at))
+not_left ts xs t off = grind (arith, contains_left ts xs t, off)
 
 pub left_from : (ts : set.FinSet nat_cmp) (xs : List ℕ) (t : ℕ) → holds t xs ≡ false → set.contains ts t ≡ true
     → set.contains (tickets_left ts xs) t ≡ true
@@ -61,66 +44,21 @@ left_from ts xs t off at = contains_left ts xs t ∙ and_from (not (holds t xs))
 -- what was claimed of the list is claimed of what is left
 pub left_inserted : (ts : set.FinSet nat_cmp) (xs : List ℕ) (t : ℕ) → holds t xs ≡ false
     → tickets_left (set.insert ts t) xs ≡ set.insert (tickets_left ts xs) t
-left_inserted ts xs t off = same_tickets _ _ each
-  where
-    each : (q : ℕ) → set.contains (tickets_left (set.insert ts t) xs) q ≡ set.contains (set.insert (tickets_left ts xs) t) q
-    each q =
-        contains_left (set.insert ts t) xs q ∙ ap (λ b. not (holds q xs) && b) (contains_inserted ts t q)
-        ∙ turned (cases_eq q t)
-        ∙ sym (contains_inserted (tickets_left ts xs) t q ∙ ap (λ b. eqb q t || b) (contains_left ts xs q))
-      where
-        turned : ((q ≡ t) ⊎ (q ≢ t))
-            → (not (holds q xs) && (eqb q t || set.contains ts q)) ≡ (eqb q t || (not (holds q xs) && set.contains ts q))
-        turned (inl is) = rw (eq-eqb q t is, ap (λ k. holds k xs) is ∙ off) refl
-        turned (inr other) = rw (ne_eqb q t other) refl
+left_inserted ts xs t off = same_tickets _ _ (λ q. grind (arith, contains_left, contains_inserted, cases_eq q t, off))
 
 -- what is given back to the list is given back to what is left
 pub left_removed : (ts : set.FinSet nat_cmp) (xs : List ℕ) (t : ℕ) → tickets_left (set.remove ts t) xs ≡ set.remove (tickets_left ts xs) t
-left_removed ts xs t = same_tickets _ _ each
-  where
-    swapped : (a b c : Bool) → (not a && (not b && c)) ≡ (not b && (not a && c))
-    swapped true true c = refl
-    swapped true false c = refl
-    swapped false true c = refl
-    swapped false false c = refl
-
-    each : (q : ℕ) → set.contains (tickets_left (set.remove ts t) xs) q ≡ set.contains (set.remove (tickets_left ts xs) t) q
-    each q =
-        contains_left (set.remove ts t) xs q ∙ ap (λ b. not (holds q xs) && b) (contains_removed ts t q)
-        ∙ swapped (holds q xs) (eqb q t) (set.contains ts q)
-        ∙ sym (contains_removed (tickets_left ts xs) t q ∙ ap (λ b. not (eqb q t) && b) (contains_left ts xs q))
+left_removed ts xs t = same_tickets _ _ (λ q. grind (arith, contains_left, contains_removed))
 
 -- a spare ticket more is one less that somebody has
 pub left_pushed : (ts : set.FinSet nat_cmp) (xs : List ℕ) (t : ℕ) → tickets_left ts (xs ++ t ∷ []) ≡ set.remove (tickets_left ts xs) t
-left_pushed ts xs t = same_tickets _ _ each
-  where
-    apart : (a b c : Bool) → (not (a || b) && c) ≡ (not a && (not b && c))
-    apart true b c = refl
-    apart false true c = refl
-    apart false false c = refl
-
-    each : (q : ℕ) → set.contains (tickets_left ts (xs ++ t ∷ [])) q ≡ set.contains (set.remove (tickets_left ts xs) t) q
-    each q =
-        contains_left ts (xs ++ t ∷ []) q ∙ ap (λ b. not b && set.contains ts q) (holds-push q xs t)
-        ∙ apart (eqb q t) (holds q xs) (set.contains ts q)
-        ∙ sym (contains_removed (tickets_left ts xs) t q ∙ ap (λ b. not (eqb q t) && b) (contains_left ts xs q))
+left_pushed ts xs t = same_tickets _ _ (λ q. grind (arith, contains_left, holds-push, contains_removed))
 
 -- one spare ticket less is one more that somebody has
 pub left_popped : (ts : set.FinSet nat_cmp) (xs : List ℕ) (x : ℕ) → holds x xs ≡ false → set.contains ts x ≡ true
     → tickets_left ts xs ≡ set.insert (tickets_left ts (xs ++ x ∷ [])) x
-left_popped ts xs x off at = same_tickets _ _ each
-  where
-    each : (q : ℕ) → set.contains (tickets_left ts xs) q ≡ set.contains (set.insert (tickets_left ts (xs ++ x ∷ [])) x) q
-    each q =
-        kept (cases_eq q x)
-        ∙ sym (contains_inserted (tickets_left ts (xs ++ x ∷ [])) x q
-        ∙ ap (λ b. eqb q x || b) (ap (λ m. set.contains m q) (left_pushed ts xs x) ∙ contains_removed (tickets_left ts xs) x q))
-      where
-        kept : ((q ≡ x) ⊎ (q ≢ x))
-            → set.contains (tickets_left ts xs) q ≡ (eqb q x || (not (eqb q x) && set.contains (tickets_left ts xs) q))
-        kept (inl same) =
-            ap (set.contains (tickets_left ts xs)) same ∙ left_from ts xs x off at ∙ sym (or_left (eqb q x) _ (eq-eqb q x same))
-        kept (inr other) = rw (ne_eqb q x other) refl
+left_popped ts xs x off at =
+    same_tickets _ _ (λ q. grind (arith, contains_left, holds-push, contains_inserted, cases_eq q x, off, at))
 
 module _ {W : Type 0} where
   -- the spare tickets after each change of the list
@@ -146,63 +84,45 @@ module _ {W : Type 0} where
   pub spare_removed : (ts : set.FinSet nat_cmp) (ps : List (ℕ × W)) (xs : List ℕ) (t : ℕ) → IsSpare ts ps xs
       → set.contains (tickets_left ts xs) t ≡ true → IsSpare (set.remove ts t) ps xs
   spare_removed ts ps xs t spare at = record {
-    held =
-        λ x here. contains_removed ts t x
-        ∙ and_from (not (eqb x t)) (set.contains ts x)
-        (not_from_false (eqb x t) (ne_eqb x t (λ is. both_ways (holds t xs) (taken ts xs t at).0 (subst (λ k. holds k xs ≡ true) is here))))
-        (spare.held x here);
+    held = λ x here. grind (arith, contains_removed ts t x, cases_eq x t, taken ts xs t at, here, spare.held x);
     idle = spare.idle;
     once = spare.once;
   }
 
-  pub spare_pushed : (ts : set.FinSet nat_cmp) (ps : List (ℕ × W)) (xs : List ℕ) (t : ℕ) (w : W) → IsSpare ts ps xs
-      → set.contains (tickets_left ts xs) t ≡ true → IsSpare ts (ps ++ (t, w) ∷ []) xs
-  spare_pushed ts ps xs t w spare at = record {
+  pub spare_pushed : (ts ts' : set.FinSet nat_cmp) (ps ps' : List (ℕ × W)) (xs : List ℕ) (t : ℕ) (w : W) → ts' ≡ ts
+      → ps' ≡ ps ++ (t, w) ∷ [] → IsSpare ts ps xs → set.contains (tickets_left ts xs) t ≡ true → IsSpare ts' ps' xs
+  spare_pushed ts ts' ps ps' xs t w tickets pairs spare at = rw (tickets, pairs) (record {
     held = spare.held;
-    idle =
-        λ x here. has-push x ps t w
-        ∙ rw (
-          spare.idle x here,
-          ne_eqb x t (λ is. both_ways (holds t xs) (taken ts xs t at).0 (subst (λ k. holds k xs ≡ true) is here)),
-        ) refl;
+    idle = λ x here. grind (arith, has-push x ps t w, cases_eq x t, taken ts xs t at, here, spare.idle x);
     once = spare.once;
-  }
+  })
 
-  pub spare_without : (ts : set.FinSet nat_cmp) (ps : List (ℕ × W)) (xs : List ℕ) (t : ℕ) → IsSpare ts ps xs
-      → IsSpare ts (without_pair t ps) xs
-  spare_without ts ps xs t spare = record {
+  pub spare_without : (ts ts' : set.FinSet nat_cmp) (ps ps' : List (ℕ × W)) (xs : List ℕ) (t : ℕ) → ts' ≡ ts → ps' ≡ without_pair t ps
+      → IsSpare ts ps xs → IsSpare ts' ps' xs
+  spare_without ts ts' ps ps' xs t tickets pairs spare = rw (tickets, pairs) (record {
     held = spare.held;
     idle =
         λ x here. false_from_ne_true (has x (without_pair t ps)) (λ at. both_ways (has x ps) (spare.idle x here) (has-without t x ps at));
     once = spare.once;
-  }
+  })
 
-  pub spare_dropped : (ts : set.FinSet nat_cmp) (ps : List (ℕ × W)) (xs : List ℕ) → IsSpare ts ps xs → IsSpare ts (drop 1 ps) xs
-  spare_dropped ts [] xs spare = spare
-  spare_dropped ts (p ∷ ps) xs spare = record {
+  pub spare_dropped : (ts ts' : set.FinSet nat_cmp) (ps ps' : List (ℕ × W)) (xs : List ℕ) → ts' ≡ ts → ps' ≡ drop 1 ps → IsSpare ts ps xs
+      → IsSpare ts' ps' xs
+  spare_dropped ts ts' [] ps' xs tickets pairs spare = rw (tickets, pairs) spare
+  spare_dropped ts ts' (p ∷ ps) ps' xs tickets pairs spare = rw (tickets, pairs) (record {
     held = spare.held;
     idle = λ x here. (or_parts (eqb x p.0) (has x ps) (spare.idle x here)).1;
     once = spare.once;
-  }
-
-  pub spare_moved : (ts ts' : set.FinSet nat_cmp) (ps ps' : List (ℕ × W)) (xs : List ℕ) → ts' ≡ ts → ps' ≡ ps → IsSpare ts ps xs
-      → IsSpare ts' ps' xs
-  spare_moved ts ts' ps ps' xs tickets pairs spare = rw (tickets, pairs) spare
+  })
 
   -- a ticket that is given back is a spare one
   pub spare_kept : (ts : set.FinSet nat_cmp) (ps : List (ℕ × W)) (xs : List ℕ) (t : ℕ) → IsSpare ts ps xs
       → set.contains (tickets_left ts xs) t ≡ true → has t ps ≡ false → IsSpare ts ps (xs ++ t ∷ [])
   spare_kept ts ps xs t spare at off = record {
-    held = λ x here. either x here (λ k. set.contains ts k ≡ true) (taken ts xs t at).1 (spare.held x);
-    idle = λ x here. either x here (λ k. has k ps ≡ false) off (spare.idle x);
+    held = λ x here. grind (arith, holds-push x xs t, cases_eq x t, taken ts xs t at, here, spare.held x);
+    idle = λ x here. grind (arith, holds-push x xs t, cases_eq x t, off, here, spare.idle x);
     once = Apart-push xs t spare.once (taken ts xs t at).0;
   }
-    where
-      either : (x : ℕ) → holds x (xs ++ t ∷ []) ≡ true → (P : ℕ → Type 0) → P t → (holds x xs ≡ true → P x) → P x
-      either x here P at_t there = elim (cases_eq x t) [
-        | inl is ↦ subst P (sym is) at_t
-        | inr other ↦ there (sym (ap (λ b. b || holds x xs) (ne_eqb x t other)) ∙ sym (holds-push x xs t) ∙ here)
-      ]
 
   -- the youngest spare one is claimed
   pub spare_claimed : (ts : set.FinSet nat_cmp) (ps : List (ℕ × W)) (xs : List ℕ) (x : ℕ) → IsSpare ts ps (xs ++ x ∷ []) → IsSpare ts ps xs
@@ -215,8 +135,7 @@ module _ {W : Type 0} where
   -- who has a pair is no spare ticket
   pub left_live : (ts : set.FinSet nat_cmp) (ps : List (ℕ × W)) (xs : List ℕ) → IsSpare ts ps xs
       → ((t : ℕ) → has t ps ≡ true → set.contains ts t ≡ true) → (t : ℕ) → has t ps ≡ true → set.contains (tickets_left ts xs) t ≡ true
-  left_live ts ps xs spare live t at =
-      left_from ts xs t (false_from_ne_true (holds t xs) (λ here. both_ways (has t ps) (spare.idle t here) at)) (live t at)
+  left_live ts ps xs spare live t at = grind (arith, contains_left ts xs t, spare.idle t, live t, at)
 
   -- an outbox as it is seen, where its list is this
   abbrev pub left_of : OutboxModel W → List ℕ → OutboxModel W
@@ -235,9 +154,7 @@ module _ {W : Type 0} where
       rw is (record {
         held = spare_inserted b.tickets b.pairs xs t spare;
         view = λ i. record { tickets = left i; pairs = b.pairs; visits = b.visits };
-        live =
-            ap (λ ts. set.contains ts t) left ∙ contains_inserted (tickets_left b.tickets xs) t t
-            ∙ or_left (eqb t t) _ (eq-eqb t t refl);
+        live = grind (arith, left, contains_inserted (tickets_left b.tickets xs) t t);
       })
 
   -- a ticket was given back to the list
@@ -274,17 +191,12 @@ module _ {W : Type 0} where
   SpareClaimed-at b was xs x is spare =
       let all = subst (IsSpare b.tickets b.pairs) is spare in
       let here = holds-push x xs x ∙ or_left (eqb x x) (holds x xs) (eq-eqb x x refl) in
-      let off = not_before all.once in
+      let off : holds x xs ≡ false = ap (holds x) (sym (append-nil xs)) ∙ apart_middle xs x [] all.once in
       let left = left_popped b.tickets xs x off (all.held x here) in
       rw is (record {
         held = spare_claimed b.tickets b.pairs xs x all;
         view = λ i. record { tickets = left i; pairs = b.pairs; visits = b.visits };
-        was_free =
-            false_from_ne_true (set.contains (tickets_left b.tickets (xs ++ x ∷ [])) x)
-            (λ at. both_ways (holds x (xs ++ x ∷ [])) (taken b.tickets (xs ++ x ∷ []) x at).0 here);
+        was_free = grind (arith, contains_left b.tickets (xs ++ x ∷ []) x, here);
         live = left_from b.tickets xs x off (all.held x here);
         idle = all.idle x here;
       })
-    where
-      not_before : Apart (xs ++ x ∷ []) → holds x xs ≡ false
-      not_before once = ap (holds x) (sym (append-nil xs)) ∙ apart_middle xs x [] once

@@ -1,6 +1,6 @@
 -- To tell the first that is due, and then all that are due, is to tell all that are due.
-use Rattle.std.proofs.Common.{◌≡◌, ◌≢◌, ℕ, true, false, ◌||◌, ◌&&◌, nat_le, List, [], ◌∷◌, ◌++◌, Option, Some, unwrap_or}
-use Rattle.std.proofs.Common.{append_assoc, sym, ap, subst, ◌∙◌, inl, inr}
+use Rattle.std.proofs.Common.{◌≡◌, ◌≢◌, ℕ, true, false, ◌||◌, ◌&&◌, nat_le, List, [], ◌∷◌, ◌++◌, Option, Some, unwrap_or, append_assoc, sym}
+use Rattle.std.proofs.Common.{ap, subst, ◌∙◌, inl, inr}
 use Rattle.std.proofs.lemmas.Bool.{eq-eqb, ne_eqb, and_parts, both_ways, cases_eq}
 use Rattle.std.proofs.lemmas.List.{append-nil}
 use Rattle.fi_parts.specs.declared.phase.Phase.{Phase}

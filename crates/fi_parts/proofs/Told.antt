@@ -1,24 +1,20 @@
 -- A front of the queue is told: the phases then, that the store stays in order, and that it can be told one by one.
-use Rattle.std.proofs.Common.{◌≡◌, ℕ, Bool, true, false, if◌then◌else◌, List, [], ◌∷◌, ◌++◌, Option, Some, None, IsSome}
-use Rattle.std.proofs.Common.{append_assoc, refl, sym}
-use Rattle.std.proofs.Common.{ap, subst, ◌∙◌, inl, inr}
-use Rattle.std.proofs.lemmas.Bool.{cases_eq}
+use Rattle.std.proofs.Common.{◌≡◌, ℕ, Bool, true, false, if◌then◌else◌, List, [], ◌∷◌, ◌++◌, Option, Some, None, append_assoc, refl, sym}
+use Rattle.std.proofs.Common.{ap, subst, ◌∙◌}
 use Rattle.std.proofs.lemmas.List.{append-nil}
 use Rattle.std.specs.Ordering.{nat_cmp}
-use Rattle.std.specs.Cmp.{nat_cmp_total}
 use Rattle.std.specs.FinMap as map
 use Rattle.fi_parts.specs.declared.phase.Phase.{Phase}
-use Rattle.fi_parts.specs.declared.phase.Phase.TheVariants.{Fresh, Registered, Told, Complete, Ended}
+use Rattle.fi_parts.specs.declared.phase.Phase.TheVariants.{Registered, Told}
 use Rattle.fi_parts.specs.declared.phase.LiveFuture.{LiveFuture}
 use Rattle.fi_parts.specs.Order.{holds, Apart, without}
 use Rattle.fi_parts.specs.Pairs.{has}
-use Rattle.fi_parts.specs.Waiting.{Waiters, Waiting, IsLive, phase_in, phase_of, is_registered, is_queued, with_phase}
-use Rattle.fi_parts.specs.Waiting.{pair_of, rephased}
+use Rattle.fi_parts.specs.Waiting.{Waiters, Waiting, IsLive, phase_in, phase_of, is_registered, is_queued, with_phase, pair_of, rephased}
 use Rattle.fi_parts.specs.Waiting.{IsOrderedBy, named, with_phases, told_one, front_told}
-use Rattle.fi_parts.proofs.FiniteMaps.{get-insert_same, get-insert_other}
+use Rattle.fi_parts.proofs.FiniteMaps.{insert_known}
 use Rattle.fi_parts.proofs.Slots.{Apart-back, apart_middle, in_neither, without_first}
 use Rattle.fi_parts.specs.PlaceRules.{IsPlaceRule, queued_rule}
-use Rattle.fi_parts.proofs.Waiting.{no_pair, phase-with_phases}
+use Rattle.fi_parts.proofs.Waiting.{live_by, no_pair, phase-with_phases}
 
 module _ {D W : Type 0} where
   named-push : (live : map.FinMap nat_cmp (LiveFuture D W)) (names : List ℕ) (n : ℕ) →
@@ -46,12 +42,8 @@ module _ {D W : Type 0} where
 
       each : (o : Option (LiveFuture D W)) → map.get live n ≡ o → phase_in o ≡ Some phase → rephased live n phase o ≡ live
       each None here stood = refl
-      each (Some f) here stood = map.same_map nat_cmp_total map.nat_cmp-IsAntisymmetric _ _ (λ q. elim (cases_eq q n) [
-        | inl same ↦ rw same
-            (get-insert_same live n (record f { phase = phase })
-            ∙ ap (λ p. Some (record f { phase = p })) (some f.phase phase stood) ∙ sym here)
-        | inr ne ↦ get-insert_other live n (record f { phase = phase }) q ne
-      ])
+      each (Some f) here stood = insert_known live n (record f { phase = phase })
+          (here ∙ ap (λ p. Some (record f { phase = p })) (sym (some f.phase phase stood)))
 
 module _ {D W : Type 0} (place : Option (Phase W) → Bool) (rule : IsPlaceRule place) where
   -- to tell a front and then the next one is to tell the front with it
@@ -95,21 +87,14 @@ module _ {D W : Type 0} (place : Option (Phase W) → Bool) (rule : IsPlaceRule 
 
 module _ {W : Type 0} where
   waits_if : (keeps : Bool) (p : Option (Phase W)) → is_queued keeps p ≡ true → is_queued true p ≡ true
-  waits_if keeps None h = h
-  waits_if keeps (Some Fresh) h = h
   waits_if keeps (Some (Registered w)) h = refl
   waits_if keeps (Some Told) h = refl
-  waits_if keeps (Some Complete) h = h
-  waits_if keeps (Some Ended) h = h
+  waits_if keeps p h = h
 
 module _ {D W : Type 0} where
   -- who waits is live
   pub live_if_waits : (side : Waiters D W) (name : ℕ) → is_queued true (phase_of side name) ≡ true → IsLive side name
-  live_if_waits side name waits = each (map.get side.live name) waits
-    where
-      each : (o : Option (LiveFuture D W)) → is_queued true (phase_in o) ≡ true → IsSome o
-      each None r = r
-      each (Some f) r = refl
+  live_if_waits side name waits = live_by (is_queued true) refl side name waits
 
   pub waits-ordered : (keeps : Bool) (w : Waiting D W) (name : ℕ) → IsOrderedBy (is_queued keeps) w.side w.out →
       holds name w.side.queue ≡ true → is_queued true (phase_of w.side name) ≡ true

@@ -1,7 +1,6 @@
 -- The entries of a list, seen as a wait queue of futures with tickets.
-use Rattle.std.proofs.Common.{◌≡◌, ℕ, Bool, true, false, Bor, List, [], ◌∷◌, ◌++◌, Option, Some, None, MatchOption, is_some}
-use Rattle.std.proofs.Common.{option_copied, cond, map, reverse, refl, sym, ap, ◌∙◌, inl, inr}
-use Rattle.std.proofs.lemmas.Bool.{cases_eq}
+use Rattle.std.proofs.Common.{◌≡◌, ℕ, Bool, true, false, Bor, List, [], ◌∷◌, ◌++◌, Option, Some, None, MatchOption, is_some, option_copied}
+use Rattle.std.proofs.Common.{cond, map, reverse, refl, sym, ap, ◌∙◌}
 use Rattle.std.proofs.lemmas.List.{reverse-append, reverse-reverse, append_assoc}
 use Rattle.std.specs.Option.{IsSome, option_map}
 use Rattle.std.specs.Ordering.{nat_cmp, eq_by_cmp}
@@ -9,15 +8,15 @@ use Rattle.std.specs.Cmp.{nat_cmp_total}
 use Rattle.std.specs.FinMap as finmap
 use Rattle.fi_parts.specs.declared.errors.Slot.{Slot}
 use Rattle.fi_parts.specs.declared.phase.Phase.{Phase}
-use Rattle.fi_parts.specs.declared.phase.Phase.TheVariants.{Fresh, Registered, Told, Complete, Ended}
+use Rattle.fi_parts.specs.declared.phase.Phase.TheVariants.{Fresh, Registered}
 use Rattle.fi_parts.specs.declared.outbox.Ticket.{Ticket}
 use Rattle.fi_parts.specs.declared.wait_queue.Ticketed.{Ticketed}
 use Rattle.fi_parts.specs.ListModel.{ListModel, item_of, with_live, at_end}
 use Rattle.fi_parts.specs.Order.{holds, without, youngest}
-use Rattle.fi_parts.specs.Waiting.{phase_in, phase_of, asks_in, asks_of, waker_in, insert_fresh, registered, without_future}
-use Rattle.fi_parts.specs.Waiting.{rephased, pair_of, with_phase, with_asks_in, with_asks}
+use Rattle.fi_parts.specs.Waiting.{phase_in, phase_of, asks_in, asks_of, waker_in, insert_fresh, registered, without_future, rephased}
+use Rattle.fi_parts.specs.Waiting.{pair_of, with_phase, with_asks_in, with_asks}
 use Rattle.fi_parts.specs.WaitQueueModel.{WaitQueueModel, mapped, future_of, ticket_of, wait_queue_of, empty_wait_queue}
-use Rattle.fi_parts.proofs.FiniteMaps.{get-insert_same, get-insert_other, get-remove_same, get-remove_other}
+use Rattle.fi_parts.proofs.FiniteMaps.{same_maps, insert_known, get-insert_same, get-insert_other, get-remove_same, get-remove_other}
 use Rattle.fi_parts.proofs.Queues.{reverse_cons, reverse-without, holds-reverse}
 
 -- a queue is its list's order reversed, also where it is cut
@@ -56,40 +55,30 @@ module _ {A B : Type 0} (f : A → B) where
       finmap.get-from_entries nat_cmp_total (map (λ e. (e.0, f e.1)) (finmap.entries live)) q
       ∙ find-mapped q (finmap.entries live) ∙ ap (option_map f) (sym (finmap.get-entries live q))
 
-  same_mapped : (live : finmap.FinMap nat_cmp A) (others : finmap.FinMap nat_cmp B) →
-      ((q : ℕ) → option_map f (finmap.get live q) ≡ finmap.get others q) → mapped f live ≡ others
-  same_mapped live others same =
-      finmap.same_map nat_cmp_total finmap.nat_cmp-IsAntisymmetric _ _ (λ q. get-mapped live q ∙ same q)
-
   pub mapped-empty : mapped f finmap.empty ≡ finmap.empty
   mapped-empty =
-      same_mapped _ _ (λ q. ap (option_map f) (finmap.get-empty nat_cmp q) ∙ sym (finmap.get-empty nat_cmp q))
+      finmap.same_map nat_cmp_total finmap.nat_cmp-IsAntisymmetric _ _
+      (λ q. get-mapped _ q ∙ ap (option_map f) (finmap.get-empty nat_cmp q) ∙ sym (finmap.get-empty nat_cmp q))
 
   pub mapped-insert : (live : finmap.FinMap nat_cmp A) (n : ℕ) (a : A) →
       mapped f (finmap.insert live n a) ≡ finmap.insert (mapped f live) n (f a)
-  mapped-insert live n a = same_mapped _ _ (λ q. elim (cases_eq q n) [
-    | inl same ↦ rw same (ap (option_map f) (get-insert_same live n a) ∙ sym (get-insert_same (mapped f live) n (f a)))
-    | inr ne ↦ ap (option_map f) (get-insert_other live n a q ne) ∙ sym (get-mapped live q)
-        ∙ sym (get-insert_other (mapped f live) n (f a) q ne)
-  ])
+  mapped-insert live n a =
+      same_maps _ _ n (get-mapped _ n ∙ ap (option_map f) (get-insert_same live n a) ∙ sym (get-insert_same (mapped f live) n (f a)))
+      (λ q ne. get-mapped _ q ∙ ap (option_map f) (get-insert_other live n a q ne) ∙ sym (get-mapped live q)
+      ∙ sym (get-insert_other (mapped f live) n (f a) q ne))
 
   pub mapped-remove : (live : finmap.FinMap nat_cmp A) (n : ℕ) →
       mapped f (finmap.remove live n) ≡ finmap.remove (mapped f live) n
-  mapped-remove live n = same_mapped _ _ (λ q. elim (cases_eq q n) [
-    | inl same ↦ rw same (ap (option_map f) (get-remove_same live n) ∙ sym (get-remove_same (mapped f live) n))
-    | inr ne ↦ ap (option_map f) (get-remove_other live n q ne) ∙ sym (get-mapped live q)
-        ∙ sym (get-remove_other (mapped f live) n q ne)
-  ])
+  mapped-remove live n =
+      same_maps _ _ n (get-mapped _ n ∙ ap (option_map f) (get-remove_same live n) ∙ sym (get-remove_same (mapped f live) n))
+      (λ q ne. get-mapped _ q ∙ ap (option_map f) (get-remove_other live n q ne) ∙ sym (get-mapped live q)
+      ∙ sym (get-remove_other (mapped f live) n q ne))
 
   -- another value with the same image
   mapped-kept : (live : finmap.FinMap nat_cmp A) (n : ℕ) (a b : A) → finmap.get live n ≡ Some a → f b ≡ f a →
       mapped f (finmap.insert live n b) ≡ mapped f live
-  mapped-kept live n a b is kept = same_mapped _ _ (λ q. elim (cases_eq q n) [
-    | inl same ↦ rw same
-        (ap (option_map f) (get-insert_same live n b) ∙ ap Some kept ∙ ap (option_map f) (sym is)
-        ∙ sym (get-mapped live n))
-    | inr ne ↦ ap (option_map f) (get-insert_other live n b q ne) ∙ sym (get-mapped live q)
-  ])
+  mapped-kept live n a b is kept =
+      mapped-insert live n b ∙ insert_known (mapped f live) n (f b) (get-mapped live n ∙ ap (option_map f) is ∙ ap Some (sym kept))
 
 module _ {D W : Type 0} where
   abbrev pub phase_at : Option (Ticketed D W) → Option (Phase W)
@@ -280,21 +269,14 @@ module _ {W : Type 0} where
   pub registered_with : (p : Option (Phase W)) (r : Option W) (w : W) →
       MatchOption p ⊥ (λ before. r ≡ waker_in before) → r ≡ Some w → p ≡ Some (Registered w)
   registered_with None r w h e = absurd h
-  registered_with (Some Fresh) r w h e = absurd (cc)
   registered_with (Some (Registered v)) r w h e = let same : v ≡ w = cc in ap (λ z. Some (Registered z)) same
-  registered_with (Some Told) r w h e = absurd (cc)
-  registered_with (Some Complete) r w h e = absurd (cc)
-  registered_with (Some Ended) r w h e = absurd (cc)
+  registered_with p r w h e = absurd (cc)
 
   -- and who gave none has no pair to be named by
   pub pairless : (p : Option (Phase W)) (r : Option W) (n : ℕ) → MatchOption p ⊥ (λ before. r ≡ waker_in before) →
       r ≡ None → pair_of n p ≡ []
-  pairless None r n h e = absurd h
-  pairless (Some Fresh) r n h e = refl
   pairless (Some (Registered v)) r n h e = absurd (cc)
-  pairless (Some Told) r n h e = refl
-  pairless (Some Complete) r n h e = refl
-  pairless (Some Ended) r n h e = refl
+  pairless p r n h e = refl
 
 module _ {D W : Type 0} where
   -- the tickets stay, whoever left the queue

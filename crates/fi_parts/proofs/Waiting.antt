@@ -8,44 +8,32 @@ use Rattle.std.proofs.lemmas.List.{append-nil}
 use Rattle.std.specs.Ordering.{nat_cmp}
 use Rattle.std.specs.FinMap as map
 use Rattle.fi_parts.specs.declared.phase.Phase.{Phase}
-use Rattle.fi_parts.specs.declared.phase.Phase.TheVariants.{Fresh, Registered, Told, Complete, Ended}
+use Rattle.fi_parts.specs.declared.phase.Phase.TheVariants.{Fresh, Registered}
 use Rattle.fi_parts.specs.declared.phase.LiveFuture.{LiveFuture}
 use Rattle.fi_parts.specs.declared.phase.Notice.{Notice}
 use Rattle.fi_parts.specs.declared.phase.Notice.TheVariants.{Tell, Renew}
 use Rattle.fi_parts.specs.Noticed.{phase_after}
 use Rattle.fi_parts.specs.PlaceRules.{IsPlaceRule, registered_rule}
-use Rattle.fi_parts.specs.Order.{holds, Apart}
+use Rattle.fi_parts.specs.Order.{holds, Apart, without}
 use Rattle.fi_parts.specs.Pairs.{has, without_pair, PairsApart}
 use Rattle.fi_parts.specs.Waiting.{Waiters, Waiting, phase_in, phase_of, asks_in, is_registered, may_be_named, rephased, with_phase}
-use Rattle.fi_parts.specs.Waiting.{no_futures, insert_fresh, registered, stays, without_future}
-use Rattle.fi_parts.specs.Waiting.{noticed, pair_of, pair, IsOrdered, IsLive, named}
-use Rattle.fi_parts.specs.Waiting.{with_phases, clear_queue, notify_all, IsOrderedBy, without_place}
+use Rattle.fi_parts.specs.Waiting.{no_futures, insert_fresh, registered, without_future, noticed, pair, IsOrdered, IsLive, named}
+use Rattle.fi_parts.specs.Waiting.{with_phases, clear_queue, notify_all, IsOrderedBy}
 use Rattle.fi_parts.proofs.FiniteMaps.{get-insert_same, get-insert_other, get-remove_same, get-remove_other}
 use Rattle.fi_parts.proofs.Queues.{holds-push, Apart-push, holds-without_same, holds-without_other, Apart-without_one, has_pushed}
 use Rattle.fi_parts.proofs.Queues.{has-without_same, has-drop, PairsApart-drop}
 use Rattle.fi_parts.proofs.Pairs.{has-without, PairsApart-without, PairsApart-push}
 use Rattle.fi_parts.proofs.Slots.{eqb_same}
 
-abbrev Map : Type 0 → Type 0 → Type 0
-Map D W = map.FinMap nat_cmp (LiveFuture D W)
-
 module _ {W : Type 0} where
-  registered_is : (p : Option (Phase W)) → is_registered p ≡ true → (waker : W) × (p ≡ Some (Registered waker))
-  registered_is None h = absurd (both_ways false refl h)
-  registered_is (Some Fresh) h = absurd (both_ways false refl h)
+  pub registered_is : (p : Option (Phase W)) → is_registered p ≡ true → (waker : W) × (p ≡ Some (Registered waker))
   registered_is (Some (Registered w)) h = (w, refl)
-  registered_is (Some Told) h = absurd (both_ways false refl h)
-  registered_is (Some Complete) h = absurd (both_ways false refl h)
-  registered_is (Some Ended) h = absurd (both_ways false refl h)
+  registered_is p h = absurd (both_ways false refl h)
 
   -- who may be named is not registered
   pub unregistered : (p : Option (Phase W)) → may_be_named p ≡ true → is_registered p ≡ false
-  unregistered None h = refl
-  unregistered (Some Fresh) h = refl
   unregistered (Some (Registered w)) h = absurd (both_ways false refl h)
-  unregistered (Some Told) h = refl
-  unregistered (Some Complete) h = refl
-  unregistered (Some Ended) h = refl
+  unregistered p h = refl
 
 -- each notice leaves one that may be named
 pub notices : (W : Type 0) (notice : Notice) → may_be_named (Some (phase_after {W = W} notice)) ≡ true
@@ -82,13 +70,72 @@ module _ {D W : Type 0} where
       q ≢ name → phase_in (map.get (with_phase live name phase) q) ≡ phase_in (map.get live q)
   phase-with_phase_other live name phase q ne = ap phase_in (get-with_phase_other live name phase q ne)
 
+  -- who passes such a test lives
+  pub live_by : (test : Option (Phase W) → Bool) → test None ≡ false → (side : Waiters D W) (name : ℕ) →
+      test (phase_of side name) ≡ true → IsLive side name
+  live_by test none side name is = each (map.get side.live name) is
+    where
+      each : (o : Option (LiveFuture D W)) → test (phase_in o) ≡ true → IsSome o
+      each None r = absurd (both_ways _ none r)
+      each (Some f) r = refl
+
   -- who is registered lives
   pub live_if_registered : (side : Waiters D W) (name : ℕ) → is_registered (phase_of side name) ≡ true → IsLive side name
-  live_if_registered side name is = each (map.get side.live name) is
-    where
-      each : (o : Option (LiveFuture D W)) → is_registered (phase_in o) ≡ true → IsSome o
-      each None r = r
-      each (Some f) r = refl
+  live_if_registered side name is = live_by is_registered refl side name is
+
+  -- who stands somehow is live
+  pub lives_as : (side : Waiters D W) (name : ℕ) (phase : Phase W) → phase_of side name ≡ Some phase → IsLive side name
+  lives_as side name phase is = live_by is_some refl side name (ap is_some is)
+
+-- One name stands so now, and the others as before.
+pub record Becomes {D W : Type 0} (old new : Waiters D W) (name : ℕ) (phase : Option (Phase W)) : Type 0 where
+  pub here : phase_of new name ≡ phase
+  pub others : (q : ℕ) → q ≢ name → phase_of new q ≡ phase_of old q
+
+module _ {D W : Type 0} where
+  pub becomes-made : (side : Waiters D W) (name : ℕ) (asks : D) → Becomes side (insert_fresh side name asks) name (Some Fresh)
+  becomes-made side name asks = record {
+    here = ap phase_in (get-insert_same side.live name _);
+    others = λ q ne. ap phase_in (get-insert_other side.live name _ q ne);
+  }
+
+  pub becomes-with_phase : (side : Waiters D W) (name : ℕ) (phase : Phase W) (queue : List ℕ) → IsLive side name →
+      Becomes side (record { live = with_phase side.live name phase; queue = queue }) name (Some phase)
+  becomes-with_phase side name phase queue lives = record {
+    here = phase-with_phase side.live name phase lives;
+    others = λ q ne. phase-with_phase_other side.live name phase q ne;
+  }
+
+  pub becomes-forgotten : (side : Waiters D W) (name : ℕ) → Becomes side (without_future side name) name None
+  becomes-forgotten side name = record {
+    here = ap phase_in (get-remove_same side.live name);
+    others = λ q ne. ap phase_in (get-remove_other side.live name q ne);
+  }
+
+-- This name has a place in the queue now just if it should, and the places of the others are as before.
+pub record HasPlace (name : ℕ) (here : Bool) (old new : List ℕ) : Type 0 where
+  pub is : holds name new ≡ here
+  pub others : (q : ℕ) → q ≢ name → holds q new ≡ holds q old
+  pub once : Apart new
+
+-- the queue stays, or the name goes to its end, or leaves it
+pub same_places : (name : ℕ) (here : Bool) (queue : List ℕ) → Apart queue → holds name queue ≡ here → HasPlace name here queue queue
+same_places name here queue once is = record { is = is; others = λ q ne. refl; once = once }
+
+pub last_place : (name : ℕ) (here : Bool) (queue : List ℕ) → Apart queue → here ≡ true → holds name queue ≡ false →
+    HasPlace name here queue (queue ++ name ∷ [])
+last_place name here queue once is off = record {
+  is = holds-push name queue name ∙ ap (λ b. b || holds name queue) (eqb_same name) ∙ sym is;
+  others = λ q ne. holds-push q queue name ∙ ap (λ b. b || holds q queue) (ne_eqb q name ne);
+  once = Apart-push queue name once off;
+}
+
+pub no_place : (name : ℕ) (here : Bool) (queue : List ℕ) → Apart queue → here ≡ false → HasPlace name here queue (without name queue)
+no_place name here queue once is = record {
+  is = holds-without_same name queue ∙ sym is;
+  others = λ q ne. holds-without_other q name queue ne;
+  once = Apart-without_one name queue once;
+}
 
 -- the registered have a place, or none of them has
 pub placed : {W : Type 0} (place : Option (Phase W) → Bool) (rule : IsPlaceRule place) (p : Option (Phase W)) →
@@ -99,35 +146,32 @@ placed place rule p is = let w = registered_is p is in ap place w.1 ∙ rule.reg
 module _ {D W : Type 0} (place : Option (Phase W) → Bool) (rule : IsPlaceRule place) where
   -- who has a place lives
   pub live_if_placed : (side : Waiters D W) (name : ℕ) → place (phase_of side name) ≡ true → IsLive side name
-  live_if_placed side name is = each (map.get side.live name) is
-    where
-      each : (o : Option (LiveFuture D W)) → place (phase_in o) ≡ true → IsSome o
-      each None r = absurd (both_ways _ rule.none r)
-      each (Some f) r = refl
+  live_if_placed side name is = live_by place rule.none side name is
 
-  -- One name changed, and the others stand as before.
-  pub ordered_by : (old new : Waiters D W) (out after : List (ℕ × W)) (name : ℕ) → IsOrderedBy place old out →
-      ((q : ℕ) → q ≢ name → phase_of new q ≡ phase_of old q) →
-      ((q : ℕ) → q ≢ name → holds q new.queue ≡ holds q old.queue) →
-      ((q : ℕ) → q ≢ name → has q after ≡ true → has q out ≡ true) →
-      holds name new.queue ≡ place (phase_of new name) → Apart new.queue →
-      (has name after ≡ true → may_be_named (phase_of new name) ≡ true) → PairsApart after → IsOrderedBy place new after
-  ordered_by old new out after name was phases queues outs here once may apart = record {
+  -- One name has another phase now, and the others stand as before.
+  ordered_by : (old new : Waiters D W) (out after : List (ℕ × W)) (name : ℕ) (phase : Option (Phase W)) → IsOrderedBy place old out →
+      Becomes old new name phase → HasPlace name (place phase) old.queue new.queue →
+      ((q : ℕ) → q ≢ name → has q after ≡ true → has q out ≡ true) → (has name after ≡ true → may_be_named phase ≡ true) →
+      PairsApart after → IsOrderedBy place new after
+  ordered_by old new out after name phase was now queue outs may apart = record {
     queued = λ q. elim (cases_eq q name) [
-      | inl same ↦ rw same here
-      | inr ne ↦ queues q ne ∙ was.queued q ∙ ap place (sym (phases q ne))
+      | inl same ↦ rw same (queue.is ∙ sym (ap place now.here))
+      | inr ne ↦ queue.others q ne ∙ was.queued q ∙ ap place (sym (now.others q ne))
     ];
-    once = once;
+    once = queue.once;
     named = λ q at. elim (cases_eq q name) [
-      | inl same ↦ rw same (may (subst (λ (n : ℕ). has n after ≡ true) same at))
-      | inr ne ↦ ap may_be_named (phases q ne) ∙ was.named q (outs q ne at)
+      | inl same ↦ rw same (ap may_be_named now.here ∙ may (subst (λ (n : ℕ). has n after ≡ true) same at))
+      | inr ne ↦ ap may_be_named (now.others q ne) ∙ was.named q (outs q ne at)
     ];
     named_once = apart;
   }
 
-  not_queued : (side : Waiters D W) (out : List (ℕ × W)) (name : ℕ) (phase : Option (Phase W)) →
-      IsOrderedBy place side out → phase_of side name ≡ phase → place phase ≡ false → holds name side.queue ≡ false
-  not_queued side out name phase was is not_registered = was.queued name ∙ ap place is ∙ not_registered
+  -- The same where its pair is taken out, as by a poll or a cancel.
+  pub ordered-becomes : (old new : Waiters D W) (out : List (ℕ × W)) (name : ℕ) (phase : Option (Phase W)) → IsOrderedBy place old out →
+      Becomes old new name phase → HasPlace name (place phase) old.queue new.queue → IsOrderedBy place new (without_pair name out)
+  ordered-becomes old new out name phase was now queue =
+      ordered_by old new out (without_pair name out) name phase was now queue (λ q ne at. has-without name q out at)
+      (λ at. absurd (both_ways _ (has-without_same name out) at)) (PairsApart-without name out was.named_once)
 
   pub ordered-empty : IsOrderedBy place (no_futures {D = D} {W = W}) []
   ordered-empty = record {
@@ -140,70 +184,15 @@ module _ {D W : Type 0} (place : Option (Phase W) → Bool) (rule : IsPlaceRule 
   pub ordered-made : (side : Waiters D W) (out : List (ℕ × W)) (name : ℕ) (asks : D) → IsOrderedBy place side out →
       phase_of side name ≡ None → IsOrderedBy place (insert_fresh side name asks) out
   ordered-made side out name asks was free =
-      let f : LiveFuture D W = record { asks = asks; phase = Fresh } in
-      let now : phase_of (insert_fresh side name asks) name ≡ Some Fresh = ap phase_in (get-insert_same side.live name f) in
-      ordered_by side (insert_fresh side name asks) out out name was
-      (λ q ne. ap phase_in (get-insert_other side.live name f q ne)) (λ q ne. refl) (λ q ne at. at)
-      (not_queued side out name None was free rule.none ∙ sym (ap place now ∙ rule.fresh)) was.once
-      (λ at. ap may_be_named now) was.named_once
-
-  -- one that has no place gets a phase that has none
-  pub ordered-set_phase : (phase : Phase W) (side : Waiters D W) (out : List (ℕ × W)) (name : ℕ) →
-      place (Some phase) ≡ false →
-      may_be_named (Some phase) ≡ true → IsOrderedBy place side out → IsLive side name → place
-      (phase_of side name) ≡ false →
-      IsOrderedBy place (record side { live = with_phase side.live name phase }) out
-  ordered-set_phase phase side out name off may was lives apart =
-      let new : Waiters D W = record side { live = with_phase side.live name phase } in
-      let now : phase_of new name ≡ Some phase = phase-with_phase side.live name phase lives in
-      ordered_by side new out out name was (λ q ne. phase-with_phase_other side.live name phase q ne) (λ q ne. refl)
-      (λ q ne at. at)
-      (not_queued side out name (phase_of side name) was refl apart ∙ sym (ap place now ∙ off)) was.once
-      (λ at. ap may_be_named now ∙ may) was.named_once
-
-  pub ordered-registered : (side : Waiters D W) (out : List (ℕ × W)) (name : ℕ) (waker : W) →
-      place (Some (Registered waker)) ≡ true → IsOrderedBy place side out →
-      IsLive side name → place (phase_of side name) ≡ false → has name out ≡ false →
-      IsOrderedBy place (registered side name waker) out
-  ordered-registered side out name waker queues was lives apart no_pair =
-      let now : phase_of (registered side name waker) name ≡ Some (Registered waker) =
-      phase-with_phase side.live name (Registered waker) lives in
-      ordered_by side (registered side name waker) out out name was
-      (λ q ne. phase-with_phase_other side.live name (Registered waker) q ne)
-      (λ q ne. holds-push q side.queue name ∙ ap (λ b. b || holds q side.queue) (ne_eqb q name ne)) (λ q ne at. at)
-      (holds-push name side.queue name ∙ ap (λ b. b || holds name side.queue) (eqb_same name)
-      ∙ sym (ap place now ∙ queues))
-      (Apart-push side.queue name was.once (not_queued side out name (phase_of side name) was refl apart))
-      (λ at. absurd (both_ways _ no_pair at)) was.named_once
-
-  -- one registers, and gets no place
-  pub ordered-registered_apart : (side : Waiters D W) (out : List (ℕ × W)) (name : ℕ) (waker : W) →
-      place (Some (Registered waker)) ≡ false → IsOrderedBy place side out →
-      IsLive side name → place (phase_of side name) ≡ false → has name out ≡ false →
-      IsOrderedBy place (stays side name waker) out
-  ordered-registered_apart side out name waker off was lives apart no_pair =
-      let now : phase_of (stays side name waker) name ≡ Some (Registered waker) =
-      phase-with_phase side.live name (Registered waker) lives in
-      ordered_by side (stays side name waker) out out name was
-      (λ q ne. phase-with_phase_other side.live name (Registered waker) q ne) (λ q ne. refl) (λ q ne at. at)
-      (not_queued side out name (phase_of side name) was refl apart ∙ sym (ap place now ∙ off)) was.once
-      (λ at. absurd (both_ways _ no_pair at)) was.named_once
+      ordered_by side (insert_fresh side name asks) out out name (Some Fresh) was (becomes-made side name asks)
+      (same_places name _ side.queue was.once (was.queued name ∙ ap place free ∙ rule.none ∙ sym rule.fresh)) (λ q ne at. at)
+      (λ at. refl) was.named_once
 
   -- who is registered has no pair
   pub no_pair : (side : Waiters D W) (out : List (ℕ × W)) (name : ℕ) → IsOrderedBy place side out →
       is_registered (phase_of side name) ≡ true → has name out ≡ false
   no_pair side out name was is =
       false_from_ne_true _ (λ at. both_ways _ (unregistered (phase_of side name) (was.named name at)) is)
-
-  pub ordered-stays : (side : Waiters D W) (out : List (ℕ × W)) (name : ℕ) (waker : W) → IsOrderedBy place side out →
-      is_registered (phase_of side name) ≡ true → IsOrderedBy place (stays side name waker) out
-  ordered-stays side out name waker was is =
-      let now : phase_of (stays side name waker) name ≡ Some (Registered waker) =
-      phase-with_phase side.live name (Registered waker) (live_if_registered side name is) in
-      ordered_by side (stays side name waker) out out name was
-      (λ q ne. phase-with_phase_other side.live name (Registered waker) q ne) (λ q ne. refl) (λ q ne at. at)
-      (was.queued name ∙ placed place rule (phase_of side name) is ∙ sym (ap place now ∙ rule.registered waker))
-      was.once (λ at. absurd (both_ways _ (no_pair side out name was is) at)) was.named_once
 
   pub ordered-without_pair : (side : Waiters D W) (out : List (ℕ × W)) (name : ℕ) → IsOrderedBy place side out →
       IsOrderedBy place side (without_pair name out)
@@ -217,12 +206,8 @@ module _ {D W : Type 0} (place : Option (Phase W) → Bool) (rule : IsPlaceRule 
   pub ordered-forgotten : (side : Waiters D W) (out : List (ℕ × W)) (name : ℕ) → IsOrderedBy place side out →
       IsOrderedBy place (without_future side name) (without_pair name out)
   ordered-forgotten side out name was =
-      let now : phase_of (without_future side name) name ≡ None = ap phase_in (get-remove_same side.live name) in
-      ordered_by side (without_future side name) out (without_pair name out) name was
-      (λ q ne. ap phase_in (get-remove_other side.live name q ne)) (λ q ne. holds-without_other q name side.queue ne)
-      (λ q ne at. has-without name q out at)
-      (holds-without_same name side.queue ∙ sym (ap place now ∙ rule.none)) (Apart-without_one name side.queue was.once)
-      (λ at. absurd (both_ways _ (has-without_same name out) at)) (PairsApart-without name out was.named_once)
+      ordered-becomes side (without_future side name) out name None was (becomes-forgotten side name)
+      (no_place name (place None) side.queue was.once rule.none)
 
   pub ordered-drop : (side : Waiters D W) (out : List (ℕ × W)) → IsOrderedBy place side out →
       IsOrderedBy place side (drop 1 out)
@@ -233,47 +218,12 @@ module _ {D W : Type 0} (place : Option (Phase W) → Bool) (rule : IsPlaceRule 
     named_once = PairsApart-drop out was.named_once;
   }
 
-  -- one left the queue, and has this phase
-  pub ordered-without_place : (phase : Phase W) (side : Waiters D W) (out : List (ℕ × W)) (name : ℕ) →
-      place (Some phase) ≡ false → may_be_named (Some phase) ≡ true → IsOrderedBy place side out → IsLive side name →
-      IsOrderedBy place (without_place phase side name) out
-  ordered-without_place phase side out name off may was lives =
-      let now : phase_of (without_place phase side name) name ≡ Some phase =
-      phase-with_phase side.live name phase lives in
-      ordered_by side (without_place phase side name) out out name was
-      (λ q ne. phase-with_phase_other side.live name phase q ne) (λ q ne. holds-without_other q name side.queue ne)
-      (λ q ne at. at)
-      (holds-without_same name side.queue ∙ sym (ap place now ∙ off)) (Apart-without_one name side.queue was.once)
-      (λ at. ap may_be_named now ∙ may) was.named_once
-
 module _ {D W : Type 0} where
   -- the first of the queue is registered
   pub first_registered : (side : Waiters D W) (out : List (ℕ × W)) (name : ℕ) (others : List ℕ) → IsOrdered side out →
       side.queue ≡ name ∷ others → is_registered (phase_of side name) ≡ true
   first_registered side out name others was is =
       sym (was.queued name) ∙ ap (holds name) is ∙ or_left _ _ (eqb_same name)
-
-  pub pair-registered : (side : Waiters D W) (name : ℕ) (waker : W) → phase_of side name ≡ Some (Registered waker) →
-      pair side name ≡ (name, waker) ∷ []
-  pair-registered side name waker is = ap (pair_of name) is
-
-  pub ordered-noticed : (phase : Phase W) (side : Waiters D W) (out : List (ℕ × W)) (name : ℕ) (waker : W)
-      (others : List ℕ) →
-      may_be_named (Some phase) ≡ true → IsOrdered side out → side.queue ≡ name ∷ others →
-      phase_of side name ≡ Some (Registered waker) →
-      IsOrdered (noticed phase side name others) (out ++ (name, waker) ∷ [])
-  ordered-noticed phase side out name waker others may was queue is =
-      let registered_now : is_registered (phase_of side name) ≡ true = ap is_registered is in
-      let now : phase_of (noticed phase side name others) name ≡ Some phase =
-      phase-with_phase side.live name phase (live_if_registered side name registered_now) in
-      let once : Apart (name ∷ others) = subst Apart queue was.once in
-      ordered_by is_registered registered_rule side (noticed phase side name others) out (out ++ (name, waker) ∷ [])
-      name was (λ q ne. phase-with_phase_other side.live name phase q ne)
-      (λ q ne. sym (ap (holds q) queue ∙ ap (λ b. b || holds q others) (ne_eqb q name ne)))
-      (λ q ne at. sym (has_pushed q out name waker ∙ ap (λ b. b || has q out) (ne_eqb q name ne)) ∙ at)
-      (once.0 ∙ sym (ap is_registered now ∙ unregistered (Some phase) may)) once.1 (λ at. ap may_be_named now ∙ may)
-      (PairsApart-push out name waker was.named_once
-      (no_pair is_registered registered_rule side out name was registered_now))
 
   -- the pairs of other names are the same
   pub named-other : (live : map.FinMap nat_cmp (LiveFuture D W)) (n : ℕ) (phase : Phase W) (names : List ℕ) →
@@ -315,22 +265,24 @@ module _ {D W : Type 0} where
       ap (λ names. w.out ++ named w.side.live names) none ∙ append-nil w.out in
       λ i. record { side = record { live = live i; queue = sym none i }; out = out i }
 
-  -- who stands somehow is live
-  pub lives_as : (side : Waiters D W) (name : ℕ) (phase : Phase W) → phase_of side name ≡ Some phase → IsLive side name
-  lives_as side name phase is = each (map.get side.live name) is
-    where
-      each : (o : Option (LiveFuture D W)) → phase_in o ≡ Some phase → IsSome o
-      each None e = cc
-      each (Some f) e = refl
-
   -- the oldest is named, and leaves the queue
   pub ordered-next : (phase : Phase W) (w : Waiting D W) (n : ℕ) (others : List ℕ) → may_be_named (Some phase) ≡ true →
       IsOrdered w.side w.out → w.side.queue ≡ n ∷ others →
       IsOrdered (noticed phase w.side n others) (w.out ++ pair w.side n)
   ordered-next phase w n others may was queue =
-      let waker = registered_is (phase_of w.side n) (first_registered w.side w.out n others was queue) in
-      rw (pair-registered w.side n waker.0 waker.1)
-      (ordered-noticed phase w.side w.out n waker.0 others may was queue waker.1)
+      let here = first_registered w.side w.out n others was queue in
+      let waker = registered_is (phase_of w.side n) here in
+      let once : Apart (n ∷ others) = subst Apart queue was.once in
+      rw waker.1
+      (ordered_by is_registered registered_rule w.side (noticed phase w.side n others) w.out (w.out ++ (n, waker.0) ∷ []) n (Some phase)
+      was (becomes-with_phase w.side n phase others (live_if_registered w.side n here))
+      (record {
+        is = once.0 ∙ sym (unregistered (Some phase) may);
+        others = λ q ne. sym (ap (holds q) queue ∙ ap (λ b. b || holds q others) (ne_eqb q n ne));
+        once = once.1;
+      })
+      (λ q ne at. sym (has_pushed q w.out n waker.0 ∙ ap (λ b. b || has q w.out) (ne_eqb q n ne)) ∙ at) (λ at. may)
+      (PairsApart-push w.out n waker.0 was.named_once (no_pair is_registered registered_rule w.side w.out n was here)))
 
   pub noticed-next : (phase : Phase W) (w mid new : Waiting D W) (n : ℕ) (others : List ℕ) →
       mid ≡ record w { side = record w.side { queue = others } } →
@@ -348,55 +300,17 @@ module _ {D W : Type 0} where
       } in v)
       left
 
-  pub ordered-all_noticed : (phase : Phase W) (names : List ℕ) (w : Waiting D W) → may_be_named (Some phase) ≡ true →
-      w.side.queue ≡ names → IsOrdered w.side w.out → IsOrdered (notify_all phase w).side (notify_all phase w).out
-  ordered-all_noticed phase [] w may queue was =
-      subst (λ (v : Waiting D W). IsOrdered v.side v.out) (sym (all_noticed-none phase w queue)) was
-  ordered-all_noticed phase (n ∷ others) w may queue was =
-      let next = ordered-next phase w n others may was queue in
-      subst (λ (v : Waiting D W). IsOrdered v.side v.out) (all_noticed-step phase w n others was queue)
-      (ordered-all_noticed phase others
-      (record { side = noticed phase w.side n others; out = w.out ++ pair w.side n }) may refl next)
-
--- One name stands so now, and the others as before.
-pub record Becomes {D W : Type 0} (old new : Waiters D W) (name : ℕ) (phase : Option (Phase W)) : Type 0 where
-  pub here : phase_of new name ≡ phase
-  pub others : (q : ℕ) → q ≢ name → phase_of new q ≡ phase_of old q
-
 -- how a name stands once each of the queue was named and stands so
 abbrev pub noticed_phase : {W : Type 0} → Phase W → Option (Phase W) → Option (Phase W)
 noticed_phase phase (Some (Registered waker)) = Some phase
 noticed_phase phase before = before
 
 module _ {W : Type 0} where
-  noticed_phase_other : (phase : Phase W) (p : Option (Phase W)) → is_registered p ≡ false → noticed_phase phase p ≡ p
-  noticed_phase_other phase None h = refl
-  noticed_phase_other phase (Some Fresh) h = refl
+  pub noticed_phase_other : (phase : Phase W) (p : Option (Phase W)) → is_registered p ≡ false → noticed_phase phase p ≡ p
   noticed_phase_other phase (Some (Registered w)) h = absurd (both_ways true h refl)
-  noticed_phase_other phase (Some Told) h = refl
-  noticed_phase_other phase (Some Complete) h = refl
-  noticed_phase_other phase (Some Ended) h = refl
+  noticed_phase_other phase p h = refl
 
 module _ {D W : Type 0} where
-  pub becomes-made : (side : Waiters D W) (name : ℕ) (asks : D) → Becomes side (insert_fresh side name asks) name (Some Fresh)
-  becomes-made side name asks = record {
-    here = ap phase_in (get-insert_same side.live name _);
-    others = λ q ne. ap phase_in (get-insert_other side.live name _ q ne);
-  }
-
-  pub becomes-with_phase : (side : Waiters D W) (name : ℕ) (phase : Phase W) (queue : List ℕ) → IsLive side name →
-      Becomes side (record { live = with_phase side.live name phase; queue = queue }) name (Some phase)
-  becomes-with_phase side name phase queue lives = record {
-    here = phase-with_phase side.live name phase lives;
-    others = λ q ne. phase-with_phase_other side.live name phase q ne;
-  }
-
-  pub becomes-forgotten : (side : Waiters D W) (name : ℕ) → Becomes side (without_future side name) name None
-  becomes-forgotten side name = record {
-    here = ap phase_in (get-remove_same side.live name);
-    others = λ q ne. ap phase_in (get-remove_other side.live name q ne);
-  }
-
   -- the others of the queue are not this one, and those named stand so
   pub phase-with_phases : (phase : Phase W) (names : List ℕ) (live : map.FinMap nat_cmp (LiveFuture D W)) (q : ℕ) →
       holds q names ≡ false → phase_in (map.get (with_phases live names phase) q) ≡ phase_in (map.get live q)

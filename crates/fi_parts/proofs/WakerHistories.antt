@@ -3,7 +3,7 @@ use Rattle.std.specs.Prelude.{◌≡◌, ◌≢◌, ◌⊎◌, ℕ, ◌==◌, Bo
 use Rattle.std.proofs.Common.{sym, ◌∙◌, ap, inl, inr, subst}
 use Rattle.std.proofs.lemmas.Bool.{eq-eqb, ne_eqb, cases_eq, cases_Bool}
 use Rattle.fi_parts.specs.declared.phase.Phase.{Phase}
-use Rattle.fi_parts.specs.declared.phase.Phase.TheVariants.{Fresh, Registered, Told, Complete, Ended}
+use Rattle.fi_parts.specs.declared.phase.Phase.TheVariants.{Registered, Told, Complete}
 use Rattle.fi_parts.specs.Order.{holds}
 use Rattle.fi_parts.specs.Pairs.{without_pair, waker_of, oldest}
 use Rattle.fi_parts.specs.PlaceRules.{IsPlaceRule}
@@ -15,8 +15,8 @@ use Rattle.fi_parts.specs.WakerHistory.{KeepsWakers}
 use Rattle.fi_parts.specs.WakerHistory.WakerChange.{Pends, Leaves, Gives, NoEffect}
 use Rattle.fi_parts.specs.Effects.{WaiterEffect, TakesEffect}
 use Rattle.fi_parts.specs.Effects.WaiterEffect.{NoChange, Inserts, Registers, RegistersApart, KeepsWaiting, Ends, EndsPlaced, Renews}
-use Rattle.fi_parts.specs.Effects.WaiterEffect.{NotifiesOldest, NotifiesAll, NotifiesListed, NotifiesFront, PopsOldest, AndThen}
-use Rattle.fi_parts.specs.Effects.WaiterEffect.{Asks, Removes, CompletesOldest}
+use Rattle.fi_parts.specs.Effects.WaiterEffect.{NotifiesOldest, NotifiesAll, NotifiesListed, NotifiesFront, PopsOldest, AndThen, Asks}
+use Rattle.fi_parts.specs.Effects.WaiterEffect.{Removes, CompletesOldest}
 use Rattle.fi_parts.specs.Machine.{Machine, HasSoundWaitersBy, AllowsBasics}
 use Rattle.fi_parts.specs.MachineTable.{AllowsEffect, waker_change, WaiterRules, TableLine}
 use Rattle.fi_parts.proofs.PairsWithin.{none_some, some_same, if_true, if_false, in_append_left, in_append_right, in_without, in_waker_of}
@@ -160,11 +160,7 @@ module _ {D W : Type 0} where
       displaced_from phase (waker_of name first.out) ≡ Some waker → HasWaker first name waker
   at_first name waker (Some (Registered before)) first stood is =
       inl (stood ∙ ap (λ (w : W). let o : Option (Phase W) = Some (Registered w) in o) (some_same before waker is))
-  at_first name waker None first stood is = inr (in_waker_of name waker first.out is)
-  at_first name waker (Some Fresh) first stood is = inr (in_waker_of name waker first.out is)
-  at_first name waker (Some Told) first stood is = inr (in_waker_of name waker first.out is)
-  at_first name waker (Some Complete) first stood is = inr (in_waker_of name waker first.out is)
-  at_first name waker (Some Ended) first stood is = inr (in_waker_of name waker first.out is)
+  at_first name waker phase first stood is = inr (in_waker_of name waker first.out is)
 
   pub kept_at_first : {E : Type 0} (waker_change : E → WakerChange W) (first : Waiting D W) → KeepsWakers waker_change first [] first
   kept_at_first waker_change first name waker is = inl (at_first name waker (phase_of first.side name) first refl is)

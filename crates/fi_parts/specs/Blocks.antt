@@ -1,19 +1,14 @@
 -- What a contract sees of the blocks: live slots with their items, and a list of live slots.
-use Rattle.std.specs.Prelude.{◌≡◌, ℕ, zero, suc, Option, Some, None, List, [], ◌∷◌, map as each}
+use Rattle.std.specs.Prelude.{◌≡◌, ℕ, zero, Option, Some, None, List, map as each}
 use Rattle.std.specs.Ordering.{nat_cmp}
 use Rattle.std.specs.FinMap as map
 use Rattle.slab.specs.Slab.{Slab, get}
 use Rattle.fi_parts.specs.declared.blocks.block.BlockPtr.{BlockPtr}
 use Rattle.fi_parts.specs.declared.blocks.linked.LinkedBlocks.{LinkedBlocks}
 use Rattle.fi_parts.specs.ListModel.{ListModel}
+use Rattle.fi_parts.specs.Picked.{picked, picked_from}
 use Rattle.fi_parts.specs.CountedBlocks.{item_in, slot_in}
 use Rattle.fi_parts.specs.LinkedBlocks.{data_of, chain_of, IsChained}
-
--- the items of these slots, where the first slot has this number
-unfoldable pub items_from : {T : Type 0} → ℕ → List (Option T) → map.FinMap nat_cmp T
-items_from k [] = map.empty
-items_from k (None ∷ rest) = items_from (suc k) rest
-items_from k (Some v ∷ rest) = map.insert (items_from (suc k) rest) k v
 
 module _ {T : Type 0} where
   abbrev pub slot_or : Option (T × ℕ) → ℕ
@@ -22,11 +17,10 @@ module _ {T : Type 0} where
 
   module _ (data_at : BlockPtr T → Option (T × ℕ)) where
     abbrev pub item_by : Option (BlockPtr T) → Option T
-    item_by None = None
-    item_by (Some p) = item_in (data_at p)
+    item_by = picked (λ p. item_in (data_at p))
 
     abbrev pub live_by : List (Option (BlockPtr T)) → map.FinMap nat_cmp T
-    live_by slots = items_from 0 (each item_by slots)
+    live_by = picked_from (λ p. item_in (data_at p)) 0
 
     abbrev pub slot_by : BlockPtr T → ℕ
     slot_by p = slot_or (data_at p)

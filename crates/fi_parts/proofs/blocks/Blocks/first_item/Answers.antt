@@ -5,21 +5,14 @@ use Rattle.fi_parts.proofs.BlockEnds.{first_live, first_is, no_first, item_at_en
 use Rattle.fi_parts.proofs.blocks.Blocks.first_item.Goals as goal
 
 pub item-requires : goal.item-requires
-item-requires g c =
-    first_live c.self.inside.slab c.self.inside.linked c.self.invariant c.in-Some.youngest
-    (sym c.in-Some.ensures)
+item-requires g c = first_live _ _ c.self.invariant c.in-Some.youngest (sym c.in-Some.ensures)
 
 pub returns : goal.returns
 returns g c =
-    let slab = c.self.inside.slab in
-    let s = c.self.inside.linked in
-    let live = first_live slab s c.self.invariant c.in-Some.youngest (sym c.in-Some.ensures) in
-    let is = first_is slab s c.self.invariant c.in-Some.youngest (sym c.in-Some.ensures) in
-    rw (← c.self.view_is)
-    (sym (item_at_end slab s c.self.invariant c.in-Some.youngest _ is live ∙ c.item.ensures))
+    let live = first_live _ _ c.self.invariant c.in-Some.youngest (sym c.in-Some.ensures) in
+    let is = first_is _ _ c.self.invariant c.in-Some.youngest (sym c.in-Some.ensures) in
+    rw (← c.self.view_is) (sym (item_at_end _ _ c.self.invariant c.in-Some.youngest _ is live ∙ c.item.ensures))
 
 pub returns-in-None : goal.returns-in-None
-returns-in-None g c =
-    let V = view_of c.self.inside.slab c.self.inside.linked in
-    rw (← c.self.view_is)
-    (sym (ap (item_of V) (no_first c.self.inside.slab c.self.inside.linked c.self.invariant (sym c.in-None.ensures))))
+returns-in-None g c = rw (← c.self.view_is)
+    (sym (ap (item_of (view_of c.self.inside.slab c.self.inside.linked)) (no_first _ _ c.self.invariant (sym c.in-None.ensures))))

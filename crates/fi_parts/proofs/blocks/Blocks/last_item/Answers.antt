@@ -6,21 +6,14 @@ use Rattle.fi_parts.proofs.BlockEnds.{last_is, no_last, item_at_end}
 use Rattle.fi_parts.proofs.blocks.Blocks.last_item.Goals as goal
 
 pub item-requires : goal.item-requires
-item-requires g c =
-    last_live c.self.inside.linked c.in-Some.oldest c.self.invariant.chained
-    (sym c.in-Some.ensures)
+item-requires g c = last_live c.self.inside.linked c.in-Some.oldest c.self.invariant.chained (sym c.in-Some.ensures)
 
 pub returns : goal.returns
 returns g c =
-    let slab = c.self.inside.slab in
-    let s = c.self.inside.linked in
-    let live = last_live s c.in-Some.oldest c.self.invariant.chained (sym c.in-Some.ensures) in
-    let is = last_is slab s c.self.invariant c.in-Some.oldest (sym c.in-Some.ensures) in
-    rw (← c.self.view_is)
-    (sym (item_at_end slab s c.self.invariant c.in-Some.oldest _ is live ∙ c.item.ensures))
+    let live = last_live c.self.inside.linked c.in-Some.oldest c.self.invariant.chained (sym c.in-Some.ensures) in
+    let is = last_is _ _ c.self.invariant c.in-Some.oldest (sym c.in-Some.ensures) in
+    rw (← c.self.view_is) (sym (item_at_end _ _ c.self.invariant c.in-Some.oldest _ is live ∙ c.item.ensures))
 
 pub returns-in-None : goal.returns-in-None
-returns-in-None g c =
-    let V = view_of c.self.inside.slab c.self.inside.linked in
-    rw (← c.self.view_is)
-    (sym (ap (item_of V) (no_last c.self.inside.slab c.self.inside.linked c.self.invariant (sym c.in-None.ensures))))
+returns-in-None g c = rw (← c.self.view_is)
+    (sym (ap (item_of (view_of c.self.inside.slab c.self.inside.linked)) (no_last _ _ c.self.invariant (sym c.in-None.ensures))))

@@ -13,9 +13,8 @@ invariant_of-self g c =
     (lives_inside c.self.inside.waits c.args.slot.0 (rw (← c.self.view_is) at c.requires.live))
     ((rw (← c.self.view_is) at c.requires.seat) ∙ ap is_registered (phase-unseated c.self.inside.waits.side.live c.args.slot.0)))
 
-pub returns-clause-waker : goal.returns-clause-waker
-returns-clause-waker g c = rw (← c.self.view_is, phase-unseated c.self.inside.waits.side.live c.args.slot.0) c.set_phase.ensures.waker
-
-pub returns-clause-rest : goal.returns-clause-rest
-returns-clause-rest g c = rw (← c.self.view_is) (seen-phase c.self.inside.waits c.args.slot.0 c.set_phase.new.self c.args.phase
-    c.set_phase.ensures.rest)
+pub returns : goal.returns
+returns g c = rw (← c.self.view_is) (record {
+  waker = rw (phase-unseated c.self.inside.waits.side.live c.args.slot.0) c.set_phase.ensures.waker;
+  rest = seen-phase c.self.inside.waits c.args.slot.0 c.set_phase.new.self c.args.phase c.set_phase.ensures.rest;
+})

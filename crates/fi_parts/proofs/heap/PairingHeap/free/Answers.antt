@@ -13,10 +13,10 @@ invariant_of-self g c =
     heap-stays g.T.Ord.cmp c.self.inside.nodes c.free.new.self (Stays-freed _ _ c.args.slot.0 free c.free.ensures.freed
     c.free.ensures.root) c.self.invariant
 
-pub returns-clause-value : goal.returns-clause-value
-returns-clause-value g c = rw (← c.self.view_is) (get-live_of c.self.inside.nodes _ ∙ c.free.ensures.value)
-
-pub returns-clause-freed : goal.returns-clause-freed
-returns-clause-freed g c =
+pub returns : goal.returns
+returns g c =
     let free = free-under c.self.inside.nodes c.args.slot.0 (rw (← c.self.view_is) at c.requires.apart) in
-    rw (← c.self.view_is) (view-freed c.self.inside.nodes c.free.new.self c.args.slot.0 free c.free.ensures.freed c.free.ensures.root)
+    rw (← c.self.view_is) (record {
+      value = get-live_of c.self.inside.nodes _ ∙ c.free.ensures.value;
+      freed = view-freed c.self.inside.nodes c.free.new.self c.args.slot.0 free c.free.ensures.freed c.free.ensures.root;
+    })

@@ -9,12 +9,9 @@ insert-requires-clause-live g c = live-under c.self.inside.nodes c.args.slot.0 (
 pub insert-requires-clause-apart : goal.insert-requires-clause-apart
 insert-requires-clause-apart g c = free-under c.self.inside.nodes c.args.slot.0 (rw (← c.self.view_is) at c.requires.apart)
 
-pub returns-clause-member : goal.returns-clause-member
-returns-clause-member g c = contains-members_of c.insert.new.self c.args.slot.0 ∙ c.insert.ensures.put.here
-
-pub returns-clause-members : goal.returns-clause-members
-returns-clause-members g c = rw (← c.self.view_is) (members-inserted c.self.inside.nodes c.insert.new.self c.args.slot.0
-    c.insert.ensures.put)
-
-pub returns-clause-live : goal.returns-clause-live
-returns-clause-live g c = rw (← c.self.view_is) (live-same c.self.inside.nodes c.insert.new.self c.insert.ensures.put.values)
+pub returns : goal.returns
+returns g c = rw (← c.self.view_is) (record {
+  member = contains-members_of c.insert.new.self c.args.slot.0 ∙ c.insert.ensures.put.here;
+  members = members-inserted c.self.inside.nodes c.insert.new.self c.args.slot.0 c.insert.ensures.put;
+  live = live-same c.self.inside.nodes c.insert.new.self c.insert.ensures.put.values;
+})

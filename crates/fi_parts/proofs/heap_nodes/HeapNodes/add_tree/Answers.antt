@@ -1,5 +1,5 @@
 use Rattle.std.proofs.Common.{ℕ, Option, Some, None, sym, subst, ◌∙◌}
-use Rattle.fi_parts.specs.HeapNodes.{InParts, IsHeap, KeepsValues}
+use Rattle.fi_parts.specs.HeapNodes.{InParts}
 use Rattle.fi_parts.proofs.HeapPieces.{meldable-root}
 use Rattle.fi_parts.proofs.HeapSteps.{Holding, holding-melded, holding-alone, rooted-heap}
 use Rattle.fi_parts.proofs.heap_nodes.HeapNodes.add_tree.Given.{Over}
@@ -23,13 +23,8 @@ held g c =
           w.self-is w.root-is c.requires
     ]
 
-placed : (g : Over) (c : goal.After-set_root g) → IsHeap g.T.Ord.cmp c.set_root.new.self × KeepsValues c.args.self.now c.set_root.new.self
-placed g c =
-    rooted-heap g.T.Ord.cmp _ _ _ _ _ (held g c) (rw c.none.ensures at c.set_place.ensures)
-    (rw c.link_to-link.ensures at c.set_root.ensures)
-
-pub returns-clause-heap : goal.returns-clause-heap
-returns-clause-heap g c = (placed g c).0
-
-pub returns-clause-kept : goal.returns-clause-kept
-returns-clause-kept g c = (placed g c).1
+pub returns : goal.returns
+returns g c =
+    let is = rooted-heap g.T.Ord.cmp _ _ _ _ _ (held g c) (rw c.none.ensures at c.set_place.ensures)
+    (rw c.link_to-link.ensures at c.set_root.ensures) in
+    record { heap = is.0; kept = is.1 }

@@ -12,16 +12,10 @@ set_back_of-requires g c =
     cut-next g.T.Ord.cmp c.args.self.now c.take_links-links.new.self c.set_link.new.self c.args.slot c.take_links-links.result took.links
     c.requires.heap took.taken c.set_link.ensures.links
 
-pub returns-clause-parts : goal.returns-clause-parts
-returns-clause-parts g c =
+pub returns : goal.returns
+returns g c =
     let took = c.take_links-links.ensures in
-    (cut-step g.T.Ord.cmp c.args.self.now c.take_links-links.new.self c.set_link.new.self c.set_back_of.new.self c.args.slot
+    let both = cut-step g.T.Ord.cmp c.args.self.now c.take_links-links.new.self c.set_link.new.self c.set_back_of.new.self c.args.slot
     c.take_links-links.result took.links c.requires.heap took.taken c.set_link.ensures.links c.set_link.ensures.root
-    c.set_link.ensures.kept c.set_back_of.ensures.links c.set_back_of.ensures.kept).0
-
-pub returns-clause-taken : goal.returns-clause-taken
-returns-clause-taken g c =
-    let took = c.take_links-links.ensures in
-    (cut-step g.T.Ord.cmp c.args.self.now c.take_links-links.new.self c.set_link.new.self c.set_back_of.new.self c.args.slot
-    c.take_links-links.result took.links c.requires.heap took.taken c.set_link.ensures.links c.set_link.ensures.root
-    c.set_link.ensures.kept c.set_back_of.ensures.links c.set_back_of.ensures.kept).1
+    c.set_link.ensures.kept c.set_back_of.ensures.links c.set_back_of.ensures.kept in
+    record { parts = both.0; taken = both.1 }

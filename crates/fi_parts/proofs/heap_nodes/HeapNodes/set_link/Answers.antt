@@ -1,4 +1,5 @@
-use Rattle.fi_parts.proofs.HeapNodes.{KeepsValues-relinks, child_to-some, next_to-some}
+use Rattle.fi_parts.proofs.HeapForests.{child_to-some, next_to-some}
+use Rattle.fi_parts.proofs.HeapNodes.{KeepsValues-relinks}
 use Rattle.fi_parts.proofs.heap_nodes.HeapNodes.set_link.Goals as goal
 
 pub returns-in-Parent-clause-kept : goal.returns-in-Parent-clause-kept

@@ -38,29 +38,22 @@ returns-clause-polled g c =
     let phase = was.entry.future.phase in
     let wait_queue = wait_queue_of c.self.inside.list in
     let before = its_phase c.self.inside.list c.args.slot.0 was.entry was.was in
-    elim c.match-step.branch [
-      | in-Joins w ↦
-          let joins = joined c.args.ends phase wait_queue.side c.args.slot.0 c.args.waker (sym w.in-Joins.is ∙ was.step_is) in
-          rw (← c.self.view_is) (
-            phase,
-            before,
-            was.live,
-            was.step_is,
+    rw (← c.self.view_is) (
+      phase,
+      before,
+      was.live,
+      was.step_is,
+      elim c.match-step.branch [
+        | in-Joins w ↦
+            let joins = joined c.args.ends phase wait_queue.side c.args.slot.0 c.args.waker (sym w.in-Joins.is ∙ was.step_is) in
             w.self-is
-                ∙ seen-registered c.self.inside.list c.args.slot.0 c.args.waker c.poll_phase.new.list w.add_front.new.self
-                (was.entry, was.was, rw (← joins.phase) was.after) w.add_front.ensures.live w.add_front.ensures.order
-                ∙ (λ i. record { side = sym joins.polled i; tickets = wait_queue.tickets }),
-          )
-      | in_default w ↦
-          let kept = kept_place c.args.ends phase wait_queue.side c.args.slot.0 c.args.waker
-          (λ is. w.in_default.not-Joins (was.step_is ∙ sym is)) in
-          rw (← c.self.view_is) (
-            phase,
-            before,
-            was.live,
-            was.step_is,
-            w.self-is
-                ∙ seen-phase c.self.inside.list c.args.slot.0 _ _ (was.entry, was.was, was.after)
-                ∙ (λ i. record { side = sym kept i; tickets = wait_queue.tickets }),
-          )
-    ]
+            ∙ seen-registered c.self.inside.list c.args.slot.0 c.args.waker c.poll_phase.new.list w.add_front.new.self
+            (was.entry, was.was, rw (← joins.phase) was.after) w.add_front.ensures.live w.add_front.ensures.order
+            ∙ (λ i. record { side = sym joins.polled i; tickets = wait_queue.tickets })
+        | in_default w ↦
+            let kept = kept_place c.args.ends phase wait_queue.side c.args.slot.0 c.args.waker
+            (λ is. w.in_default.not-Joins (was.step_is ∙ sym is)) in
+            w.self-is ∙ seen-phase c.self.inside.list c.args.slot.0 _ _ (was.entry, was.was, was.after)
+            ∙ (λ i. record { side = sym kept i; tickets = wait_queue.tickets })
+      ],
+    )

@@ -1,10 +1,9 @@
-use Rattle.std.proofs.Common.{is_some, ap, ◌∙◌}
+use Rattle.std.proofs.Common.{is_some, ap, ◌∙◌, sym}
 use Rattle.std.specs.FinMap as map
 use Rattle.fi_parts.specs.ListModel.{item_of}
 use Rattle.fi_parts.specs.Order.{youngest}
 use Rattle.fi_parts.proofs.WaitQueues.{entry_lives, seen-joined}
 use Rattle.fi_parts.proofs.Queues.{holds-reverse}
-use Rattle.std.proofs.Common.{sym}
 use Rattle.fi_parts.proofs.wait_queue.WaitQueue.register.Goals as goal
 
 pub add_front-requires-clause-live : goal.add_front-requires-clause-live

@@ -9,46 +9,23 @@ use Rattle.fi_parts.proofs.WaitQueues.{its_ticket, its_future, free_name, seen-r
 use Rattle.fi_parts.proofs.wait_queue.WaitQueue.remove.Goals as goal
 
 module _ {D W : Type 0} (old : ListModel (Ticketed D W)) (name : ℕ) where
-  ticket : (result : Option (Ticketed D W)) → result ≡ item old name →
-      IfSome result (λ entry. map.get (wait_queue_of old).tickets name ≡ Some entry.ticket.0)
-  ticket (Some entry) is = its_ticket old name entry (sym is)
-  ticket None is = tt
-
-  future : (result : Option (Ticketed D W)) → result ≡ item old name →
-      IfSome result (λ entry. map.get (wait_queue_of old).side.live name ≡ Some entry.future)
-  future (Some entry) is = its_future old name entry (sym is)
-  future None is = tt
-
-  removed : (result : Option (Ticketed D W)) (new : ListModel (Ticketed D W)) →
+  left : (result : Option (Ticketed D W)) (new : ListModel (Ticketed D W)) → result ≡ item old name →
       OnSome result (new.live ≡ map.remove old.live name) → OnSome result (new.order ≡ without name old.order) →
-      OnSome result (wait_queue_of new ≡ record {
+      IfNone result (new ≡ old) →
+      IfSome result (λ entry. map.get (wait_queue_of old).tickets name ≡ Some entry.ticket.0)
+      × IfSome result (λ entry. map.get (wait_queue_of old).side.live name ≡ Some entry.future)
+      × OnSome result (wait_queue_of new ≡ record {
         side = without_future (wait_queue_of old).side name;
         tickets = map.remove (wait_queue_of old).tickets name;
       })
-  removed (Some entry) new live order = seen-removed old name new live order
-  removed None new live order = tt
+      × IfNone result ((phase_of (wait_queue_of old).side name ≡ None) × (wait_queue_of new ≡ wait_queue_of old))
+  left (Some entry) new is live order same =
+      (its_ticket old name entry (sym is), its_future old name entry (sym is), seen-removed old name new live order, tt)
+  left None new is live order same = (tt, tt, tt, (free_name old name (sym is), ap wait_queue_of same))
 
-  absent : (result : Option (Ticketed D W)) (new : ListModel (Ticketed D W)) → result ≡ item old name → IfNone result (new ≡ old) →
-      IfNone result ((phase_of (wait_queue_of old).side name ≡ None) × (wait_queue_of new ≡ wait_queue_of old))
-  absent (Some entry) new is same = tt
-  absent None new is same = (free_name old name (sym is), ap wait_queue_of same)
-
-pub returns-clause-ticket : goal.returns-clause-ticket
-returns-clause-ticket g c =
-    rw (← c.self.view_is) (ticket c.self.inside.list c.args.slot.0 c.remove_and_free.result c.remove_and_free.ensures.value)
-
-pub returns-clause-future : goal.returns-clause-future
-returns-clause-future g c =
-    rw (← c.self.view_is) (future c.self.inside.list c.args.slot.0 c.remove_and_free.result c.remove_and_free.ensures.value)
-
-pub returns-clause-removed : goal.returns-clause-removed
-returns-clause-removed g c =
-    rw (← c.self.view_is)
-    (removed c.self.inside.list c.args.slot.0 c.remove_and_free.result c.remove_and_free.new.self c.remove_and_free.ensures.live
-    c.remove_and_free.ensures.order)
-
-pub returns-clause-absent : goal.returns-clause-absent
-returns-clause-absent g c =
-    rw (← c.self.view_is)
-    (absent c.self.inside.list c.args.slot.0 c.remove_and_free.result c.remove_and_free.new.self c.remove_and_free.ensures.value
-    c.remove_and_free.ensures.absent)
+pub returns : goal.returns
+returns g c =
+    let did = c.remove_and_free.ensures in
+    let all = left c.self.inside.list c.args.slot.0 c.remove_and_free.result c.remove_and_free.new.self did.value did.live did.order
+    did.absent in
+    rw (← c.self.view_is) (record { ticket = all.0; future = all.1; removed = all.2; absent = all.3 })

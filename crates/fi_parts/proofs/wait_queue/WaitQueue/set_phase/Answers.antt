@@ -1,20 +1,17 @@
 use Rattle.std.proofs.Common.{◌≡◌, Some, ap, ◌∙◌}
 use Rattle.fi_parts.specs.Waiting.{phase_of, waker_in}
-use Rattle.fi_parts.proofs.WaitQueues.{entry_lives}
-use Rattle.fi_parts.proofs.WaitQueues.{seen-phase, its_phase}
+use Rattle.fi_parts.proofs.WaitQueues.{entry_lives, seen-phase, its_phase}
 use Rattle.fi_parts.proofs.wait_queue.WaitQueue.set_phase.Goals as goal
 
 pub swap_phase-requires : goal.swap_phase-requires
 swap_phase-requires g c = entry_lives c.self.inside.list.live c.args.slot.0 (rw (← c.self.view_is) at c.requires)
 
-pub returns-clause-rest : goal.returns-clause-rest
-returns-clause-rest g c =
-    rw (← c.self.view_is)
-    (seen-phase c.self.inside.list c.args.slot.0 _ _ (let was = c.swap_phase.ensures in (was.0, was.1, was.3)))
-
-pub returns-clause-waker : goal.returns-clause-waker
-returns-clause-waker g c =
+pub returns : goal.returns
+returns g c =
     let was = c.swap_phase.ensures in
     let stood : phase_of c.args.self.now.side c.args.slot.0 ≡ Some was.0.future.phase =
     rw (← c.self.view_is) (its_phase c.self.inside.list c.args.slot.0 was.0 was.1) in
-    rw stood (c.into_waker.ensures ∙ ap (λ p. waker_in p.1) was.2)
+    record {
+      waker = rw stood (c.into_waker.ensures ∙ ap (λ p. waker_in p.1) was.2);
+      rest = rw (← c.self.view_is) (seen-phase c.self.inside.list c.args.slot.0 _ _ (was.0, was.1, was.3));
+    }

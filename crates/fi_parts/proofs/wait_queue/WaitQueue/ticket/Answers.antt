@@ -1,6 +1,5 @@
 use Rattle.std.proofs.Common.{is_some, option_copied, sym, ap, ◌∙◌}
-use Rattle.fi_parts.proofs.WaitQueues.{entry_lives, some_from_copied}
-use Rattle.fi_parts.proofs.WaitQueues.{its_ticket}
+use Rattle.fi_parts.proofs.WaitQueues.{entry_lives, some_from_copied, its_ticket}
 use Rattle.fi_parts.proofs.wait_queue.WaitQueue.ticket.Goals as goal
 
 pub unwrap-requires : goal.unwrap-requires

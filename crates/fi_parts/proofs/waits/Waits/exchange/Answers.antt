@@ -7,8 +7,5 @@ exchange-requires g c = rw (← c.self.view_is) at c.requires
 pub invariant_of-self : goal.invariant_of-self
 invariant_of-self g c = rw c.exchange.ensures.rest c.self.invariant
 
-pub returns-clause-asked : goal.returns-clause-asked
-returns-clause-asked g c = rw (← c.self.view_is) c.exchange.ensures.asked
-
-pub returns-clause-rest : goal.returns-clause-rest
-returns-clause-rest g c = rw (← c.self.view_is, c.exchange.ensures.rest) refl
+pub returns : goal.returns
+returns g c = rw (← c.self.view_is) (record { asked = c.exchange.ensures.asked; rest = rw c.exchange.ensures.rest refl })

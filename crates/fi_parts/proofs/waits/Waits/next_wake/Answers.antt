@@ -11,13 +11,11 @@ invariant_of-self g c =
     tied_after_pop (map.get c.self.inside.wait_queue.tickets) c.self.inside.outbox c.self.invariant c.pop.new.self
     c.pop.ensures.tickets c.pop.ensures.pairs
 
-pub returns-clause-value : goal.returns-clause-value
-returns-clause-value g c =
-    rw (← c.self.view_is)
-    (c.waker_from.ensures ∙ ap waker_in_pair c.pop.ensures.value ∙ oldest-out c.self.inside.outbox.pairs)
-
-pub returns-clause-rest : goal.returns-clause-rest
-returns-clause-rest g c =
+pub returns : goal.returns
+returns g c =
     let out : out_of c.pop.new.self.pairs ≡ drop 1 (out_of c.self.inside.outbox.pairs) =
     ap out_of c.pop.ensures.pairs ∙ out-drop c.self.inside.outbox.pairs in
-    rw (← c.self.view_is) (λ i. record { side = c.self.inside.wait_queue.side; out = out i })
+    rw (← c.self.view_is) (record {
+      value = c.waker_from.ensures ∙ ap waker_in_pair c.pop.ensures.value ∙ oldest-out c.self.inside.outbox.pairs;
+      rest = λ i. record { side = c.self.inside.wait_queue.side; out = out i };
+    })

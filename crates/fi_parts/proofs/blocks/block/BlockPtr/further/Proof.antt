@@ -1,37 +1,13 @@
 -- `further` moves a pointer up by whole blocks. Assumes `Logic`.
-use mathlib.Core.Path.{◌≡◌, refl, sym, ap, subst}
-use Prim.Native.Nat.{ℕ, suc, ◌+◌, ◌*◌, ◌<◌, ◌^◌}
-use native.Mathlib.Omega.{arith}
-use native.Mathlib.Nat.{suc-mul}
-use mathlib.Core.List.{List, [], ◌∷◌, ◌++◌}
-use base.Fraction.{full_share}
-use mir.Syntax.{Fn, w64}
-use mir.MapTy.{inst_fn}
-use mir.Val.{Val, vint}
-use base.Logic.{SProp, ent, emp}
-use base.Fml.{ftrue, fat, flft}
-use prog.Wp.{WpFn}
-use contract.Monad.{fact, fact_i}
-use contract.BorrowLft.{◌⊑◌}
-use contract.Running.{tables}
-use types.Kit.{Item, ⋆, ‵, raw, ◌⊛◌, at_ret, ◌$◌, ◌∵◌, !, qed, by, move, keep, use0, split, rewrite, fsplit, fjoin}
-use types.Kit.{feq_l, flt_l}
-use types.Part.{whole, sub, agg}
-use types.Run.{stop, fld, of_opd, bin, size_lit, and_then, no_more, first, blocks, exec, returns, enter}
-use types.ByLocal.{alloc_all, pass_all, free_all, look_at, get, get_in, sets, sets_last, env, take_at, give_at}
-use denote.Builtin.{usize}
-use denote.Exit.{yes, no}
-use denote.RattleType.{owns}
-use denote.Param.{param, layout}
-use denote.RawPtr.{Ptr, block_ptr, block_of, count_of, at_block, InBlock}
-use denote.Signature.{plain}
-use denote.Steps.{nothing, heard}
-use denote.Triple.Walked.{Stays, stay_dropped, walk_of, Goes-dropped}
-use Rattle.std.proofs.VecSteps.Shapes.{after}
-use Rattle.std.proofs.RcSteps.{word, word-Good}
-use Rattle.std.proofs.raw_atomic.Walks.{proved_at, leaves}
-use Rattle.std.specs.Mem.{type_size}
-use Rattle.std.specs.Vec.Ownership.{FitsInBlock}
+use Rattle.fi_parts.proofs.RawWalks.{◌$◌, ◌*◌, ◌++◌, ◌+◌, ◌<◌, ◌^◌, ◌∵◌, ◌∷◌, ◌≡◌, ◌⊑◌, ◌⊛◌, !, FitsInBlock, Fn, Goes-dropped, InBlock}
+use Rattle.fi_parts.proofs.RawWalks.{Item, List, Ptr, SProp, Stays, Val, WpFn, [], after, agg, alloc_all, and_then, ap, arith, at_ret, bin}
+use Rattle.fi_parts.proofs.RawWalks.{block_ptr, blocks, by, count_of, emp, ent, enter, env, exec, fact, fact_i, fat, feq_l, first, fjoin}
+use Rattle.fi_parts.proofs.RawWalks.{fld, flft, flt_l, free_all, fsplit, ftrue, full_share, get, get_in, give_at, heard, inst_fn, keep}
+use Rattle.fi_parts.proofs.RawWalks.{layout, leaves, look_at, move, no, no_more, nothing, of_opd, owns, param, pass_all, plain, proved_at}
+use Rattle.fi_parts.proofs.RawWalks.{qed, raw, refl, returns, rewrite, sets, sets_last, split, stay_dropped, stop, sub, subst, suc, suc-mul}
+use Rattle.fi_parts.proofs.RawWalks.{sym, tables, take_at, type_size, use0, usize, vint, w64, walk_of, whole, word, word-Good, yes, ‵, ℕ, ⋆}
+use types.Run.{size_lit}
+use denote.RawPtr.{block_of, at_block}
 use Rattle.fi_parts.specs.BlockOwner.{block_further}
 use Rattle.fi_parts.proofs.BlockMemory.{args, B, P, word_had, word_made}
 use Rattle.fi_parts.specs.contracts.blocks.block.BlockPtr.further.{ended, clauses}

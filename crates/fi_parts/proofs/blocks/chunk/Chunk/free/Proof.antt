@@ -1,59 +1,24 @@
 -- `free` hands the memory back with the allocator's token. Assumes `Logic`.
-use mathlib.Core.Path.{◌≡◌, refl, sym, ap, subst}
-use Prim.Native.Nat.{ℕ, ◌*◌, ◌<◌, ◌^◌}
-use native.Mathlib.Omega.{arith}
-use mathlib.Core.List.{List, [], ◌∷◌, ◌++◌}
-use seplogic.Ra.Ura.{Ura}
-use mir.Syntax.{Fn, named, w64}
-use mir.MapTy.{inst_fn}
-use mir.Val.{Val, vptr, vint, vunit}
-use base.Logic.{SProp, ent, never, id⊢, via, fst∗}
-use base.Fml.{Lft, Share, ftrue, flft}
-use prog.Wp.{Env, Calls, Loops, WpFn, Tables}
-use types.Logic.{Logic}
-use contract.Monad.{fact}
-use contract.Running.{tables, tables_of}
-use sound.WpLaws.{WpFn-mono}
-use types.Kit.{Item, ⋆, ‵, raw, ◌⊛◌, given, later, await, learn, at_ret, ◌$◌, ◌∵◌, !, qed, by, move, keep, use1, split}
-use types.Kit.{join, group, rewrite, regoal, prop, fsplit, fjoin, feq_i, feq_l, suffices, done}
-use types.Part.{whole, sub}
-use types.Run.{stop, fld, unit_lit, of_opd, and_then, no_more, first, blocks, exec, returns, enter}
-use types.ByLocal.{alloc_all, pass_all, free_all, look_at, get, get_in, sets, is, env}
-use denote.Exit.{yes, no}
-use denote.RattleType.{RattleType, owns}
-use denote.Memory.{hidden_shr}
-use denote.RawPtr.{Ptr, block_ptr, in_a_block}
-use denote.Ref.{Bor, ShrRef}
-use denote.Builtin.{RefOf}
-use denote.Signature.{plain}
-use denote.Steps.{nothing}
-use denote.Triple.Clauses.{Clauses, Ended, closing}
-use denote.Triple.Entry.{on_entry}
-use denote.Triple.Spec.{Meets, triple_of}
-use denote.Triple.Table.{entered}
-use denote.Triple.Walked.{needs, Stays, stay_dropped, walk_of, ends_at, Goes-dropped, walk_Meets}
-use Rattle.core.proofs.alloc.Calls.{Goes-blank}
+use Rattle.fi_parts.proofs.RawWalks.{◌$◌, ◌*◌, ◌++◌, ◌<◌, ◌^◌, ◌∵◌, ◌∷◌, ◌≡◌, ◌⊑◌, ◌⊛◌, !, Al, Bor, Calls, Clauses, El, Ended, Env, FmC, Fn}
+use Rattle.fi_parts.proofs.RawWalks.{Fun, Goes-blank, Goes-dropped, Incl-trans, Item, Lft, List, Logic, Loops, Meets, Memory, Ptr}
+use Rattle.fi_parts.proofs.RawWalks.{RattleType, RefOf, Routine, SProp, Share, ShrRef, Stays, T, Tables, Triple, Ura, Val, WT, WpFn}
+use Rattle.fi_parts.proofs.RawWalks.{WpFn-mono, [], align, align_word, alloc_all, and_then, ap, arith, at_ret, await, bin, block_align}
+use Rattle.fi_parts.proofs.RawWalks.{block_ptr, block_size, block_ty, blocks, by, capped, capped_fits, closing, done, elτ, ends_at, ent}
+use Rattle.fi_parts.proofs.RawWalks.{enter, entered, env, exec, fact, feq_i, feq_l, first, fjoin, fld, flft, flt_l, fm_of, free_all, fsplit}
+use Rattle.fi_parts.proofs.RawWalks.{fst∗, ftrue, get, get_in, given, group, has_ty, hidden_shr, id⊢, in_a_block, inst_fn, is, join, keep}
+use Rattle.fi_parts.proofs.RawWalks.{later, learn, look_at, move, named, needs, never, no, no_more, nothing, of_opd, on_entry, owns}
+use Rattle.fi_parts.proofs.RawWalks.{pass_all, plain, prop, qed, raw, refl, returns, rewrite, second, sets, size_word, split, stay_dropped}
+use Rattle.fi_parts.proofs.RawWalks.{stop, sub, subst, suffices, sym, tables, triple_of, type_size, uncapped, unit_lit, use1, via, vint}
+use Rattle.fi_parts.proofs.RawWalks.{vptr, vunit, w64, walk_Meets, walk_of, whole, yes, ‵, ℕ, ⋆}
+use contract.Running.{tables_of}
+use types.Kit.{regoal}
 use Rattle.std_alloc.proofs.VecSteps.Shapes.{after}
-use types.Kit.{flt_l}
-use types.Run.{bin}
-use Rattle.core.proofs.mem.Param.{El, R, elτ}
-use base.Fml.{Incl-trans}
-use lib.Dec.{T}
+use Rattle.core.proofs.mem.Param.{R}
 use mir.Syntax.{ty_unit}
-use mir.Val.{has_ty, WT}
-use prog.Memory.{Memory, align, capped}
-use prog.Capped.{capped_fits}
-use prog.Routine.{Routine}
-use contract.Monad.{Fun}
-use contract.BorrowLft.{◌⊑◌}
-use sound.WpLaws.{FmC, fm_of}
-use types.Run.{size_word, align_word}
 use types.ByLocal.{lands_last}
-use denote.Triple.Statement.{Triple}
 use denote.Triple.Call.{calls_at_last}
-use Rattle.core.proofs.alloc.Calls.{Al, second, token, gives_key, Gives, at_gives, Gives-goes, Gives-Gives}
-use Rattle.core.proofs.slots.Leases.{uncapped, block_ty, block_size, block_align, args, P}
-use Rattle.std.specs.Mem.{type_size}
+use Rattle.core.proofs.alloc.Calls.{token, gives_key, Gives, at_gives, Gives-goes, Gives-Gives}
+use Rattle.core.proofs.slots.Leases.{args, P}
 use Rattle.fi_parts.specs.BlockOwner.{chunk_owns}
 use Rattle.fi_parts.proofs.ChunkSteps.{ChunkRow, chunk_val, chunk_good, chunk_had}
 use Rattle.fi_parts.specs.contracts.blocks.chunk.Chunk.free as F

@@ -1,74 +1,40 @@
 -- `take` allocates the memory, and keeps the right to free it. Assumes `Logic`.
-use mathlib.Core.Path.{◌≡◌, refl, sym, ap, subst}
-use mathlib.Core.Bool.{true, false}
-use Prim.Native.Nat.{ℕ, ◌*◌, ◌<◌, ◌^◌}
-use native.Mathlib.Omega.{arith}
-use mathlib.Core.List.{List, [], ◌∷◌, ◌++◌}
+use Rattle.fi_parts.proofs.RawWalks.{◌$◌, ◌*◌, ◌++◌, ◌<◌, ◌^◌, ◌∵◌, ◌∷◌, ◌≡◌, ◌⊑◌, ◌⊛◌, !, Al, Bor, Calls, Clauses, El, Ended, Env}
+use Rattle.fi_parts.proofs.RawWalks.{FitsInBlock, FmC, Fn, Fun, Goes-dropped, Incl-trans, Item, Lft, List, Logic, Loops, Meets, Memory}
+use Rattle.fi_parts.proofs.RawWalks.{RattleType, RefOf, Routine, SProp, Share, ShrRef, Stays, Struct, Tables, Triple, Ura, Val, WpFn}
+use Rattle.fi_parts.proofs.RawWalks.{WpFn-mono, [], agg, align, align_word, alloc_all, and_then, ap, arith, at_ret, await, bin, block_align}
+use Rattle.fi_parts.proofs.RawWalks.{block_ptr, block_size, block_ty, by, capped, capped_fits, closing, done, elτ, ends_at, ent, enter}
+use Rattle.fi_parts.proofs.RawWalks.{entered, env, exec, fact, false, feq_l, first, fjoin, fld, flft, flt_i, flt_l, fm_of, frame, free_all}
+use Rattle.fi_parts.proofs.RawWalks.{fsplit, fsplit3, ftrue, get, get_in, hidden_shr, inst_fn, is, join, keep, later, layout, look_at, move}
+use Rattle.fi_parts.proofs.RawWalks.{named, needs, no_more, nothing, of_opd, on_entry, owns, pass_all, plain, qed, raw, refl, returns, says}
+use Rattle.fi_parts.proofs.RawWalks.{second, sets, sets_last, size_word, split, stay_dropped, stop, subst, suffices, sym, tables, triple_of}
+use Rattle.fi_parts.proofs.RawWalks.{true, type_size, uncapped, use1, use2, usize, vcons, vint, vnil, vptr, vstruct, w64, walk_Meets}
+use Rattle.fi_parts.proofs.RawWalks.{walk_of, whole, yes, ‵, ℕ, ⋆}
 use lib.Dec.{lit<}
-use seplogic.Ra.Ura.{Ura}
-use mir.Syntax.{Fn, Body, named, w64}
-use mir.MapTy.{inst_fn}
-use mir.Val.{Val, vptr, vint, vstruct, vcons, vnil}
-use base.Logic.{SProp, ent}
-use base.Fml.{Lft, Share, ftrue, flft}
-use prog.Wp.{Env, Calls, Loops, WpFn, Tables}
-use types.Logic.{Logic}
-use contract.Monad.{fact}
-use contract.Running.{tables, tables_of}
-use sound.WpLaws.{WpFn-mono}
-use types.Kit.{Item, ⋆, ‵, raw, ◌⊛◌, later, await, at_ret, ◌$◌, ◌∵◌, !, qed, by, move, keep, use1, use2, split, join}
-use types.Kit.{fsplit, fsplit3, fjoin, feq_l, suffices, frame, done}
-use types.Part.{whole, agg}
-use types.Run.{stop, fld, lit, of_opd, and_then, no_more, first, exec, returns, enter}
-use types.ByLocal.{alloc_all, pass_all, free_all, look_at, get, get_in, sets, sets_last, is, env}
-use denote.Exit.{yes}
-use denote.RattleType.{RattleType, owns}
-use denote.Memory.{hidden_shr}
-use denote.Param.{layout}
-use denote.RawPtr.{block_ptr}
-use denote.Ref.{Bor, ShrRef}
-use denote.Builtin.{RefOf}
-use denote.Signature.{plain}
-use denote.Steps.{nothing}
-use denote.Triple.Clauses.{Clauses, Ended, closing}
-use denote.Triple.Entry.{on_entry}
-use denote.Triple.Spec.{Meets, triple_of}
-use denote.Triple.Table.{entered}
-use denote.Triple.Walked.{says, needs, Stays, stay_dropped, walk_of, ends_at, Goes-dropped, walk_Meets}
+use mir.Syntax.{Body}
+use contract.Running.{tables_of}
+use types.Run.{lit}
 use Rattle.std_alloc.proofs.VecSteps.Shapes.{after}
-use types.Kit.{flt_l, flt_i}
-use types.Run.{bin}
-use denote.Builtin.{usize}
-use Rattle.core.proofs.mem.Param.{El, R, elτ}
-use base.Fml.{Incl-trans}
-use prog.Memory.{Memory, align, capped}
-use prog.Capped.{capped_fits}
-use prog.Routine.{Routine}
+use Rattle.core.proofs.mem.Param.{R}
 use prog.Wp.{Wp, after_seq, at_return}
-use contract.Monad.{Fun}
-use contract.BorrowLft.{◌⊑◌}
-use sound.WpLaws.{FmC, fm_of}
 use types.Kit.{Post as After, any_q}
 use types.Match.{live, vrt, in_variant}
-use types.Run.{size_word, align_word, switches_on}
+use types.Run.{switches_on}
 use types.ByLocal.{get_tag, lands_as}
 use denote.Laws.{Is}
 use denote.Steps.{owned}
-use denote.Struct.Struct.{Struct, Struct-Makes}
+use denote.Struct.Struct.{Struct-Makes}
 use denote.Struct.Declared as Declared
-use denote.Triple.Statement.{Triple}
 use denote.Triple.Call.{calls_at}
 use Rattle.std.specs.Prelude.{IfOk, Ok, Err}
-use Rattle.std.specs.Vec.Ownership.{FitsInBlock}
 use Rattle.core.specs.contracts.result.Result as RS
 use Rattle.core.specs.contracts.alloc.AllocError as AE
-use Rattle.core.proofs.alloc.Calls.{Al, second, Answer-typed, takes_key, Takes, at_takes, Answered, Takes-goes}
+use Rattle.core.proofs.alloc.Calls.{Answer-typed, takes_key, Takes, at_takes, Answered, Takes-goes}
 use Rattle.core.proofs.alloc.Calls.{Takes-gives, answers}
-use Rattle.core.proofs.slots.Leases.{uncapped, block_ty, block_size, block_align, args, P}
+use Rattle.core.proofs.slots.Leases.{args, P}
 use Rattle.std_alloc.proofs.VecSteps.Shapes.{head, arm_body}
 use Rattle.std_alloc.proofs.ResultValues.{ok_of, err_of}
 use Rattle.std_alloc.proofs.RcSteps.{first_Good}
-use Rattle.std.specs.Mem.{type_size}
 use Rattle.fi_parts.proofs.ChunkSteps.{ChunkRow, chunk_val, chunk_at, chunk_good, chunk_made}
 use Rattle.fi_parts.specs.contracts.blocks.chunk.Chunk.take as F
 use Rattle.fi_parts.specs.contracts.blocks.chunk.Chunk.take.Key.{name as #self}

@@ -1,41 +1,14 @@
 -- `add` makes vacant places of a chunk. Assumes `Logic`.
-use mathlib.Core.Path.{◌≡◌, refl, sym, ap, ◌∙◌, subst}
-use Prim.Native.Nat.{ℕ, ◌*◌, ◌^◌}
-use native.Mathlib.Omega.{arith}
-use mathlib.Core.List.{List, [], ◌∷◌, ◌++◌}
-use mir.Syntax.{Fn, Ty, named, ty_array}
-use mir.MapTy.{inst_fn}
-use mir.Val.{Val, vptr}
-use base.Logic.{SProp, ent, emp, never, id⊢, via, fst∗}
-use types.Logic.{sem}
-use base.Fml.{ftrue, flft, fobs, fbor}
-use prog.Wp.{WpFn}
-use contract.Monad.{fact, fact_i}
-use contract.BorrowLft.{◌⊑◌}
-use contract.Running.{tables}
-use types.Kit.{Item, ⋆, ‵, raw, ◌⊛◌, ◌$◌, ◌∵◌, !, qed, by, move, keep, use0, use1, use2, split, join, group, rewrite}
-use types.Kit.{fsplit, fsplit3}
-use types.Kit.{fjoin, fjoin3, feq_i, feq_l, flt_i, flt_l}
-use types.Part.{whole, sub, agg}
-use types.Run.{stop, fld, of_opd, and_then, no_more, returns, enter}
-use types.ByLocal.{alloc_all, pass_all, free_all, look_at, get, get_in, sets}
-use types.SemTy.{Body as Borrowed}
-use denote.Exit.{no}
-use denote.RattleType.{RattleType, owns}
-use denote.Memory.{lone, mem}
-use denote.RawPtr.{Ptr, block_ptr, InBlock, in_a_block, room_for}
-use denote.Ref.{MutRef}
-use denote.Signature.{plain}
-use denote.Steps.{nothing, opens, closes}
-use denote.Triple.Walked.{Stays, stay_ref, stay_dropped, walk_of, Goes-ref}
-use Rattle.core.proofs.alloc.Calls.{Goes-blank}
-use Rattle.std.specs.Mem.{type_size}
+use Rattle.fi_parts.proofs.RawWalks.{◌$◌, ◌*◌, ◌++◌, ◌^◌, ◌∙◌, ◌∵◌, ◌∷◌, ◌≡◌, ◌⊑◌, ◌⊛◌, !, Borrowed, Fn, Goes-blank, Goes-ref, InBlock}
+use Rattle.fi_parts.proofs.RawWalks.{Item, List, MutRef, Ptr, RattleType, SProp, Stays, Ty, Val, WpFn, [], agg, alloc_all, and_then, ap}
+use Rattle.fi_parts.proofs.RawWalks.{arith, as_written, block_ptr, by, closes, emp, ent, enter, fact, fact_i, fbor, feq_i, feq_l, fjoin}
+use Rattle.fi_parts.proofs.RawWalks.{fjoin3, fld, flft, flt_i, flt_l, fobs, free_all, fsplit, fsplit3, fst∗, ftrue, get, get_in, ghosts}
+use Rattle.fi_parts.proofs.RawWalks.{group, id⊢, in_a_block, inst_fn, join, keep, leaves, lone, look_at, mem, move, named, never, no}
+use Rattle.fi_parts.proofs.RawWalks.{no_more, nothing, of_opd, opens, owns, pass_all, plain, proved_at, qed, raw, refl, returns, rewrite}
+use Rattle.fi_parts.proofs.RawWalks.{room_for, sem, sets, split, stay_dropped, stay_ref, stop, sub, subst, sym, tables, ty_array, type_size}
+use Rattle.fi_parts.proofs.RawWalks.{use0, use1, use2, via, vptr, walk_of, whole, word, word-Good, ‵, ℕ, ⋆}
 use Rattle.std.specs.contracts.alloc.Global as Global
-use Rattle.std.specs.contracts.impls.GlobalAllocator.TheImpl.{ghosts}
 use Rattle.std.proofs.GlobalToken.{dealloc_token_start}
-use Rattle.std.proofs.RcSteps.{word, word-Good}
-use Rattle.std.proofs.raw_atomic.Walks.{proved_at, leaves}
-use Rattle.std_alloc.proofs.RawLayout.{as_written}
 use Rattle.fi_parts.specs.BlockOwner.{global, heap_token, chunk_ty, deed, vacancy, vacancies_own, IsShared, places}
 use Rattle.fi_parts.specs.BlockOwner.{all_places}
 use Rattle.fi_parts.specs.declared.blocks.places.BlockPlaces.{BlockPlaces}

@@ -1,22 +1,9 @@
 -- `new` owns no chunk. Assumes `Logic`.
-use mathlib.Core.Path.{◌≡◌, refl}
-use mathlib.Core.List.{[], ◌∷◌}
-use mir.Syntax.{Fn}
-use mir.MapTy.{inst_fn}
-use mir.Val.{Val, vstruct, vcons, vnil}
-use base.Logic.{SProp, emp}
-use base.Fml.{ftrue, flft}
-use contract.Monad.{fact, fact_i}
-use contract.BorrowLft.{◌⊑◌}
-use contract.Running.{tables}
-use types.Kit.{‵, raw, ◌⊛◌, ◌$◌, ◌∵◌, !, qed, by, move, keep, use0, split, group, fjoin, fpack}
-use types.Part.{agg}
-use types.Run.{and_then, no_more, returns, enter}
-use types.ByLocal.{alloc_all, pass_all, free_all, look_at, get, sets}
+use Rattle.fi_parts.proofs.RawWalks.{◌$◌, ◌∵◌, ◌∷◌, ◌≡◌, ◌⊑◌, ◌⊛◌, !, Fn, SProp, Stays, Val, [], agg, alloc_all, and_then, by, emp, enter}
+use Rattle.fi_parts.proofs.RawWalks.{fact, fact_i, fjoin, flft, fpack, free_all, ftrue, get, group, inst_fn, keep, leaves, look_at, move}
+use Rattle.fi_parts.proofs.RawWalks.{no_more, nothing, pass_all, proved_at, qed, raw, refl, returns, sets, split, tables, use0, vcons, vnil}
+use Rattle.fi_parts.proofs.RawWalks.{vstruct, walk_of, ‵}
 use denote.Shadow.{makes_shadow}
-use denote.Steps.{nothing}
-use denote.Triple.Walked.{Stays, walk_of}
-use Rattle.std.proofs.raw_atomic.Walks.{proved_at, leaves}
 use Rattle.fi_parts.specs.declared.blocks.places.BlockPlaces.{BlockPlaces}
 use Rattle.fi_parts.specs.BlockOwner.{IsShared}
 use Rattle.fi_parts.proofs.BlockCounts.{shared_none}

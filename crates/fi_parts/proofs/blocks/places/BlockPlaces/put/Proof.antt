@@ -1,43 +1,16 @@
 -- `put` writes a block into a vacant place. Assumes `Logic`.
-use mathlib.Core.Path.{◌≡◌, refl, sym, subst}
-use mathlib.Core.List.{List, [], ◌∷◌, ◌++◌}
-use base.Fraction.{full_share}
-use mir.Syntax.{Fn, Ty, named}
-use mir.Raw.{raw as bare}
-use mir.MapTy.{inst_fn}
-use mir.Val.{Val, vptr, vunit}
-use base.Logic.{SProp, ent, emp, never, id⊢}
-use base.Fml.{ftrue, fat, flft, fobs, fbor}
-use prog.Wp.{WpFn}
-use contract.Monad.{fact, fact_i}
-use contract.BorrowLft.{◌⊑◌}
-use contract.Running.{tables}
-use types.Kit.{Item, ⋆, ‵, raw, ◌⊛◌, at_ret, ◌$◌, ◌∵◌, !, qed, by, move, keep, use0, use1, use2, split, join, group}
-use types.Kit.{rewrite, fsplit, fsplit3}
-use types.Kit.{fjoin, fjoin3, feq_i, feq_l}
-use types.Part.{whole, sub}
-use types.Run.{stop, fld, unit_lit, init, of_opd, assigns_last, first, blocks, exec, returns, enter}
-use types.ByLocal.{alloc_all, pass_all, free_all, look_at, get, get_in, through, sets, env, take_at, give_at}
-use types.SemTy.{Body as Borrowed}
+use Rattle.fi_parts.proofs.RawWalks.{◌$◌, ◌++◌, ◌∵◌, ◌∷◌, ◌≡◌, ◌⊑◌, ◌⊛◌, !, Borrowed, Fn, Goes-blank, Goes-dropped, Goes-ref, IsSome, Item}
+use Rattle.fi_parts.proofs.RawWalks.{Laws, List, MutRef, None, Ptr, SProp, Stays, Ty, Val, WpFn, [], after, alloc_all, as_written, at_ret}
+use Rattle.fi_parts.proofs.RawWalks.{bare, blocks, by, closes, emp, ent, enter, env, exec, fact, fact_i, fat, fbor, feq_i, feq_l, first}
+use Rattle.fi_parts.proofs.RawWalks.{fjoin, fjoin3, fld, flft, fobs, free_all, fsplit, fsplit3, ftrue, full_share, get, get_in, give_at}
+use Rattle.fi_parts.proofs.RawWalks.{group, heard, id⊢, in_a_block, inst_fn, join, keep, layout, leaves, lies_at, lone, look_at, mem, move}
+use Rattle.fi_parts.proofs.RawWalks.{named, never, no, nothing, of_opd, opens, owns, param, param_laws, part_at, pass_all, plain, proved_at}
+use Rattle.fi_parts.proofs.RawWalks.{qed, raw, refl, returns, rewrite, room_for, sets, split, stay_dropped, stay_ref, stop, sub, subst, sym}
+use Rattle.fi_parts.proofs.RawWalks.{tables, take_at, through, unit_lit, use0, use1, use2, vptr, vunit, walk_of, whole, word, word-Good, ‵}
+use Rattle.fi_parts.proofs.RawWalks.{⋆}
+use types.Run.{init, assigns_last}
 use borrow.Table.OneValue.{part_in}
-use denote.Exit.{no}
-use denote.RattleType.{owns}
-use denote.Memory.{lone, part_at, mem}
-use denote.Param.{param, layout}
-use denote.Param.Laws.{Laws, param_laws}
-use denote.RawPtr.{Ptr, in_a_block, lies_at, room_for}
-use denote.Ref.{MutRef}
-use denote.Signature.{plain}
-use denote.Steps.{nothing, opens, closes, heard}
-use denote.Triple.Walked.{Stays, stay_ref, stay_dropped, walk_of, Goes-ref, Goes-dropped}
-use Rattle.core.proofs.alloc.Calls.{Goes-blank}
-use Rattle.std.proofs.VecSteps.Shapes.{after}
-use Rattle.std.proofs.RcSteps.{word, word-Good}
-use Rattle.std.proofs.raw_atomic.Walks.{proved_at, leaves}
-use Rattle.std.proofs.Common.{None}
-use Rattle.std_alloc.proofs.RawLayout.{as_written}
 use Rattle.circular_buffer.proofs.Memory.{tells}
-use Rattle.std.specs.Prelude.{IsSome}
 use Rattle.fi_parts.specs.Placed.{at_ptr, without_at}
 use Rattle.fi_parts.specs.BlockOwner.{vacancy, vacancies_own, IsShared, all_places, times}
 use Rattle.fi_parts.specs.declared.blocks.places.BlockPlaces.{BlockPlaces}

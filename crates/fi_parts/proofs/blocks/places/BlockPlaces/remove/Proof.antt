@@ -1,42 +1,14 @@
 -- `remove` makes a chunk of the vacant places that were its own. Assumes `Logic`.
-use mathlib.Core.Path.{◌≡◌, refl, sym, ap, ◌∙◌, subst}
-use Prim.Native.Nat.{ℕ}
-use native.Mathlib.Omega.{arith}
-use mathlib.Core.List.{List, [], ◌∷◌, ◌++◌}
-use base.Fraction.{full_share}
-use mir.Syntax.{Fn, Ty, named, ty_array, w64}
-use mir.MapTy.{inst_fn}
-use mir.Val.{Val, vptr, vint}
-use base.Logic.{SProp, ent, emp, never, id⊢}
-use base.Fml.{ftrue, fat, froom, flft, fobs, fbor}
-use prog.Wp.{WpFn}
-use contract.Monad.{fact, fact_i}
-use contract.BorrowLft.{◌⊑◌}
-use contract.Running.{tables}
-use types.Kit.{Item, ⋆, ‵, raw, ◌⊛◌, ◌$◌, ◌∵◌, !, qed, by, move, keep, use0, use1, split, join, group, rewrite, fsplit}
-use types.Kit.{fsplit3}
-use types.Kit.{fjoin, fjoin3, feq_i, feq_l, flt_l}
-use types.Part.{whole, sub, agg}
-use types.Run.{stop, fld, and_then, no_more, returns, enter}
-use types.ByLocal.{alloc_all, pass_all, free_all, look_at, get, get_in, sets, take_at, give_at}
-use types.SemTy.{Body as Borrowed}
-use denote.Exit.{yes, no}
-use denote.Builtin.{usize}
+use Rattle.fi_parts.proofs.RawWalks.{◌$◌, ◌++◌, ◌∙◌, ◌∵◌, ◌∷◌, ◌≡◌, ◌⊑◌, ◌⊛◌, !, Borrowed, Fn, Goes-dropped, Goes-ref, Item, List, MutRef}
+use Rattle.fi_parts.proofs.RawWalks.{Ptr, RattleType, SProp, Stays, Ty, Val, WpFn, [], agg, alloc_all, and_then, ap, arith, as_raw}
+use Rattle.fi_parts.proofs.RawWalks.{block_ptr, by, closes, emp, ent, enter, fact, fact_i, fat, fbor, feq_i, feq_l, fjoin, fjoin3, fld}
+use Rattle.fi_parts.proofs.RawWalks.{flft, flt_l, fobs, free_all, froom, fsplit, fsplit3, ftrue, full_share, get, get_in, ghosts, give_at}
+use Rattle.fi_parts.proofs.RawWalks.{group, heard, id⊢, in_a_block, inst_fn, join, keep, layout, leaves, lone, look_at, mem, move, named}
+use Rattle.fi_parts.proofs.RawWalks.{never, no, no_more, nothing, opens, owns, pass_all, plain, proved_at, qed, raw, refl, returns, rewrite}
+use Rattle.fi_parts.proofs.RawWalks.{sets, split, stay_dropped, stay_ref, stop, sub, subst, sym, tables, take_at, ty_array, type_size, use0}
+use Rattle.fi_parts.proofs.RawWalks.{use1, usize, vint, vptr, w64, walk_of, whole, word, word-Good, yes, ‵, ℕ, ⋆}
 use lib.ListN.{drop}
-use denote.RattleType.{RattleType, owns}
-use denote.Memory.{lone, mem}
-use denote.Param.{layout}
-use denote.RawPtr.{Ptr, block_ptr, in_a_block}
-use denote.Ref.{MutRef}
-use denote.Signature.{plain}
-use denote.Steps.{nothing, opens, closes, heard}
-use denote.Triple.Walked.{Stays, stay_ref, stay_dropped, walk_of, Goes-ref, Goes-dropped}
-use Rattle.std.specs.Mem.{type_size}
 use Rattle.std.specs.contracts.alloc.Global as Global
-use Rattle.std.specs.contracts.impls.GlobalAllocator.TheImpl.{ghosts}
-use Rattle.std.proofs.RcSteps.{word, word-Good}
-use Rattle.std.proofs.raw_atomic.Walks.{proved_at, leaves}
-use Rattle.std_alloc.proofs.RawLayout.{as_raw}
 use Rattle.fi_parts.specs.BlockOwner.{global, heap_token, deed, deeds_own, vacancy, vacancies_own, IsShared, places}
 use Rattle.fi_parts.specs.BlockOwner.{all_places, times}
 use Rattle.fi_parts.specs.declared.blocks.places.BlockPlaces.{BlockPlaces}

@@ -1,43 +1,16 @@
 -- `take` reads a block, and leaves its place vacant. Assumes `Logic`.
-use mathlib.Core.Path.{◌≡◌, refl, sym, subst}
-use mathlib.Core.List.{List, [], ◌∷◌, ◌++◌}
-use base.Fraction.{full_share}
-use mir.Syntax.{Fn, Ty, named}
-use mir.Raw.{raw as bare}
-use mir.MapTy.{inst_fn}
-use mir.Val.{Val, vptr, has_ty, WT}
-use base.Logic.{SProp, ent, emp, never, id⊢}
-use base.Fml.{ftrue, fat, froom, flft, fobs, fbor}
-use prog.Wp.{WpFn}
-use contract.Monad.{fact, fact_i}
-use contract.BorrowLft.{◌⊑◌}
-use contract.Running.{tables}
-use types.Kit.{some, given, learn, pick}
-use types.Kit.{Item, ⋆, ‵, raw, ◌⊛◌, at_ret, ◌$◌, ◌∵◌, !, qed, by, move, keep, use0, use1, split, join, group, rewrite}
-use types.Kit.{fsplit, fsplit3}
-use types.Kit.{fjoin, fjoin3, feq_i, feq_l}
-use types.Part.{whole, sub}
-use types.Run.{look, load, stop, fld, of_opd, first, blocks, exec, returns, enter}
-use types.ByLocal.{alloc_all, pass_all, free_all, look_at, get, get_in, through, sets, sets_last, env, take_at, give_at}
-use types.SemTy.{Body as Borrowed}
-use borrow.Table.OneValue.{part_out}
-use denote.Exit.{no}
-use denote.RattleType.{owns}
-use denote.Memory.{lone, mem}
-use denote.Param.{param, layout}
-use denote.Param.Laws.{Laws, param_laws}
-use denote.RawPtr.{Ptr, in_a_block, lies_at, room_for}
-use denote.Ref.{MutRef}
-use denote.Signature.{plain}
-use denote.Steps.{nothing, opens, closes, heard}
-use denote.Triple.Walked.{Stays, stay_ref, stay_dropped, walk_of, Goes-ref, Goes-dropped}
-use Rattle.std.proofs.VecSteps.Shapes.{after}
-use Rattle.std.proofs.RcSteps.{word, word-Good}
-use Rattle.std.proofs.raw_atomic.Walks.{proved_at, leaves}
-use Rattle.std.proofs.Common.{Some, None}
-use Rattle.std_alloc.proofs.RawLayout.{as_raw}
+use Rattle.fi_parts.proofs.RawWalks.{◌$◌, ◌++◌, ◌∵◌, ◌∷◌, ◌≡◌, ◌⊑◌, ◌⊛◌, !, Borrowed, Fn, Goes-dropped, Goes-ref, IsSome, Item, Laws, List}
+use Rattle.fi_parts.proofs.RawWalks.{MutRef, None, Ptr, SProp, Stays, Ty, Val, WT, WpFn, [], after, alloc_all, as_raw, at_ret, bare, blocks}
+use Rattle.fi_parts.proofs.RawWalks.{by, closes, emp, ent, enter, env, exec, fact, fact_i, fat, fbor, feq_i, feq_l, first, fjoin, fjoin3}
+use Rattle.fi_parts.proofs.RawWalks.{fld, flft, fobs, free_all, froom, fsplit, fsplit3, ftrue, full_share, get, get_in, give_at, given}
+use Rattle.fi_parts.proofs.RawWalks.{group, has_ty, heard, id⊢, in_a_block, inst_fn, join, keep, layout, learn, leaves, lies_at, lone}
+use Rattle.fi_parts.proofs.RawWalks.{look_at, mem, move, named, never, no, nothing, of_opd, opens, owns, param, param_laws, part_out}
+use Rattle.fi_parts.proofs.RawWalks.{pass_all, pick, plain, proved_at, qed, raw, refl, returns, rewrite, room_for, sets, sets_last, some}
+use Rattle.fi_parts.proofs.RawWalks.{split, stay_dropped, stay_ref, stop, sub, subst, sym, tables, take_at, through, use0, use1, vptr}
+use Rattle.fi_parts.proofs.RawWalks.{walk_of, whole, word, word-Good, ‵, ⋆}
+use types.Run.{look, load}
+use Rattle.std.proofs.Common.{Some}
 use lib.Dec.{T as T'}
-use Rattle.std.specs.Prelude.{IsSome}
 use Rattle.fi_parts.specs.Placed.{at_ptr, without_at}
 use Rattle.fi_parts.specs.BlockOwner.{block_owns, blocks_own, IsShared, all_places, times}
 use Rattle.fi_parts.specs.declared.blocks.places.BlockPlaces.{BlockPlaces}

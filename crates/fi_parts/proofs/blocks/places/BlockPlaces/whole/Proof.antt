@@ -1,38 +1,12 @@
 -- `whole` shows one block that the owner of the blocks lends. Assumes `Logic`.
-use mathlib.Core.Path.{refl, sym, subst}
-use mathlib.Core.List.{List, [], ◌∷◌, ◌++◌}
-use base.Fraction.{full_share}
-use mir.Syntax.{Fn, named}
-use mir.MapTy.{inst_fn}
-use mir.Val.{Val, vptr}
-use base.Logic.{SProp, ent}
-use base.Fml.{ftrue, fat, flft}
-use prog.Wp.{Env, WpFn}
-use contract.Monad.{fact}
-use contract.BorrowLft.{◌⊑◌}
-use contract.Running.{tables}
-use types.Kit.{Item, ⋆, ‵, raw, ◌⊛◌, at_ret, ◌$◌, ◌∵◌, !, qed, by, move, keep, drop, use1, split, join, rewrite, fsplit}
-use types.Kit.{fjoin}
-use types.Kit.{feq_i, feq_l, suffices, done}
-use types.Part.{whole, sub}
-use types.Run.{stop, hop, fld, from, of_opd, addr, first, blocks, exec, returns, enter}
-use types.ByLocal.{alloc_all, pass_all, free_all, look_at, look_in_at, get, sets, sets_last, env, take_at, give_at}
-use denote.Exit.{yes, no}
-use denote.RattleType.{owns}
-use denote.Memory.{hidden_shr}
+use Rattle.fi_parts.proofs.RawWalks.{◌$◌, ◌++◌, ◌∵◌, ◌∷◌, ◌⊑◌, ◌⊛◌, !, Bor, Env, Fn, Goes-dropped, IsSome, Item, List, Ptr, RefOf, SProp}
+use Rattle.fi_parts.proofs.RawWalks.{ShrRef, Stays, Val, WpFn, [], addr, after, alloc_all, at_ret, blocks, by, done, drop, ends_at, ent}
+use Rattle.fi_parts.proofs.RawWalks.{enter, env, exec, fact, fat, feq_i, feq_l, first, fjoin, fld, flft, free_all, from, fsplit, ftrue}
+use Rattle.fi_parts.proofs.RawWalks.{full_share, get, give_at, heard, hidden_shr, hop, in_a_block, inst_fn, join, keep, layout, lent_at}
+use Rattle.fi_parts.proofs.RawWalks.{look_at, look_in_at, move, named, no, nothing, null_ptr, of_opd, owns, pass_all, plain, proved_at, qed}
+use Rattle.fi_parts.proofs.RawWalks.{raw, refl, returns, rewrite, says, sets, sets_last, split, stay_dropped, stop, sub, subst, suffices}
+use Rattle.fi_parts.proofs.RawWalks.{sym, tables, take_at, use1, vptr, walk_of, whole, word, word-Good, yes, ‵, ⋆}
 use denote.Opens.{hide, unhide}
-use denote.Param.{layout}
-use denote.RawPtr.{Ptr, null_ptr, in_a_block}
-use denote.Ref.{Bor, ShrRef}
-use denote.Builtin.{RefOf}
-use denote.Signature.{plain}
-use denote.Steps.{nothing, heard}
-use denote.Struct.Lending.{lent_at}
-use denote.Triple.Walked.{Stays, stay_dropped, walk_of, says, ends_at, Goes-dropped}
-use Rattle.std.proofs.VecSteps.Shapes.{after}
-use Rattle.std.proofs.RcSteps.{word, word-Good}
-use Rattle.std.proofs.raw_atomic.Walks.{proved_at}
-use Rattle.std.specs.Prelude.{IsSome}
 use Rattle.fi_parts.specs.Placed.{at_ptr}
 use Rattle.fi_parts.specs.BlockOwner.{blocks_lent}
 use Rattle.fi_parts.proofs.Placed.{Cut, cut_at, some_of}

@@ -1,43 +1,22 @@
 -- `whole_mut` lends one block, and the owner of the places follows it. Assumes `Logic`.
-use mathlib.Core.Path.{◌≡◌, refl, sym, ap, ◌∙◌, subst}
-use Prim.Native.Nat.{ℕ, ◌+◌, ◌^◌}
-use mathlib.Core.List.{List, [], ◌∷◌, ◌++◌}
-use seplogic.Ra.Ura.{Ura}
-use base.Fraction.{full_share}
-use mir.Syntax.{Fn, named}
-use mir.Raw.{raw as bare}
-use mir.MapTy.{inst_fn}
-use mir.Val.{Val, vptr}
-use base.Logic.{SProp, ent, emp, sep, never, id⊢}
-use base.Fml.{GName, Fml, ftrue, fsep, fat, flft, fobs, fbor}
-use prog.Wp.{Env, WpFn}
-use types.Logic.{Logic, sem}
-use contract.Monad.{fact, fact_i}
-use contract.BorrowLft.{◌⊑◌}
-use contract.Running.{tables}
-use types.Kit.{Item, ⋆, ‵, raw, ◌⊛◌, later, await, pick, at_ret, ◌$◌, ◌∵◌, !, qed, by, move, keep, use0, use1, use2}
-use types.Kit.{split}
-use types.Kit.{split3, join, group, rewrite, fsplit, fsplit3, fjoin, fjoin3, fpack, feq_l, flt_l, flt_i, suffices}
-use types.Kit.{frame, done}
+use Rattle.fi_parts.proofs.RawWalks.{◌$◌, ◌++◌, ◌+◌, ◌^◌, ◌∙◌, ◌∵◌, ◌∷◌, ◌≡◌, ◌⊑◌, ◌⊛◌, !, Borrowed, Env, Fml, Fn, Goes-dropped, InBlock}
+use Rattle.fi_parts.proofs.RawWalks.{IsSome, Item, List, Logic, MutRef, Ptr, RattleType, SProp, Stays, Ura, Val, WpFn, [], addr, after}
+use Rattle.fi_parts.proofs.RawWalks.{alloc_all, ap, at_ret, await, bare, block_ptr, blocks, by, count_of, done, emp, ends_at, ent, enter}
+use Rattle.fi_parts.proofs.RawWalks.{env, exec, fact, fact_i, fat, fbor, feq_l, first, fjoin, fld, flft, flt_i, flt_l, fobs, fpack, frame}
+use Rattle.fi_parts.proofs.RawWalks.{free_all, from, fsplit, fsplit3, ftrue, full_share, get, give_at, group, heard, hop, id⊢, in_a_block}
+use Rattle.fi_parts.proofs.RawWalks.{inst_fn, join, keep, later, layout, lies_at, lone, look_at, look_in_at, mem, move, named, never, no}
+use Rattle.fi_parts.proofs.RawWalks.{nothing, of_opd, opens, owns, part_at, pass_all, pick, plain, proved_at, qed, raw, refl, returns}
+use Rattle.fi_parts.proofs.RawWalks.{rewrite, sem, sep, sets, sets_last, split, stay_dropped, stop, sub, subst, suffices, sym, tables}
+use Rattle.fi_parts.proofs.RawWalks.{take_at, use0, use1, use2, vptr, walk_of, whole, word, word-Good, ‵, ℕ, ⋆}
+use base.Fml.{GName, fsep}
+use types.Kit.{split3}
 use types.Kit as kit
-use types.Part.{whole, sub}
-use types.Run.{stop, hop, fld, from, of_opd, addr, first, blocks, exec, returns, enter}
-use types.ByLocal.{alloc_all, pass_all, free_all, look_at, look_in_at, get, sets, sets_last, env, take_at, give_at}
-use types.SemTy.{Body as Borrowed}
-use denote.Exit.{no}
-use denote.RattleType.{RattleType, owns}
-use denote.Memory.{lone, mem, cell_at, part_at, part_of}
-use denote.Param.{layout}
-use denote.RawPtr.{Ptr, block_ptr, count_of, in_a_block, lies_at, InBlock}
-use denote.Ref.{MutBor, MutRef}
+use denote.Memory.{cell_at, part_of}
+use denote.Ref.{MutBor}
 use denote.Follow.{follows, Part, lends_Part}
-use denote.Signature.{plain, mut_ref_to}
-use denote.Steps.{nothing, opens, heard}
-use denote.Triple.Walked.{Stays, stay_dropped, walk_of, ends_at, Goes-dropped, Goes-spent_ref}
-use Rattle.std.proofs.VecSteps.Shapes.{after}
-use Rattle.std.proofs.RcSteps.{word, word-Good}
-use Rattle.std.proofs.raw_atomic.Walks.{proved_at}
-use Rattle.std.specs.Prelude.{IsSome, Some}
+use denote.Signature.{mut_ref_to}
+use denote.Triple.Walked.{Goes-spent_ref}
+use Rattle.std.specs.Prelude.{Some}
 use Rattle.fi_parts.specs.Placed.{at_ptr, IsAddress}
 use Rattle.fi_parts.specs.BlockOwner.{times, token, block_owns, blocks_own, vacancies_own, deeds_own, IsShared}
 use Rattle.fi_parts.specs.BlockLending.{with_place}
