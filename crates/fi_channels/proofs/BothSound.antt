@@ -8,8 +8,7 @@ use Rattle.fi_parts.specs.Waiting.{Waiters, may_be_named, without_future, clear_
 use Rattle.fi_parts.specs.declared.phase.Phase.{Phase}
 use Rattle.fi_channels.specs.declared.channel.two_sides.Waiter.{Waiter}
 use Rattle.fi_channels.specs.declared.channel.two_sides.Waiter.TheVariants.{Send, Receive}
-use Rattle.fi_channels.proofs.Sides.{sends-without_receive, receives-without}
-use Rattle.fi_channels.proofs.Sides.{sends-and_receives}
+use Rattle.fi_channels.proofs.Sides.{sends-without_receive, receives-without, sends-and_receives}
 use Rattle.fi_channels.specs.SideLaws.{receives-and_receives}
 use Rattle.fi_parts.proofs.Sound.{sound-empty, sound-without_pair, sound-drop, sound-forgotten, sound-emptied}
 

@@ -1,7 +1,6 @@
 -- Each call on a channel is a line of its table, and keeps a channel sound that owes no wake.
-use Rattle.std.proofs.Common.{◌≡◌, ◌≤◌, ◌+◌, ℕ, suc, not, eqb, cond, drop, Bool, true, false, List, [], ◌∷◌}
-use Rattle.std.proofs.Common.{◌++◌, Option, Some, None, is_some, Result, Ok, Err}
-use Rattle.std.proofs.Common.{length, length-append, refl, sym, ap, subst, ◌∙◌, inl, inr, arith}
+use Rattle.std.proofs.Common.{◌≡◌, ◌≤◌, ◌+◌, ℕ, suc, not, eqb, cond, drop, Bool, true, false, List, [], ◌∷◌, ◌++◌, Option, Some, None}
+use Rattle.std.proofs.Common.{is_some, Result, Ok, Err, length, length-append, refl, sym, ap, subst, ◌∙◌, inl, inr, arith}
 use Rattle.std.proofs.lemmas.Bool.{both_ways, cases_eq}
 use Rattle.std.specs.Option.{option_flatten}
 use Rattle.futures.specs.declared.task.Poll.{Poll}
@@ -12,9 +11,8 @@ use Rattle.fi_parts.specs.declared.phase.Phase.{Phase}
 use Rattle.fi_parts.specs.declared.phase.Phase.TheVariants.{Fresh, Registered, Told, Complete, Ended}
 use Rattle.fi_parts.specs.Buffer.{Bounded, Fits}
 use Rattle.fi_parts.specs.Effects.{completes_first}
-use Rattle.fi_parts.specs.MachineTable.{keeps_asks}
+use Rattle.fi_parts.specs.MachineTable.{keeps_asks, AllowsEffect, waker_change, poll_change}
 use Rattle.fi_parts.specs.Effects.WaiterEffect.{NoChange, Inserts, Registers, KeepsWaiting, Ends, Removes, NotifiesAll}
-use Rattle.fi_parts.specs.MachineTable.{AllowsEffect, waker_change, poll_change}
 use Rattle.fi_parts.specs.Oldest.{complete_first, complete_oldest, pop_oldest, asks_of_first, asks_of_oldest}
 use Rattle.fi_parts.specs.Order.{without}
 use Rattle.fi_parts.specs.Pairs.{without_pair}
@@ -22,15 +20,13 @@ use Rattle.fi_parts.specs.PlaceRules.{registered_rule}
 use Rattle.fi_parts.specs.Places.{is_told}
 use Rattle.fi_parts.specs.WakerHistory.{WakerChange, gives}
 use Rattle.fi_parts.specs.WakerHistory.WakerChange.{Pends, Leaves, NoEffect}
-use Rattle.fi_parts.specs.Waiting.{asks_in}
+use Rattle.fi_parts.specs.Waiting.{asks_in, Waiters, Waiting, phase_of, phase_in, asks_of, is_registered, insert_fresh, registered, stays}
+use Rattle.fi_parts.specs.Waiting.{ended, without_future, with_phase, may_be_named, exchange, clear_queue, noticed, IsOrdered}
 use Rattle.fi_parts.proofs.FiniteMaps.{get-insert_same}
-use Rattle.fi_parts.specs.Waiting.{Waiters, Waiting, phase_of, phase_in, asks_of, is_registered, insert_fresh, registered, stays, ended}
-use Rattle.fi_parts.specs.Waiting.{without_future, with_phase, may_be_named, exchange, clear_queue, noticed, IsOrdered}
 use Rattle.fi_parts.proofs.Effects.{some_phase, registered_as}
 use Rattle.fi_parts.proofs.Oldest.{phase-with_asks}
 use Rattle.fi_parts.proofs.Sound.{none_registered, sound-forgotten}
-use Rattle.fi_parts.proofs.Waiting.{asks-with_phase}
-use Rattle.fi_parts.proofs.Waiting.{Becomes, noticed_phase, becomes-made, becomes-with_phase, becomes-forgotten}
+use Rattle.fi_parts.proofs.Waiting.{asks-with_phase, Becomes, noticed_phase, becomes-made, becomes-with_phase, becomes-forgotten}
 use Rattle.fi_parts.proofs.Waiting.{phase-emptied, lives_as, live_if_registered, first_registered}
 use Rattle.fi_channels.specs.declared.channel.errors.SendFault.{SendFault}
 use Rattle.fi_channels.specs.declared.channel.errors.SendFault.TheVariants as send_fault
@@ -38,21 +34,19 @@ use Rattle.fi_channels.specs.declared.channel.errors.TryReceiveError.{TryReceive
 use Rattle.fi_channels.specs.declared.channel.errors.TrySendError.{TrySendError}
 use Rattle.fi_channels.specs.declared.channel.errors.TrySendError.TheVariants as not_sent
 use Rattle.fi_channels.specs.declared.channel.fields.ReceiveKind.{ReceiveKind}
-use Rattle.fi_channels.specs.declared.channel.fields.ReceiveKind.TheVariants.{Single, Stream}
+use Rattle.fi_channels.specs.declared.channel.fields.ReceiveKind.TheVariants.{Stream}
 use Rattle.fi_channels.specs.Channel.{MakesSend, MakesReceive, FreshSends, SendsAs, PollsSend, CancelsSend, TakesNext}
 use Rattle.fi_channels.specs.Channel.{ReceivesAs, PollsReceive, StreamsAs, PollsNext, CancelsReceiveAs, CancelsReceive}
 use Rattle.fi_channels.specs.Channel.{TriesSend, TriesNext, TriesReceive, ClosesAt, Closes, Wakes, IsSound, OwesNoWake}
-use Rattle.fi_channels.specs.ChannelWords.{ChannelMachine, Buffered, AreTold, rules, is_send_phase, is_receive_phase}
-use Rattle.fi_channels.specs.ChannelWords.{owns_value, has_room, Stores, next_of, value_count, send_phase}
-use Rattle.fi_channels.specs.ChannelWords.{receive_phase, value_of, kind_of, opened, finishes, is_given, tells_oldest}
-use Rattle.fi_channels.specs.ChannelWords.{completes_oldest, can_send, can_stream}
+use Rattle.fi_channels.specs.ChannelWords.{ChannelMachine, Buffered, AreTold, rules, is_send_phase, is_receive_phase, owns_value, has_room}
+use Rattle.fi_channels.specs.ChannelWords.{Stores, next_of, value_count, send_phase, receive_phase, value_of, kind_of, opened, finishes}
+use Rattle.fi_channels.specs.ChannelWords.{is_given, tells_oldest, completes_oldest, can_send, can_stream}
 use Rattle.fi_channels.specs.declared.channel.two_sides.Waiter.{Waiter}
 use Rattle.fi_channels.specs.declared.channel.two_sides.Waiter.TheVariants.{Send, Receive}
 use Rattle.fi_channels.specs.TwoSidedEffects.{TwoSidedEffect, TakesOn}
-use Rattle.fi_channels.specs.TwoSidedTable.{AllowsTwoSided, KeepsKinds, on_sends, on_receives}
+use Rattle.fi_channels.specs.TwoSidedTable.{AllowsTwoSided, KeepsKinds, on_sends, on_receives, TwoSidedLine}
 use Rattle.fi_channels.specs.TwoSidedEffects.TwoSidedEffect.{OnSends, OnReceives, PopsFirst, Then}
 use Rattle.fi_channels.specs.ChannelFields.{ChannelWaiters}
-use Rattle.fi_channels.specs.TwoSidedTable.{TwoSidedLine}
 use Rattle.fi_channels.specs.TwoSidedMachine.{TwoSidedStep}
 use Rattle.fi_channels.specs.Waiter.{same_waiter, sends_in, receives_in}
 use Rattle.std.specs.Ordering.{nat_cmp}
@@ -66,8 +60,7 @@ use Rattle.fi_channels.proofs.TwoSidedMachines.{two_sided_initial, two_sided_lin
 -- a receive that is given its value is of the kind that it was
 given_keeps : (W : Type 0) (kind : Option ReceiveKind) (name : ℕ) → keeps_asks (is_given {W = W} kind name) ≡ true
 given_keeps W (Some Stream) name = refl
-given_keeps W (Some Single) name = refl
-given_keeps W None name = refl
+given_keeps W kind name = refl
 
 -- what a poll of a send with this answer is to the wakers of sends: a refusal leaves them as they are
 abbrev pub sent_change : {T W : Type 0} → ℕ → W → Poll (Result (Unit {0}) (SendFault T)) → WakerChange W
@@ -96,26 +89,20 @@ shorter name (other ∷ names) = each (shorter name names) (eqb name other)
     each rest false = omega (arith, rest)
 
 unregistered_fresh : {W : Type 0} (phase : Option (Phase W)) → is_registered (noticed_phase Fresh phase) ≡ false
-unregistered_fresh None = refl
-unregistered_fresh (Some Fresh) = refl
 unregistered_fresh (Some (Registered waker)) = refl
-unregistered_fresh (Some Told) = refl
-unregistered_fresh (Some Complete) = refl
-unregistered_fresh (Some Ended) = refl
+unregistered_fresh phase = refl
 
 module _ {W : Type 0} where
   given_allowed : (waiting : Waiting ReceiveKind W) (kind : Option ReceiveKind) (name : ℕ) →
       AllowsEffect registered_rule is_receive_phase waiting
       (is_given kind name)
-  given_allowed waiting None name = tt
-  given_allowed waiting (Some Single) name = tt
   given_allowed waiting (Some Stream) name = tt
+  given_allowed waiting kind name = tt
 
   given_leaves : (kind : Option ReceiveKind) (name : ℕ) →
       waker_change {D = ReceiveKind} {W = W} (is_given kind name) ≡ Leaves name
-  given_leaves None name = refl
-  given_leaves (Some Single) name = refl
   given_leaves (Some Stream) name = refl
+  given_leaves kind name = refl
 
   -- Its phase has changed to one that is not registered, and it asks for the same.
   abbrev Changed : Waiters ReceiveKind W → Waiters ReceiveKind W → ℕ → Type 0
@@ -136,21 +123,16 @@ module _ {W : Type 0} where
   -- what was given an item
   given_becomes : (kind : Option ReceiveKind) (old new : Waiters ReceiveKind W) (name : ℕ) (out after : List (Waiter × W)) →
       TakesOn Receive same_waiter (is_given kind name) old out new after → Changed old new name
-  given_becomes None old new name out after did = changed_to Ended refl old new name did.0 did.1.0
-  given_becomes (Some Single) old new name out after did = changed_to Ended refl old new name did.0 did.1.0
   given_becomes (Some Stream) old new name out after did = changed_to Fresh refl old new name did.0 did.1.0
+  given_becomes kind old new name out after did = changed_to Ended refl old new name did.0 did.1.0
 
   -- a receive of another phase than this is not told
   untold : (phase : Option (Phase W)) → is_told phase ≡ false → phase ≡ Some Told → ⊥
   untold phase off is = both_ways _ off (ap is_told is)
 
   registered_untold : (phase : Option (Phase W)) → is_registered phase ≡ true → is_told phase ≡ false
-  registered_untold None is = refl
-  registered_untold (Some Fresh) is = refl
-  registered_untold (Some (Registered waker)) is = refl
   registered_untold (Some Told) is = absurd (both_ways false refl is)
-  registered_untold (Some Complete) is = refl
-  registered_untold (Some Ended) is = refl
+  registered_untold phase is = refl
 
 module _ {D W : Type 0} where
   -- one name changed, and is not registered
@@ -468,11 +450,7 @@ module _ {T W : Type 0} where
               was.1.receives;
           waits = was.1.sends;
         }))
-    cancels_as None name is step was = line_cancels None name is refl step was
-    cancels_as (Some Fresh) name is step was = line_cancels (Some Fresh) name is refl step was
-    cancels_as (Some (Registered waker)) name is step was = line_cancels (Some (Registered waker)) name is refl step was
-    cancels_as (Some Complete) name is step was = line_cancels (Some Complete) name is refl step was
-    cancels_as (Some Ended) name is step was = line_cancels (Some Ended) name is refl step was
+    cancels_as phase name is step was = line_cancels phase name is refl step was
 
     pub cancels_receive : (name : ℕ) → CancelsReceive old name new → Holds old → Goes NoEffect (Leaves name)
     cancels_receive name did was = cancels_as (receive_phase old name) name refl did was
@@ -506,6 +484,16 @@ module _ {T W : Type 0} where
       ap (λ (s : Waiters ReceiveKind W). asks_of s name) is ∙ asks,
     )
 
+    -- a receive that lived has this phase now
+    lives_with : (phase : Phase W) (queue : List ℕ) →
+        new.waiting.receives ≡ record { live = with_phase old.waiting.receives.live name phase; queue = queue } →
+        may_be_named (receive_phase old name) ≡ true → (is_some (receive_phase new name) ≡ true) × (kind_of new name ≡ kind_of old name)
+    lives_with phase queue is lived =
+        let side = old.waiting.receives in
+        let p = some_phase (receive_phase old name) lived in
+        lives_received (record { live = with_phase side.live name phase; queue = queue }) phase is
+        (becomes-with_phase side name phase queue (lives_as side name p.0 p.1)).here (asks-with_phase side.live name phase name)
+
     takes_next : (next : Option (T × Bounded T)) (is_open : Bool) (answer : Poll (Option T)) → next_of old ≡ next →
         TakesNext next is_open old name waker answer new → Holds old → Receives answer
     takes_next (Some next) is_open answer is did was =
@@ -532,26 +520,19 @@ module _ {T W : Type 0} where
         )
     takes_next None true answer is did was =
         let step = did.1 in
-        let side = old.waiting.receives in
-        let p = some_phase (receive_phase old name) step.1.0.0 in
-        let becomes = becomes-with_phase side name (Registered waker) (side.queue ++ name ∷ []) (lives_as side name p.0 p.1) in
+        let joined = registered old.waiting.receives name waker in
         subst Receives (sym did.0) (
           goes old new old.own (OnReceives (Registers name waker)) step refl tt was
-              (keeps_at old new old.own old.waiting.sends (registered side name waker) step.0 step.1.1 step.1.0.1.0
-              (quiet_keeps (registered side name waker) is was)),
-          lives_received (registered side name waker) (Registered waker) step.1.0.1.0 becomes.here
-              (asks-with_phase side.live name (Registered waker) name),
+              (keeps_at old new old.own old.waiting.sends joined step.0 step.1.1 step.1.0.1.0 (quiet_keeps joined is was)),
+          lives_with (Registered waker) joined.queue step.1.0.1.0 step.1.0.0,
         )
     takes_next None false answer is did was =
         let step = did.1 in
-        let side = old.waiting.receives in
-        let p = some_phase (receive_phase old name) step.1.0.0 in
-        let becomes = becomes-with_phase side name Ended side.queue (lives_as side name p.0 p.1) in
+        let side = ended old.waiting.receives name in
         subst Receives (sym did.0) (
           goes old new old.own (OnReceives (Ends name)) step refl tt was
-              (keeps_at old new old.own old.waiting.sends (ended side name) step.0 step.1.1 step.1.0.1.0 (quiet_keeps
-              (ended side name) is was)),
-          lives_received (ended side name) Ended step.1.0.1.0 becomes.here (asks-with_phase side.live name Ended name),
+              (keeps_at old new old.own old.waiting.sends side step.0 step.1.1 step.1.0.1.0 (quiet_keeps side is was)),
+          lives_with Ended side.queue step.1.0.1.0 step.1.0.0,
         )
 
     receives_as : (phase : Option (Phase W)) (answer : Poll (Option T)) → receive_phase old name ≡ phase →
@@ -590,11 +571,7 @@ module _ {T W : Type 0} where
               (not_joined side (ended side name) name (Some Ended) becomes refl))),
           lives_received (ended side name) Ended step.1.0.1.0 becomes.here (asks-with_phase side.live name Ended name),
         )
-    streams_as None answer is did was = absurd did
-    streams_as (Some Fresh) answer is did was = receives_as (Some Fresh) answer is did was
-    streams_as (Some (Registered before)) answer is did was = receives_as (Some (Registered before)) answer is did was
-    streams_as (Some Told) answer is did was = receives_as (Some Told) answer is did was
-    streams_as (Some Complete) answer is did was = absurd did
+    streams_as phase answer is did was = receives_as phase answer is did was
 
     pub polls_next : (answer : Poll (Option T)) → PollsNext old name waker answer new → Holds old → Receives answer
     polls_next answer did was = streams_as (receive_phase old name) answer refl did was
@@ -602,9 +579,8 @@ module _ {T W : Type 0} where
     can_still : (kind : Option ReceiveKind) (before after : Option (Phase W)) → can_stream kind before ≡ true →
         is_some after ≡ true →
         can_stream kind after ≡ true
-    can_still None before after can lives = absurd (both_ways false refl can)
-    can_still (Some Single) before after can lives = absurd (both_ways false refl can)
     can_still (Some Stream) before after can lives = lives
+    can_still kind before after can lives = absurd (both_ways false refl can)
 
     pub still_streams : can_stream (kind_of old name) (receive_phase old name) ≡ true → (answer : Poll (Option T)) →
         Receives answer →
@@ -722,10 +698,7 @@ module _ {T W : Type 0} where
         Sends answer
     polls_send (Ready (Err (send_fault.Fault fault))) did was =
         (unchanged old new did.3 was, ap (λ (m : ChannelMachine T W). is_some (send_phase m name)) did.3 ∙ ap is_some did.1)
-    polls_send (Ready (Err (send_fault.Closed value))) did was =
-        sends_as (send_phase old name) (Ready (Err (send_fault.Closed value))) refl did was
-    polls_send (Ready (Ok done)) did was = sends_as (send_phase old name) (Ready (Ok done)) refl did was
-    polls_send Pending did was = sends_as (send_phase old name) Pending refl did was
+    polls_send answer did was = sends_as (send_phase old name) answer refl did was
 
 module _ {T W : Type 0} where
   -- a channel that nobody uses yet

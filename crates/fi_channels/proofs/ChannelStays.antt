@@ -41,25 +41,21 @@ module _ {W : Type 0} where
   receive_lives : (kind : Option ReceiveKind) (phase : Option (Phase W)) → can_receive kind phase ≡ true → is_some phase ≡ true
   receive_lives (Some Single) (Some phase) can = refl
   receive_lives (Some Single) None can = can
-  receive_lives (Some Stream) phase can = absurd (both_ways false refl can)
-  receive_lives None phase can = absurd (both_ways false refl can)
+  receive_lives kind phase can = absurd (both_ways false refl can)
 
   stream_lives : (kind : Option ReceiveKind) (phase : Option (Phase W)) → can_stream kind phase ≡ true → is_some phase ≡ true
   stream_lives (Some Stream) phase can = can
-  stream_lives (Some Single) phase can = absurd (both_ways false refl can)
-  stream_lives None phase can = absurd (both_ways false refl can)
+  stream_lives kind phase can = absurd (both_ways false refl can)
 
   still_received : (kind : Option ReceiveKind) (before after : Option (Phase W)) → (can_take before ≡ true → can_take after ≡ true) →
       can_receive kind before ≡ true → can_receive kind after ≡ true
   still_received (Some Single) before after stays can = stays can
-  still_received (Some Stream) before after stays can = absurd (both_ways false refl can)
-  still_received None before after stays can = absurd (both_ways false refl can)
+  still_received kind before after stays can = absurd (both_ways false refl can)
 
   still_streamed : (kind : Option ReceiveKind) (before after : Option (Phase W)) → (is_some before ≡ true → is_some after ≡ true) →
       can_stream kind before ≡ true → can_stream kind after ≡ true
   still_streamed (Some Stream) before after stays can = stays can
-  still_streamed (Some Single) before after stays can = absurd (both_ways false refl can)
-  still_streamed None before after stays can = absurd (both_ways false refl can)
+  still_streamed kind before after stays can = absurd (both_ways false refl can)
 
 module _ {T W : Type 0} (old new : ChannelMachine T W) (was : Holds old) where
   module _ {on_send on_receive : WakerChange W} (did : Goes old new on_send on_receive) (sends receives : ℕ → Type 0)

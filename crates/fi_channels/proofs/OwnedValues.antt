@@ -5,11 +5,10 @@ use Rattle.std.specs.Option.{option_flatten}
 use Rattle.std.specs.FinMap as map
 use Rattle.fi_parts.specs.declared.phase.LiveFuture.{LiveFuture}
 use Rattle.fi_parts.specs.declared.phase.Phase.{Phase}
-use Rattle.fi_parts.specs.declared.phase.Phase.TheVariants.{Fresh, Registered, Told, Complete, Ended}
+use Rattle.fi_parts.specs.declared.phase.Phase.TheVariants.{Fresh, Registered, Complete, Ended}
 use Rattle.fi_parts.specs.Oldest.{complete_first, complete_oldest}
-use Rattle.fi_parts.specs.Waiting.{Waiters, phase_of, phase_in, asks_in, insert_fresh}
-use Rattle.fi_parts.specs.Waiting.{with_phase, with_asks, exchange, ended, without_future}
-use Rattle.fi_parts.specs.Waiting.{clear_queue, IsOrdered}
+use Rattle.fi_parts.specs.Waiting.{Waiters, phase_of, phase_in, asks_in, insert_fresh, with_phase, with_asks, exchange, ended}
+use Rattle.fi_parts.specs.Waiting.{without_future, clear_queue, IsOrdered}
 use Rattle.fi_parts.proofs.FiniteMaps.{get-insert_same, get-insert_other, get-remove_same, get-remove_other}
 use Rattle.fi_parts.proofs.Effects.{registered_as}
 use Rattle.fi_parts.proofs.Oldest.{get-with_asks, get-with_asks_other}
@@ -20,12 +19,8 @@ use Rattle.fi_channels.proofs.ChannelSteps.{future_there}
 
 module _ {W : Type 0} where
   still_owns : (phase : Option (Phase W)) → owns_value phase ≡ owns_value (noticed_phase Fresh phase)
-  still_owns None = refl
-  still_owns (Some Fresh) = refl
   still_owns (Some (Registered waker)) = refl
-  still_owns (Some Told) = refl
-  still_owns (Some Complete) = refl
-  still_owns (Some Ended) = refl
+  still_owns phase = refl
 
 module _ {T W : Type 0} where
   abbrev pub OwnedAt : Option (LiveFuture (Option T) W) → Type 0

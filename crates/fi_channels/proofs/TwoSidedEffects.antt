@@ -12,8 +12,7 @@ use Rattle.fi_parts.specs.Machine.{AllowsBasics}
 use Rattle.fi_parts.specs.NamedPairs.{first_waker}
 use Rattle.fi_parts.specs.Oldest.{pair_of_first, pair_of_oldest, complete_first, complete_oldest}
 use Rattle.fi_parts.specs.PlaceRules.{registered_rule}
-use Rattle.fi_channels.specs.TwoSidedEffects.{marked, pairs_on, TakesOn, TwoSidedEffect, waiting_sends, waiting_receives}
-use Rattle.fi_channels.specs.TwoSidedEffects.{TakesTwoSided}
+use Rattle.fi_channels.specs.TwoSidedEffects.{marked, pairs_on, TakesOn, TwoSidedEffect, waiting_sends, waiting_receives, TakesTwoSided}
 use Rattle.fi_channels.specs.TwoSidedTable.{on_sends, on_receives, AllowsTwoSided}
 use Rattle.fi_channels.specs.TwoSidedEffects.TwoSidedEffect.{OnSends, OnReceives, PopsFirst, Then}
 use Rattle.fi_channels.specs.TwoSidesModel.{TwoSidesModel, AreBothSound}

@@ -2,10 +2,8 @@
 use Rattle.std.specs.Prelude.{List, ◌∷◌, refl}
 use Rattle.std.proofs.Common.{subst}
 use Rattle.fi_channels.specs.TwoSidedEffects.{TwoSidedEffect, waiting_sends, waiting_receives}
-use Rattle.fi_channels.specs.TwoSidedTable.{AllowsTwoSided, KeepsKinds, on_sends, on_receives}
-use Rattle.fi_channels.specs.TwoSidedMachine.{TwoSidedMachine, TwoSidedRules, TwoSidedStep, HasSoundSides}
-use Rattle.fi_channels.specs.TwoSidedMachine.{initial_two_sided}
-use Rattle.fi_channels.specs.TwoSidedTable.{TwoSidedLine}
+use Rattle.fi_channels.specs.TwoSidedTable.{AllowsTwoSided, KeepsKinds, on_sends, on_receives, TwoSidedLine}
+use Rattle.fi_channels.specs.TwoSidedMachine.{TwoSidedMachine, TwoSidedRules, TwoSidedStep, HasSoundSides, initial_two_sided}
 use Rattle.fi_parts.specs.WakerHistory.{WakerChange, KeepsWakers}
 use Rattle.fi_parts.specs.Waiting.{Waiting}
 use Rattle.fi_channels.proofs.BothSound.{both_sound-new}

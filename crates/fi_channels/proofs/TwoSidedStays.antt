@@ -6,16 +6,13 @@ use Rattle.fi_parts.specs.Machine.{AllowsBasics}
 use Rattle.fi_parts.specs.PlaceRules.{registered_rule}
 use Rattle.fi_parts.specs.Waiting.{Waiting, phase_of, asks_of}
 use Rattle.fi_parts.specs.WakerHistory.{WakerChange}
-use Rattle.fi_parts.proofs.Effects.{AreFit, SparedBy, IsFitIfPending, effect_after, stays_fit, still_pending, given_away}
-use Rattle.fi_parts.proofs.Effects.{pending_is_fit}
+use Rattle.fi_parts.proofs.Effects.{AreFit, SparedBy, IsFitIfPending, effect_after, stays_fit, still_pending, given_away, pending_is_fit}
 use Rattle.fi_parts.proofs.Machines.{asks_stay}
-use Rattle.fi_channels.specs.TwoSidedEffects.{TwoSidedEffect, TakesTwoSided}
-use Rattle.fi_channels.specs.TwoSidedTable.{AllowsTwoSided, KeepsKinds, on_sends, on_receives}
-use Rattle.fi_channels.specs.TwoSidedEffects.{waiting_sends, waiting_receives}
+use Rattle.fi_channels.specs.TwoSidedEffects.{TwoSidedEffect, TakesTwoSided, waiting_sends, waiting_receives}
+use Rattle.fi_channels.specs.TwoSidedTable.{AllowsTwoSided, KeepsKinds, on_sends, on_receives, TwoSidedLine}
 use Rattle.fi_channels.specs.TwoSidedEffects.TwoSidedEffect.{OnSends, OnReceives, PopsFirst, Then}
 use Rattle.fi_channels.specs.TwoSidesModel.{TwoSidesModel, AreBothSound}
 use Rattle.fi_channels.specs.TwoSidedMachine.{TwoSidedMachine, TwoSidedRules, HasSoundSides}
-use Rattle.fi_channels.specs.TwoSidedTable.{TwoSidedLine}
 use Rattle.fi_channels.proofs.TwoSidedEffects.{two_sided_sound, sends_take, sends_stay, receives_take, receives_stay}
 
 module _ {D E W : Type 0} {sending receiving : Option (Phase W) → Bool} (knows_send : AllowsBasics sending)

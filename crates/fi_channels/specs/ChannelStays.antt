@@ -1,7 +1,6 @@
 -- Which sends, receives and streams of a channel are as fit after a call as before it.
 use Rattle.std.specs.Prelude.{◌≡◌, ◌≢◌, ⊤, ℕ, true, is_some}
-use Rattle.fi_channels.specs.ChannelWords.{ChannelMachine, can_send, can_receive, can_stream, send_phase, receive_phase}
-use Rattle.fi_channels.specs.ChannelWords.{kind_of}
+use Rattle.fi_channels.specs.ChannelWords.{ChannelMachine, can_send, can_receive, can_stream, send_phase, receive_phase, kind_of}
 
 module _ {T W : Type 0} where
   -- Of these sends and these receives, whoever lives stays live, and whoever can be polled can still be polled.

@@ -7,8 +7,7 @@ ghost use Rattle.fi_parts.specs.declared.phase.Phase.TheVariants.{Fresh, Complet
 ghost use Rattle.fi_channels.specs.Polled.{unused_after, IsRefused, WouldBeReady, LeavesWhere};
 ghost use Rattle.fi_channels.specs.Channel.{MakesSend, MakesReceive, PollsSend, CancelsSend, PollsReceive};
 ghost use Rattle.fi_channels.specs.Channel.{CancelsReceive, TriesSend, TriesReceive, Closes, IsSound};
-ghost use Rattle.fi_channels.specs.ChannelWords.{opened, can_send, can_take};
-ghost use Rattle.fi_channels.specs.ChannelWords.{displaced_by_send, displaced_send, displaced_receive, next_of};
+ghost use Rattle.fi_channels.specs.ChannelWords.{opened, can_send, can_take, displaced_by_send, displaced_send, displaced_receive, next_of};
 ghost use Rattle.fi_channels.specs.ChannelFields.{machine_of, phase_given, Takes, PollsAs, can_poll_as};
 ghost use Rattle.fi_channels.specs.Cleared.{ClosesAndClears};
 

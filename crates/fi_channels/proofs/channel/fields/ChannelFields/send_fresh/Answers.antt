@@ -13,36 +13,26 @@ use Rattle.fi_channels.proofs.channel.fields.ChannelFields.send_fresh.Goals as g
 
 pub exchange-requires-after_bounds : goal.exchange-requires-after_bounds
 exchange-requires-after_bounds g c _ _ =
-    ended_lives (g.B.RingBuf.bounded c.args.self.now.buffer) c.args.self.now.waiters c.args.self.now.is_open c.args.slot.0
-    c.requires.fresh
-    c.take_out-named.new.self c.set_phase.new.self c.take_out-named.ensures.rest c.set_phase.ensures.rest
+    ended_lives c.args.self.now.waiters c.args.slot.0 c.requires.fresh _ _ c.take_out-named.ensures.rest c.set_phase.ensures.rest
 
 pub unwrap-value-requires : goal.unwrap-value-requires
 unwrap-value-requires g c =
     fresh_asks _ _ _ _ c.requires.sound c.requires.fresh c.exchange.result
-    (ended_asks (g.B.RingBuf.bounded c.args.self.now.buffer) c.args.self.now.waiters c.args.self.now.is_open c.args.slot.0
-    c.take_out-named.new.self c.set_phase.new.self c.take_out-named.ensures.rest c.set_phase.ensures.rest
-    c.exchange.result c.exchange.ensures.asked)
+    (ended_asks c.args.self.now.waiters c.args.slot.0 _ _ c.take_out-named.ensures.rest c.set_phase.ensures.rest _
+    c.exchange.ensures.asked)
 
 pub returns-then-not-self-clause-polled : goal.returns-then-not-self-clause-polled
 returns-then-not-self-clause-polled g c =
     closed_sends _ c.args.self.now.waiters _ _ c.args.waker c.unwrap-value.result c.requires.fresh
-    (ended_asks (g.B.RingBuf.bounded c.args.self.now.buffer) c.args.self.now.waiters c.args.self.now.is_open c.args.slot.0
-    c.take_out-named.new.self c.set_phase.new.self c.take_out-named.ensures.rest c.set_phase.ensures.rest
-    c.exchange.result c.exchange.ensures.asked ∙ ap Some c.unwrap-value.ensures)
-    c.if-not-self.true c.exchange.new.self
-    (ended_then (g.B.RingBuf.bounded c.args.self.now.buffer) c.args.self.now.waiters c.args.self.now.is_open c.args.slot.0
-    c.take_out-named.new.self c.set_phase.new.self c.exchange.new.self c.take_out-named.ensures.rest
-    c.set_phase.ensures.rest c.exchange.ensures.rest)
+    (ended_asks c.args.self.now.waiters c.args.slot.0 _ _ c.take_out-named.ensures.rest c.set_phase.ensures.rest _
+    c.exchange.ensures.asked ∙ ap Some c.unwrap-value.ensures) c.if-not-self.true c.exchange.new.self
+    (ended_then c.args.self.now.waiters c.args.slot.0 _ _ _ c.take_out-named.ensures.rest c.set_phase.ensures.rest c.exchange.ensures.rest)
 
 pub tell_oldest-requires-after_bounds : goal.tell_oldest-requires-after_bounds
 tell_oldest-requires-after_bounds g c _ _ =
     ordered_beside _ c.args.self.now.waiters _ c.args.slot.0 c.requires.sound
     (registered c.args.self.now.waiters.sends c.args.slot.0 c.args.waker) c.register.new.self
-    (waits_then (g.B.RingBuf.bounded c.args.self.now.buffer) c.args.self.now.waiters c.args.self.now.is_open c.args.slot.0
-    c.args.waker
-    c.take_out-named-then-not-can_push.new.self c.register.new.self c.take_out-named-then-not-can_push.ensures.rest
-    c.register.ensures)
+    (waits_then c.args.self.now.waiters c.args.slot.0 c.args.waker _ _ c.take_out-named-then-not-can_push.ensures.rest c.register.ensures)
 
 pub returns-then-not-can_push-clause-polled : goal.returns-then-not-can_push-clause-polled
 returns-then-not-can_push-clause-polled g c =
@@ -53,17 +43,13 @@ returns-then-not-can_push-clause-polled g c =
     (g.B.RingBuf.bounded c.args.self.now.buffer).capacity ≡ false =
     sym c.can_push.ensures.room ∙ c.if-not-can_push.true in
     full_sends (g.B.RingBuf.bounded c.args.self.now.buffer) c.args.self.now.waiters c.args.self.now.is_open c.args.slot.0
-    c.args.waker owned.0
-    c.requires.fresh owned.1 c.if-not-self.false full c.register.new.self c.tell_oldest.new.self
-    (waits_then (g.B.RingBuf.bounded c.args.self.now.buffer) c.args.self.now.waiters c.args.self.now.is_open c.args.slot.0
-    c.args.waker
-    c.take_out-named-then-not-can_push.new.self c.register.new.self c.take_out-named-then-not-can_push.ensures.rest
-    c.register.ensures) c.tell_oldest.ensures
+    c.args.waker owned.0 c.requires.fresh owned.1 c.if-not-self.false full c.register.new.self c.tell_oldest.new.self
+    (waits_then c.args.self.now.waiters c.args.slot.0 c.args.waker _ _ c.take_out-named-then-not-can_push.ensures.rest c.register.ensures)
+    c.tell_oldest.ensures
 
 pub exchange-requires-in-Err-after_bounds : goal.exchange-requires-in-Err-after_bounds
 exchange-requires-in-Err-after_bounds g c _ _ =
-    lives_exchanged (g.B.RingBuf.bounded c.args.self.now.buffer) c.args.self.now.waiters c.args.self.now.is_open c.args.slot.0
-    c.requires.fresh c.exchange-2.new.self c.args.self.now.waiters.out c.exchange-2.ensures.rest
+    lives_exchanged c.args.self.now.waiters c.args.slot.0 c.requires.fresh _ c.args.self.now.waiters.out c.exchange-2.ensures.rest
 
 pub returns-in-Err-clause-polled : goal.returns-in-Err-clause-polled
 returns-in-Err-clause-polled g c =
@@ -73,32 +59,24 @@ returns-in-Err-clause-polled g c =
     let grows : (g.B.RingBuf.bounded c.args.self.now.buffer).reserved < (g.B.RingBuf.bounded c.args.self.now.buffer).capacity =
     omega (arith, why.2, room) in
     let back =
-    put_back (g.B.RingBuf.bounded c.args.self.now.buffer) c.args.self.now.waiters c.args.self.now.is_open c.args.slot.0
+    put_back c.args.self.now.waiters c.args.slot.0
     c.into_parts-value.result.0 c.requires.fresh (c.exchange-2.ensures.asked ∙ ap Some (c.unwrap-value-2.ensures
-    ∙ ap Some (sym (c.into_parts-value.ensures ∙ why.0))))
-    c.exchange-2.new.self c.exchange-in-Err.new.self c.exchange-2.ensures.rest
-    c.exchange-in-Err.ensures.rest in
+    ∙ ap Some (sym (c.into_parts-value.ensures ∙ why.0)))) _ _ c.exchange-2.ensures.rest c.exchange-in-Err.ensures.rest in
     (c.from.ensures, c.requires.fresh, (c.if-not-self.false, why.2, grows), λ i. machine (why.1 i) (back i) c.args.self.now.is_open)
 
 pub take_out-named-requires-2-after_bounds : goal.take_out-named-requires-2-after_bounds
 take_out-named-requires-2-after_bounds g c _ _ =
-    lives_exchanged (g.B.RingBuf.bounded c.args.self.now.buffer) c.args.self.now.waiters c.args.self.now.is_open c.args.slot.0
-    c.requires.fresh c.exchange-2.new.self c.args.self.now.waiters.out c.exchange-2.ensures.rest
+    lives_exchanged c.args.self.now.waiters c.args.slot.0 c.requires.fresh _ c.args.self.now.waiters.out c.exchange-2.ensures.rest
 
 pub set_phase-requires-2-after_bounds : goal.set_phase-requires-2-after_bounds
 set_phase-requires-2-after_bounds g c _ _ =
-    unpaired_lives c.exchange-2.new.self c.take_out-named-2.new.self c.args.slot.0
-    (without_by same_waiter (Send c.args.slot.0)
-    (TwoSidesModel.out c.exchange-2.new.self)) c.take_out-named-2.ensures.rest
-    (lives_exchanged (g.B.RingBuf.bounded c.args.self.now.buffer) c.args.self.now.waiters c.args.self.now.is_open c.args.slot.0
-    c.requires.fresh c.exchange-2.new.self c.args.self.now.waiters.out c.exchange-2.ensures.rest)
+    unpaired_lives c.exchange-2.new.self _ c.args.slot.0 _ c.take_out-named-2.ensures.rest
+    (lives_exchanged c.args.self.now.waiters c.args.slot.0 c.requires.fresh _ c.args.self.now.waiters.out c.exchange-2.ensures.rest)
 
 pub tell_oldest-requires-2-after_bounds : goal.tell_oldest-requires-2-after_bounds
 tell_oldest-requires-2-after_bounds g c _ _ =
     ordered_beside _ c.args.self.now.waiters _ c.args.slot.0 c.requires.sound _ c.set_phase-2.new.self
-    (exchanged_then (g.B.RingBuf.bounded c.args.self.now.buffer) c.args.self.now.waiters c.args.self.now.is_open c.args.slot.0
-    c.requires.fresh c.exchange-2.new.self c.take_out-named-2.new.self c.set_phase-2.new.self
-    c.exchange-2.ensures.rest
+    (exchanged_then c.args.self.now.waiters c.args.slot.0 c.requires.fresh _ _ _ c.exchange-2.ensures.rest
     c.take_out-named-2.ensures.rest c.set_phase-2.ensures.rest)
 
 pub returns-clause-polled : goal.returns-clause-polled
@@ -109,7 +87,5 @@ returns-clause-polled g c =
     (stored (g.B.RingBuf.bounded c.args.self.now.buffer) (g.B.RingBuf.bounded c.push.new.self) c.args.self.now.is_open
     c.unwrap-value-2.result c.in_default.ensures.ok c.push.ensures.grows c.push.ensures.stays c.push.ensures.fits)
     c.set_phase-2.new.self c.tell_oldest-2.new.self
-    (exchanged_then (g.B.RingBuf.bounded c.args.self.now.buffer) c.args.self.now.waiters c.args.self.now.is_open c.args.slot.0
-    c.requires.fresh c.exchange-2.new.self c.take_out-named-2.new.self c.set_phase-2.new.self
-    c.exchange-2.ensures.rest
+    (exchanged_then c.args.self.now.waiters c.args.slot.0 c.requires.fresh _ _ _ c.exchange-2.ensures.rest
     c.take_out-named-2.ensures.rest c.set_phase-2.ensures.rest) c.tell_oldest-2.ensures
