@@ -1,3 +1,4 @@
+pub mod Leaving
 pub mod OldestTold
 pub mod Polls
 pub mod MutexSteps

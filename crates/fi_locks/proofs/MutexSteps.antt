@@ -13,9 +13,8 @@ use Rattle.fi_parts.specs.Order.{holds, without}
 use Rattle.fi_parts.specs.Places.{is_told}
 use Rattle.fi_parts.specs.Waiting.{Waiting, is_queued}
 use Rattle.fi_parts.proofs.PairsWithin.{if_true, if_false}
-use Rattle.fi_locks.specs.Mutex.{MutexMachine, held, freed, is_empty, is_free, queue_of, for_newcomer, for_registered}
-use Rattle.fi_locks.specs.Mutex.{GrantsOr, PollsAs, Polls, CancelsAs, Cancels, TriesFor, TriesLock, UnlocksFrom}
-use Rattle.fi_locks.specs.Mutex.{Unlocks, IsSound}
+use Rattle.fi_locks.specs.Mutex.{MutexMachine, held, freed, is_empty, is_free, queue_of, for_newcomer, for_registered, GrantsOr, PollsAs}
+use Rattle.fi_locks.specs.Mutex.{Polls, CancelsAs, Cancels, TriesFor, TriesLock, UnlocksFrom, Unlocks, IsSound}
 use Rattle.fi_locks.specs.MutexLaws.{IsWell, some_for_newcomer, some_for_registered, told_is}
 
 module _ {T : Type 0} where

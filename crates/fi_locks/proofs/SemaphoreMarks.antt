@@ -1,11 +1,10 @@
 -- The calls on a semaphore keep the marks of its queue.
-use Rattle.std.proofs.Common.{◌≡◌, ◌≢◌, ℕ, ◌+◌, ◌-◌, ◌≤◌, ◌&&◌, Bool, true, false, eqb}
-use Rattle.std.proofs.Common.{List, [], ◌∷◌, ◌++◌, Option, Some, None, MatchOption, sum_by}
-use Rattle.std.proofs.Common.{refl, sym, ap, subst, ◌∙◌, inl, inr, arith}
+use Rattle.std.proofs.Common.{◌≡◌, ◌≢◌, ℕ, ◌+◌, ◌-◌, ◌≤◌, ◌&&◌, Bool, true, false, eqb, List, [], ◌∷◌, ◌++◌, Option, Some, None}
+use Rattle.std.proofs.Common.{MatchOption, sum_by, refl, sym, ap, subst, ◌∙◌, inl, inr, arith}
 use Rattle.std.specs.Option.{option_or}
 use Rattle.std.specs.Ordering.{nat_cmp}
 use Rattle.std.specs.FinMap as map
-use Rattle.std.proofs.lemmas.Bool.{both_ways, or_left, or_right, ne_eqb, false_from_ne_true}
+use Rattle.std.proofs.lemmas.Bool.{both_ways, or_left, ne_eqb, false_from_ne_true}
 use Rattle.fi_parts.specs.declared.errors.Slot.{Slot}
 use Rattle.fi_parts.specs.declared.phase.Phase.{Phase}
 use Rattle.fi_parts.specs.declared.phase.Phase.TheVariants.{Fresh, Registered, Told, Ended}
@@ -20,8 +19,7 @@ use Rattle.fi_parts.proofs.Slots.{eqb_same, holds-append, without_absent, withou
 use Rattle.fi_parts.proofs.Waiting.{Becomes}
 use Rattle.fi_locks.specs.FrontLaws.{sum_held, sum_without_one, not_empty}
 use Rattle.fi_locks.specs.Semaphore.{Permits, SemaphoreMachine, opened, need_of, can_take, IsSound}
-use Rattle.fi_locks.specs.SemaphoreMarks.{IsFirst, MarksFair, MarksIf, MarksWithout, MarksWithoutIf}
-use Rattle.fi_locks.specs.SemaphoreMarks.{left_promised, promised_without}
+use Rattle.fi_locks.specs.SemaphoreMarks.{IsFirst, MarksFair, MarksIf, MarksWithout, MarksWithoutIf, left_promised, promised_without}
 use Rattle.fi_locks.specs.SemaphoreFairLaws.{taken_fairly, less_told}
 use Rattle.fi_locks.specs.SemaphoreLaws.{queue_to, unqueued}
 use Rattle.fi_locks.specs.SemaphoreSoundLaws.{after, same_need, other_need_inserted, other_need_removed}
@@ -42,14 +40,6 @@ first_still (Some first) name rest is ne =
     (without name is.0, ap (without name) is.1 ∙ rw (ne_eqb name first.0 (λ e. ne (sym e))) refl)
 
 module _ {W : Type 0} where
-  -- What fair semaphores need shown: in an unfair one nothing is promised.
-  pub if_fair : (is_fair : Bool) (free free_now promised : ℕ) (untold untold_now : Option Slot) (old new : Waiters ℕ W) →
-      MarksIf is_fair free promised untold old →
-      (is_fair ≡ true → MarksFair free promised untold old → MarksFair free_now promised untold_now new) →
-      MarksIf is_fair free_now promised untold_now new
-  if_fair true free free_now promised untold untold_now old new was fair = fair refl was
-  if_fair false free free_now promised untold untold_now old new was fair = was
-
   pub marks_fair : (is_fair : Bool) (free promised : ℕ) (untold : Option Slot) (side : Waiters ℕ W) → is_fair ≡ true →
       MarksIf is_fair free promised untold side → MarksFair free promised untold side
   marks_fair is_fair free promised untold side fair was = subst (λ b. MarksIf b free promised untold side) fair was
@@ -62,18 +52,22 @@ module _ {W : Type 0} where
       holds q side.queue ≡ true
   told_queued side told rest front q at = ap (holds q) front.is_front ∙ holds-append q told rest ∙ or_left _ _ at
 
-  -- Queue and told futures are as before, those queued need what they needed, and what is promised is free.
-  pub marks_still : (free free_now promised : ℕ) (untold : Option Slot) (old new : Waiters ℕ W) → MarksFair free promised untold old →
-      new.queue ≡ old.queue → ((q : ℕ) → is_told (phase_of new q) ≡ is_told (phase_of old q)) →
-      ((q : ℕ) → holds q old.queue ≡ true → need_of new q ≡ need_of old q) → promised ≤ free_now → MarksFair free_now promised untold new
-  marks_still free free_now promised untold old new was queue told needs fits = record {
+  -- Queue and told futures are as before, those queued need what they needed, and what a fair one promises is free. (An unfair one
+  -- promises nothing.)
+  marks_still : (is_fair : Bool) (free free_now promised : ℕ) (untold : Option Slot) (old new : Waiters ℕ W) →
+      MarksIf is_fair free promised untold old → new.queue ≡ old.queue →
+      ((q : ℕ) → is_told (phase_of new q) ≡ is_told (phase_of old q)) →
+      ((q : ℕ) → holds q old.queue ≡ true → need_of new q ≡ need_of old q) →
+      (is_fair ≡ true → MarksFair free promised untold old → promised ≤ free_now) → MarksIf is_fair free_now promised untold new
+  marks_still true free free_now promised untold old new was queue told needs fits = record {
     told = was.told;
     rest = was.rest;
     front = front_still old new was.told was.rest was.front queue told;
     sums = sum_held (need_of new) (need_of old) was.told (λ q at. needs q (told_queued old was.told was.rest was.front q at)) ∙ was.sums;
-    fits = fits;
+    fits = fits refl was;
     first = was.first;
   }
+  marks_still false free free_now promised untold old new was queue told needs fits = was
 
   -- where permits are granted to one that does not wait, what is promised is free still
   promised_still : (permits : Permits) (side : Waiters ℕ W) (n promised : ℕ) (untold : Option Slot) → permits.is_fair ≡ true →
@@ -91,9 +85,8 @@ module _ {W : Type 0} where
       can_take permits side.queue n ≡ true → MarksIf permits.is_fair permits.free promised untold side →
       MarksIf permits.is_fair (permits.free - n) promised untold side
   marks_taken permits n promised untold side takes was =
-      if_fair permits.is_fair permits.free (permits.free - n) promised untold untold side side was
-      (λ fair marks. marks_still permits.free (permits.free - n) promised untold side side marks refl (λ q. refl) (λ q at. refl)
-      (promised_still permits side n promised untold fair takes marks))
+      marks_still permits.is_fair permits.free (permits.free - n) promised untold side side was refl (λ q. refl) (λ q at. refl)
+      (λ fair marks. promised_still permits side n promised untold fair takes marks)
 
   module _ (old : SemaphoreMachine W) (name promised : ℕ) (untold_slot : Option Slot) (new : Waiting ℕ W) (sound : IsSound old)
       (was : MarksIf old.own.is_fair old.own.free promised untold_slot old.waiting.side) where
@@ -102,31 +95,34 @@ module _ {W : Type 0} where
     marks_made need taken =
         let b = after (Inserts name need) old new sound tt taken in
         let off = unqueued old name sound (ap (is_queued old.own.is_fair) taken.0) in
-        if_fair old.own.is_fair old.own.free old.own.free promised untold_slot untold_slot old.waiting.side new.side was
-        (λ fair marks. marks_still old.own.free old.own.free promised untold_slot old.waiting.side new.side marks (queue_to new _ taken.1)
+        marks_still old.own.is_fair old.own.free old.own.free promised untold_slot old.waiting.side new.side was (queue_to new _ taken.1)
         (same_told old.waiting.side new.side name (Some Fresh) b refl (ap is_told taken.0))
         (λ q at. other_need_inserted name need old.waiting new taken q
-        (λ e. both_ways _ off (subst (λ (n : ℕ). holds n old.waiting.side.queue ≡ true) e at))) marks.fits)
+        (λ e. both_ways _ off (subst (λ (n : ℕ). holds n old.waiting.side.queue ≡ true) e at))) (λ fair marks. marks.fits)
 
     -- a fresh one registers
     pub marks_registered : (slot : Slot) (waker : W) → slot.0 ≡ name → phase_at old name ≡ Some Fresh →
         TakesEffect (Registers name waker) old.waiting new →
         MarksIf old.own.is_fair old.own.free promised (option_or untold_slot (Some slot)) new.side
-    marks_registered slot waker same stood taken =
-        let side = old.waiting.side in
-        let b = after (Registers name waker) old new sound (untold old.own.is_fair (phase_at old name) (ap is_told stood)) taken in
-        let off = unqueued old name sound (ap (is_queued old.own.is_fair) stood) in
-        let needs = same_need (Registers name waker) old.waiting new taken (λ q. refl) in
-        if_fair old.own.is_fair old.own.free old.own.free promised untold_slot (option_or untold_slot (Some slot)) side new.side was
-        (λ fair marks. record {
-          told = marks.told;
-          rest = marks.rest ++ name ∷ [];
-          front = front_registered side new.side name waker marks.told marks.rest marks.front b off (queue_to new _ taken.1);
-          sums = sum_held (need_of new.side) (need_of side) marks.told (λ q at. needs q) ∙ marks.sums;
-          fits = marks.fits;
-          first = subst (λ n. IsFirst (option_or untold_slot (Some slot)) (marks.rest ++ n ∷ [])) same
-              (first_with untold_slot slot marks.rest marks.first);
-        })
+    marks_registered slot waker same stood taken = each old.own.is_fair was
+      where
+        each : (b : Bool) → MarksIf b old.own.free promised untold_slot old.waiting.side →
+            MarksIf b old.own.free promised (option_or untold_slot (Some slot)) new.side
+        each true marks =
+            let side = old.waiting.side in
+            let b = after (Registers name waker) old new sound (untold old.own.is_fair (phase_at old name) (ap is_told stood)) taken in
+            let off = unqueued old name sound (ap (is_queued old.own.is_fair) stood) in
+            let needs = same_need (Registers name waker) old.waiting new taken (λ q. refl) in
+            record {
+              told = marks.told;
+              rest = marks.rest ++ name ∷ [];
+              front = front_registered side new.side name waker marks.told marks.rest marks.front b off (queue_to new _ taken.1);
+              sums = sum_held (need_of new.side) (need_of side) marks.told (λ q at. needs q) ∙ marks.sums;
+              fits = marks.fits;
+              first = subst (λ n. IsFirst (option_or untold_slot (Some slot)) (marks.rest ++ n ∷ [])) same
+                  (first_with untold_slot slot marks.rest marks.first);
+            }
+        each false none = none
 
     -- a fresh one is granted what it needs
     pub marks_ended : phase_at old name ≡ Some Fresh →
@@ -137,10 +133,9 @@ module _ {W : Type 0} where
         let need = need_of side name in
         let b = after (Ends name) old new sound (untold old.own.is_fair (phase_at old name) (ap is_told stood)) taken in
         let needs = same_need (Ends name) old.waiting new taken (λ q. refl) in
-        if_fair old.own.is_fair old.own.free (old.own.free - need) promised untold_slot untold_slot side new.side was
-        (λ fair marks. marks_still old.own.free (old.own.free - need) promised untold_slot side new.side marks (queue_to new _ taken.1)
+        marks_still old.own.is_fair old.own.free (old.own.free - need) promised untold_slot side new.side was (queue_to new _ taken.1)
         (same_told side new.side name (Some Ended) b refl (ap is_told stood)) (λ q at. needs q)
-        (promised_still old.own side need promised untold_slot fair takes marks))
+        (λ fair marks. promised_still old.own side need promised untold_slot fair takes marks)
 
     -- a registered one keeps waiting
     pub marks_stay : (before waker : W) → phase_at old name ≡ Some (Registered before) →
@@ -148,15 +143,16 @@ module _ {W : Type 0} where
     marks_stay before waker stood taken =
         let b = after (KeepsWaiting name waker) old new sound tt taken in
         let needs = same_need (KeepsWaiting name waker) old.waiting new taken (λ q. refl) in
-        if_fair old.own.is_fair old.own.free old.own.free promised untold_slot untold_slot old.waiting.side new.side was
-        (λ fair marks. marks_still old.own.free old.own.free promised untold_slot old.waiting.side new.side marks (queue_to new _ taken.1)
-        (same_told old.waiting.side new.side name (Some (Registered waker)) b refl (ap is_told stood)) (λ q at. needs q) marks.fits)
+        marks_still old.own.is_fair old.own.free old.own.free promised untold_slot old.waiting.side new.side was (queue_to new _ taken.1)
+        (same_told old.waiting.side new.side name (Some (Registered waker)) b refl (ap is_told stood)) (λ q at. needs q)
+        (λ fair marks. marks.fits)
 
   -- A name left the queue that the marks leave out.
-  marks_left : (old new : Waiters ℕ W) (name : ℕ) (phase : Option (Phase W)) (free promised : ℕ) (untold : Option Slot) →
-      MarksWithout name free promised untold old → Becomes old new name phase → is_told phase ≡ false →
-      new.queue ≡ without name old.queue → ((q : ℕ) → q ≢ name → need_of new q ≡ need_of old q) → MarksFair free promised untold new
-  marks_left old new name phase free promised untold was b not_told queue needs = record {
+  marks_left : (is_fair : Bool) (old new : Waiters ℕ W) (name : ℕ) (phase : Option (Phase W)) (free promised : ℕ) (untold : Option Slot) →
+      MarksWithoutIf is_fair name free promised untold old → Becomes old new name phase → is_told phase ≡ false →
+      new.queue ≡ without name old.queue → ((q : ℕ) → q ≢ name → need_of new q ≡ need_of old q) →
+      MarksIf is_fair free promised untold new
+  marks_left true old new name phase free promised untold was b not_told queue needs = record {
     told = without name was.told;
     rest = without name was.rest;
     front = front_without old new name phase was.told was.rest was.front b not_told queue;
@@ -164,6 +160,7 @@ module _ {W : Type 0} where
     fits = was.fits;
     first = was.first;
   }
+  marks_left false old new name phase free promised untold was b not_told queue needs = was
 
   module _ (free free_now promised : ℕ) (untold : Option Slot) (side : Waiters ℕ W) (name : ℕ) (once : Apart side.queue)
       (was : MarksFair free promised untold side) where
@@ -203,29 +200,30 @@ module _ {W : Type 0} where
     }
 
     -- of the oldest that is not told: the next younger one is that now
-    pub marks_without_first : (slot : Slot) (next : Option Slot) → untold ≡ Some slot → slot.0 ≡ name →
-        is_told (phase_of side name) ≡ false →
-        ((front rest : List ℕ) → side.queue ≡ front ++ slot.0 ∷ rest → IsFirst next rest) →
-        MarksWithout name free promised next side
-    marks_without_first slot next is same off younger =
-        let here = subst (λ o. IsFirst o was.rest) is was.first in
-        let split : was.rest ≡ name ∷ here.0 = here.1 ∙ ap (λ n. n ∷ here.0) same in
-        let apart : Apart (name ∷ here.0) = subst Apart split (Apart-back was.told was.rest once_here) in
-        record {
-          told = was.told;
-          rest = was.rest;
-          front = was.front;
-          sums = without_same off;
-          fits = was.fits;
-          first = subst (IsFirst next) (sym (ap (without name) split ∙ without_first name here.0 apart))
-              (younger was.told here.0 (was.front.is_front ∙ ap (λ xs. was.told ++ xs) here.1));
-        }
+    module _ (slot : Slot) (is : untold ≡ Some slot) (same : slot.0 ≡ name) where
+      here : (later : List ℕ) × (was.rest ≡ slot.0 ∷ later)
+      here = subst (λ o. IsFirst o was.rest) is was.first
 
-    pub first_is_queued : (slot : Slot) → untold ≡ Some slot → holds slot.0 side.queue ≡ true
-    first_is_queued slot is =
-        let here = subst (λ o. IsFirst o was.rest) is was.first in
-        ap (holds slot.0) was.front.is_front ∙ holds-append slot.0 was.told was.rest
-        ∙ or_right (holds slot.0 was.told) _ (ap (holds slot.0) here.1 ∙ or_left (eqb slot.0 slot.0) _ (eqb_same slot.0))
+      split : was.rest ≡ name ∷ here.0
+      split = here.1 ∙ ap (λ n. n ∷ here.0) same
+
+      pub first_untold : is_told (phase_of side name) ≡ false
+      first_untold = false_from_ne_true _ (λ told.
+          both_ways _ (Apart-disjoint was.told was.rest once_here name (sym (was.front.all name) ∙ told))
+          (ap (holds name) split ∙ or_left (eqb name name) _ (eqb_same name)))
+
+      pub marks_without_first : (next : Option Slot) →
+          ((front rest : List ℕ) → side.queue ≡ front ++ slot.0 ∷ rest → IsFirst next rest) → MarksWithout name free promised next side
+      marks_without_first next younger = record {
+        told = was.told;
+        rest = was.rest;
+        front = was.front;
+        sums = without_same first_untold;
+        fits = was.fits;
+        first = subst (IsFirst next) (sym (ap (without name) split ∙ without_first name here.0
+            (subst Apart split (Apart-back was.told was.rest once_here))))
+            (younger was.told here.0 (was.front.is_front ∙ ap (λ xs. was.told ++ xs) here.1));
+      }
 
   module _ (old : SemaphoreMachine W) (name promised : ℕ) (untold_slot : Option Slot) (new : Waiting ℕ W) (sound : IsSound old) where
     -- a told one is granted what it needs
@@ -241,7 +239,7 @@ module _ {W : Type 0} where
         each true marks =
             let side = old.waiting.side in
             let needs = same_need (EndsPlaced name) old.waiting new taken (λ q. refl) in
-            marks_left side new.side name (Some Ended) _ _ untold_slot
+            marks_left true side new.side name (Some Ended) _ _ untold_slot
             (marks_without_told old.own.free (old.own.free - need_of side name) promised untold_slot side name sound.waiters.ordered.once
             marks (ap is_told stood) (omega (arith, marks.fits))) (after (EndsPlaced name) old new sound tt taken) refl
             (queue_to new _ taken.1) (λ q ne. needs q)
@@ -249,15 +247,10 @@ module _ {W : Type 0} where
 
     pub marks_removed : MarksWithoutIf old.own.is_fair name old.own.free promised untold_slot old.waiting.side →
         TakesEffect (Removes name) old.waiting new → MarksIf old.own.is_fair old.own.free promised untold_slot new.side
-    marks_removed was taken = each old.own.is_fair was
-      where
-        each : (b : Bool) → MarksWithoutIf b name old.own.free promised untold_slot old.waiting.side →
-            MarksIf b old.own.free promised untold_slot new.side
-        each true marks =
-            marks_left old.waiting.side new.side name None old.own.free promised untold_slot marks
-            (after (Removes name) old new sound tt taken) refl (queue_to new _ taken.1)
-            (λ q ne. other_need_removed name old.waiting new taken q ne)
-        each false none = none
+    marks_removed was taken =
+        marks_left old.own.is_fair old.waiting.side new.side name None old.own.free promised untold_slot was
+        (after (Removes name) old new sound tt taken) refl (queue_to new _ taken.1)
+        (λ q ne. other_need_removed name old.waiting new taken q ne)
 
     -- a told one of a fair semaphore finds its need free
     pub told_need_free : old.own.is_fair ≡ true → is_told (phase_at old name) ≡ true →
@@ -272,70 +265,41 @@ module _ {W : Type 0} where
     marks : MarksFair old.own.free promised untold_slot old.waiting.side
     marks = marks_fair old.own.is_fair old.own.free promised untold_slot old.waiting.side fair was
 
-    unmark_told : is_told (phase_at old name) ≡ true →
-        MarksWithoutIf old.own.is_fair name old.own.free (promised - need_of old.waiting.side name) untold_slot old.waiting.side
-    unmark_told is =
-        let fits : promised - need_of old.waiting.side name ≤ old.own.free = omega (arith, marks.fits) in
-        subst (λ b. MarksWithoutIf b name old.own.free (promised - need_of old.waiting.side name) untold_slot old.waiting.side) (sym fair)
-        (marks_without_told old.own.free old.own.free promised untold_slot old.waiting.side name sound.waiters.ordered.once marks is fits)
-
-    unmark_other : is_told (phase_at old name) ≡ false → MatchOption untold_slot (Unit {0}) (λ slot. slot.0 ≢ name) →
-        MarksWithoutIf old.own.is_fair name old.own.free promised untold_slot old.waiting.side
-    unmark_other off ne =
-        subst (λ b. MarksWithoutIf b name old.own.free promised untold_slot old.waiting.side) (sym fair)
-        (marks_without_other old.own.free old.own.free promised untold_slot old.waiting.side name sound.waiters.ordered.once marks off ne)
-
-    unmark_first : (slot : Slot) (next : Option Slot) → untold_slot ≡ Some slot → slot.0 ≡ name →
-        is_told (phase_at old name) ≡ false →
-        ((front rest : List ℕ) → old.waiting.side.queue ≡ front ++ slot.0 ∷ rest → IsFirst next rest) →
-        MarksWithoutIf old.own.is_fair name old.own.free promised next old.waiting.side
-    unmark_first slot next is same off younger =
-        subst (λ b. MarksWithoutIf b name old.own.free promised next old.waiting.side) (sym fair)
-        (marks_without_first old.own.free old.own.free promised untold_slot old.waiting.side name sound.waiters.ordered.once marks slot next
-        is same off younger)
-
-    at_told : (told : Bool) → is_told (phase_at old name) ≡ told →
-        promised_without old.own.is_fair promised old.waiting.side name ≡
-        left_promised told promised (need_of old.waiting.side name)
-    at_told told is =
-        let need = need_of old.waiting.side name in
-        ap (λ b. left_promised (b && is_told (phase_at old name)) promised need) fair
-        ∙ ap (λ b. left_promised b promised need) is
+    by_told : (untold : Option Slot) → ((told : Bool) → is_told (phase_at old name) ≡ told →
+        MarksWithout name old.own.free (left_promised told promised (need_of old.waiting.side name)) untold old.waiting.side) →
+        MarksWithoutIf old.own.is_fair name old.own.free
+        (promised_without old.own.is_fair promised old.waiting.side name) untold old.waiting.side
+    by_told untold each =
+        subst (λ b. MarksWithoutIf b name old.own.free (promised_without b promised old.waiting.side name) untold old.waiting.side)
+        (sym fair) (each (is_told (phase_at old name)) refl)
 
     -- whether or not it is told: where it is not the oldest that isn't
     pub unmark_kept : MatchOption untold_slot (Unit {0}) (λ slot. slot.0 ≢ name) →
         MarksWithoutIf old.own.is_fair name old.own.free
         (promised_without old.own.is_fair promised old.waiting.side name) untold_slot old.waiting.side
-    unmark_kept ne = each (is_told (phase_at old name)) refl
+    unmark_kept ne = by_told untold_slot each
       where
         each : (told : Bool) → is_told (phase_at old name) ≡ told →
-            MarksWithoutIf old.own.is_fair name old.own.free
-            (promised_without old.own.is_fair promised old.waiting.side name) untold_slot old.waiting.side
+            MarksWithout name old.own.free (left_promised told promised (need_of old.waiting.side name)) untold_slot old.waiting.side
         each true is =
-            subst (λ p. MarksWithoutIf old.own.is_fair name old.own.free p untold_slot old.waiting.side)
-            (sym (at_told true is)) (unmark_told is)
+            marks_without_told old.own.free old.own.free promised untold_slot old.waiting.side name sound.waiters.ordered.once marks is
+            (omega (arith, marks.fits))
         each false is =
-            subst (λ p. MarksWithoutIf old.own.is_fair name old.own.free p untold_slot old.waiting.side)
-            (sym (at_told false is)) (unmark_other is ne)
-
-    untold_first : (slot : Slot) → untold_slot ≡ Some slot → slot.0 ≡ name → is_told (phase_at old name) ≡ false
-    untold_first slot at same = false_from_ne_true _ (λ is.
-        let here = subst (λ o. IsFirst o marks.rest) at marks.first in
-        let held : holds name marks.rest ≡ true =
-        ap (holds name) (here.1 ∙ ap (λ n. n ∷ here.0) same) ∙ or_left (eqb name name) _ (eqb_same name) in
-        let once : Apart (marks.told ++ marks.rest) = subst Apart marks.front.is_front sound.waiters.ordered.once in
-        both_ways (holds name marks.rest)
-        (Apart-disjoint marks.told marks.rest once name (sym (marks.front.all name) ∙ is)) held)
+            marks_without_other old.own.free old.own.free promised untold_slot old.waiting.side name sound.waiters.ordered.once marks is ne
 
     -- where it is that one: the next younger one is that now
     pub unmark_passed : (slot : Slot) (next : Option Slot) → untold_slot ≡ Some slot → slot.0 ≡ name →
         ((front rest : List ℕ) → old.waiting.side.queue ≡ front ++ slot.0 ∷ rest → IsFirst next rest) →
         MarksWithoutIf old.own.is_fair name old.own.free
         (promised_without old.own.is_fair promised old.waiting.side name) next old.waiting.side
-    unmark_passed slot next at same younger =
-        let off = untold_first slot at same in
-        subst (λ p. MarksWithoutIf old.own.is_fair name old.own.free p next old.waiting.side)
-        (sym (at_told false off)) (unmark_first slot next at same off younger)
+    unmark_passed slot next at same younger = by_told next each
+      where
+        each : (told : Bool) → is_told (phase_at old name) ≡ told →
+            MarksWithout name old.own.free (left_promised told promised (need_of old.waiting.side name)) next old.waiting.side
+        each true is = absurd (both_ways _ (first_untold old.own.free old.own.free promised untold_slot old.waiting.side name
+            sound.waiters.ordered.once marks slot at same) is)
+        each false is = marks_without_first old.own.free old.own.free promised untold_slot old.waiting.side name
+            sound.waiters.ordered.once marks slot at same next younger
 
 pub marks_opened : (W : Type 0) (is_fair : Bool) (permits : ℕ) →
     MarksIf is_fair permits 0 None (opened {W = W} is_fair permits).waiting.side

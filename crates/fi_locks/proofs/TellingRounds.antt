@@ -1,7 +1,6 @@
 -- How far a telling round has come, as it walks the queue.
-use Rattle.std.proofs.Common.{◌≡◌, ◌≢◌, ℕ, ◌+◌, ◌-◌, ◌≤◌, ◌<◌, Bool, true, false, eqb}
-use Rattle.std.proofs.Common.{cond, if◌then◌else◌, List, [], ◌∷◌, ◌++◌, length, sum_by}
-use Rattle.std.proofs.Common.{Option, Some, None, append_assoc, refl, sym, ap, subst, ◌∙◌, arith}
+use Rattle.std.proofs.Common.{◌≡◌, ◌≢◌, ℕ, ◌+◌, ◌-◌, ◌≤◌, ◌<◌, Bool, true, false, eqb, cond, if◌then◌else◌, List, [], ◌∷◌, ◌++◌, length}
+use Rattle.std.proofs.Common.{sum_by, Option, Some, None, append_assoc, refl, sym, ap, subst, ◌∙◌, arith}
 use Rattle.std.specs.Prelude.{unwrap_or}
 use Rattle.std.proofs.lemmas.Bool.{both_ways, cond-true, cond-false, eq-eqb, ne_eqb, or_left, or_right}
 use Rattle.std.proofs.lemmas.List.Sums.{sum_by_push}
@@ -15,8 +14,7 @@ use Rattle.fi_parts.specs.declared.phase.Phase.TheVariants.{Told}
 use Rattle.fi_parts.specs.Order.{holds, Apart}
 use Rattle.fi_parts.specs.Places.{is_told}
 use Rattle.fi_parts.specs.PlaceRules.{queued_rule}
-use Rattle.fi_parts.specs.Waiting.{Waiting, phase_in, phase_of, is_queued}
-use Rattle.fi_parts.specs.Waiting.{with_phases, pair_of, named, IsOrderedBy, told_one, front_told}
+use Rattle.fi_parts.specs.Waiting.{Waiting, phase_in, phase_of, is_queued, with_phases, pair_of, named, IsOrderedBy, told_one, front_told}
 use Rattle.fi_parts.proofs.Slots.{eqb_same, holds-append}
 use Rattle.fi_parts.proofs.Told.{with_phase-same, front_told-step, front_told-none}
 use Rattle.fi_parts.proofs.Notified.{ordered-notified, may_notify-front}

@@ -1,3 +1,4 @@
+pub mod Leaving
 pub mod MutexCode
 pub mod Timer
 pub mod TimerCode

@@ -6,8 +6,7 @@ use Rattle.futures.specs.declared.task.Poll.TheVariants.{Ready, Pending}
 use Rattle.fi_parts.specs.declared.phase.Phase.{Phase}
 use Rattle.fi_parts.specs.declared.phase.Phase.TheVariants.{Fresh, Registered, Told}
 use Rattle.fi_parts.specs.Effects.{WaiterEffect, first_of}
-use Rattle.fi_parts.specs.Effects.WaiterEffect.{NoChange, Inserts, Registers, KeepsWaiting, EndsPlaced, Removes}
-use Rattle.fi_parts.specs.Effects.WaiterEffect.{NotifiesFront, AndThen}
+use Rattle.fi_parts.specs.Effects.WaiterEffect.{NoChange, Inserts, Registers, KeepsWaiting, EndsPlaced, Removes, NotifiesFront, AndThen}
 use Rattle.fi_parts.specs.Machine.{Machine, phase_at, initial, StepsTo, HasSoundWaitersBy}
 pub use Rattle.fi_parts.specs.Machine.{Wakes}
 use Rattle.fi_parts.specs.Order.{holds, without}

@@ -2,13 +2,12 @@
 use Rattle.std.specs.Prelude.{◌≡◌, ◌≢◌, ◌&&◌, not, ℕ, ⊤, eqb, Bool, true, false, if◌then◌else◌, Option, Some, None, is_some}
 use Rattle.std.specs.Prelude.{Result, List, [], ◌∷◌, ◌++◌, refl}
 use Rattle.std.proofs.Common.{ap, subst, sym, ◌∙◌, inl, inr}
-use Rattle.std.proofs.lemmas.Bool.{both_ways, cases_eq, cases_Bool, and_parts, and_right, or_cases, or_parts, or_from}
-use Rattle.std.proofs.lemmas.Bool.{or_left, eqb-true, eq-eqb, ne_eqb}
-use Rattle.std.proofs.lemmas.Bool.{false_from_ne_true, true≢false, false≢true}
+use Rattle.std.proofs.lemmas.Bool.{both_ways, cases_eq, cases_Bool, and_parts, and_right, or_cases, or_parts, or_from, or_left, eqb-true}
+use Rattle.std.proofs.lemmas.Bool.{eq-eqb, ne_eqb, false_from_ne_true, true≢false, false≢true}
 use Rattle.std.specs.Ordering.{nat_cmp}
 use Rattle.std.specs.FinMap as map
 use Rattle.futures.specs.declared.task.Poll.{Poll}
-use Rattle.futures.specs.declared.task.Poll.TheVariants.{Ready, Pending}
+use Rattle.futures.specs.declared.task.Poll.TheVariants.{Ready}
 use Rattle.fi_parts.specs.declared.phase.Phase.{Phase}
 use Rattle.fi_parts.specs.declared.phase.Phase.TheVariants.{Fresh, Registered, Told, Ended}
 use Rattle.fi_parts.specs.Effects.{WaiterEffect, TakesEffect, first_of}
@@ -27,15 +26,9 @@ use Rattle.fi_parts.proofs.Machines.{initial_holds, line_preserves, line, unchan
 use Rattle.fi_parts.proofs.Machines.{registers, stays, added, phases_after}
 use Rattle.fi_parts.proofs.Notified.{AllBecome}
 use Rattle.fi_parts.proofs.Waiting.{Becomes}
-use Rattle.fi_locks.specs.Mutex.{MutexMachine, MutexData, held, freed, is_empty, can_be_polled, is_wait_phase}
-use Rattle.fi_locks.specs.Mutex.{tells_oldest}
-use Rattle.fi_locks.specs.Mutex.{is_free, queue_of, opened}
-use Rattle.fi_locks.specs.Mutex.{for_newcomer, for_registered, Makes, GrantsOr, PollsAs, Polls, CancelsAs, Cancels}
-use Rattle.fi_locks.specs.Mutex.{TriesFor}
-use Rattle.fi_locks.specs.Mutex.{TriesLock}
-use Rattle.fi_locks.specs.Mutex.{with_value, UnlocksFrom, Unlocks, Wakes, IsSound, OwesNoWakeAs, OwesNoWake}
-use Rattle.fi_locks.specs.Mutex.{IsLockedIfReady}
-use Rattle.fi_locks.specs.Mutex.{IsLockedIfGiven}
+use Rattle.fi_locks.specs.Mutex.{MutexMachine, MutexData, held, freed, is_empty, can_be_polled, is_wait_phase, tells_oldest, is_free}
+use Rattle.fi_locks.specs.Mutex.{queue_of, opened, for_newcomer, for_registered, Makes, GrantsOr, PollsAs, Polls, CancelsAs, Cancels}
+use Rattle.fi_locks.specs.Mutex.{TriesFor, TriesLock, with_value, UnlocksFrom, Unlocks, Wakes, IsSound, OwesNoWakeAs, OwesNoWake}
 
 -- The oldest of a queue.
 
@@ -264,150 +257,90 @@ module _ {T W : Type 0} where
 
   -- Polls.
 
-  module _ (old : MutexMachine T W) (name : ℕ) (waker : W) (answer : Poll T) (new : MutexMachine T W) where
-    abbrev Polled : Type 0
-    Polled = PollLine (rules old.own.is_fair) name (poll_change name waker answer) old new
+  module _ (old : MutexMachine T W) (name : ℕ) (waker : W) (answer : Poll T) (new : MutexMachine T W) (was : IsWell old) where
+    abbrev keeps : Bool
+    keeps = old.own.is_fair
 
-    granted_line : (value : T) → (answer ≡ Ready value) × StepsTo old (held old.own) (EndsPlaced name) new → Polled
-    granted_line value did = ends_placed (rules old.own.is_fair) (held old.own) name waker old new did (λ asks lack. tt)
+    -- What a poll leads to: a line of the table, the same fairness, and no wake owed.
+    record Polled : Type 0 where
+      line : PollLine (rules keeps) name (poll_change name waker answer) old new
+      is_fair : new.own.is_fair ≡ keeps
+      owes : OwesNoWakeAs keeps new
 
-    fresh_line : (given : Option T) → phase_at old name ≡ Some Fresh →
+    -- after a grant it is held, and if it is fair nobody is told
+    granted : (value : T) → (answer ≡ Ready value) × StepsTo old (held old.own) (EndsPlaced name) new →
+        (keeps ≡ true → (q : ℕ) → q ≢ name → is_told (phase_at old q) ≡ false) → Polled
+    granted value did none = record {
+      line = ends_placed (rules keeps) (held old.own) name waker old new did (λ asks lack. tt);
+      is_fair = fair_if new _ did.1.0;
+      owes = owes_held old new keeps (free_if new _ did.1.0)
+          (λ fair. none_told old.waiting.side new.waiting.side name (Some Ended)
+          (phases_after (rules keeps) (held old.own) (EndsPlaced name) old new was.0 tt did.1) refl (none fair));
+    }
+
+    fresh_polled : (given : Option T) → for_newcomer old ≡ given → phase_at old name ≡ Some Fresh →
         GrantsOr (Registers name waker) given old name answer new → Polled
-    fresh_line (Some value) is did = granted_line value did
-    fresh_line None is did =
-        registers (rules old.own.is_fair) old.own name waker old new did (untold old.own.is_fair (phase_at old name)
-        (ap is_told is)) tt
-        (λ asks lack. tt)
+    fresh_polled (Some value) for_it is did =
+        granted value did
+        (λ fair q ne. none_if_empty old was fair (some_for_newcomer keeps (queue_of old) old.own.value value for_it fair) q)
+    fresh_polled None for_it is did =
+        let allows = untold keeps (phase_at old name) (ap is_told is) in
+        let becomes = phases_after (rules keeps) old.own (Registers name waker) old new was.0 allows did.1 in
+        record {
+          line = registers (rules keeps) old.own name waker old new did allows tt (λ asks lack. tt);
+          is_fair = fair_if new _ did.1.0;
+          owes = owes_pushed old new keeps name
+              (told_as_before old.waiting.side new.waiting.side name (Some (Registered waker)) becomes (sym (ap is_told is)))
+              (free_if new _ did.1.0) (queue_if _ _ did.1.1.1)
+              (nothing_for_newcomer keeps (queue_of old) old.own.value for_it) was.1;
+        }
 
-    registered_line : (given : Option T) → GrantsOr (KeepsWaiting name waker) given old name answer new → Polled
-    registered_line (Some value) did = granted_line value did
-    registered_line None did = stays (rules old.own.is_fair) old.own name waker old new did (λ asks lack. tt)
+    registered_polled : (before : W) (given : Option T) → for_registered old ≡ given → phase_at old name ≡ Some (Registered before) →
+        GrantsOr (KeepsWaiting name waker) given old name answer new → Polled
+    registered_polled before (Some value) for_it is did =
+        granted value did (λ fair q ne. absurd (some_for_registered keeps old.own.value value for_it fair))
+    registered_polled before None for_it is did =
+        let becomes = phases_after (rules keeps) old.own (KeepsWaiting name waker) old new was.0 tt did.1 in
+        record {
+          line = stays (rules keeps) old.own name waker old new did (λ asks lack. tt);
+          is_fair = fair_if new _ did.1.0;
+          owes = owes_same old new keeps
+              (told_as_before old.waiting.side new.waiting.side name (Some (Registered waker)) becomes (sym (ap is_told is)))
+              (free_if new _ did.1.0) (queue_if _ _ did.1.1.1) was.1;
+        }
 
-    -- a held mutex whose told futures find it free if it is fair is unfair
-    is_unfair : (old.own.is_fair ≡ true → is_free old ≡ true) → old.own.value ≡ None → old.own.is_fair ≡ false
-    is_unfair free none = false_from_ne_true old.own.is_fair (λ fair. none_is old.own.value none (free fair))
-
-    told_line : (given : Option T) → old.own.value ≡ given → (old.own.is_fair ≡ true → is_free old ≡ true) →
+    told_polled : (given : Option T) → old.own.value ≡ given → phase_at old name ≡ Some Told → (keeps ≡ true → is_free old ≡ true) →
         GrantsOr (Registers name waker) given old name answer new → Polled
-    told_line (Some value) is free did = granted_line value did
-    told_line None is free did =
-        registers (rules old.own.is_fair) old.own name waker old new did
-        (untold_if_leaving old.own.is_fair (phase_at old name) (is_unfair free is)) tt (λ asks lack. tt)
+    told_polled (Some value) there is free did = granted value did (λ fair. no_other old was name (ap is_told is) fair)
+    told_polled None there is free did =
+        -- a held mutex whose told futures find it free if it is fair is unfair
+        let unfair = false_from_ne_true keeps (λ fair. none_is old.own.value there (free fair)) in
+        record {
+          line = registers (rules keeps) old.own name waker old new did
+              (untold_if_leaving keeps (phase_at old name) unfair) tt (λ asks lack. tt);
+          is_fair = fair_if new _ did.1.0;
+          owes = owes_held old new keeps (free_if new _ did.1.0 ∙ ap is_some there) (λ fair. absurd (both_ways keeps unfair fair));
+        }
 
-    line_as : (phase : Option (Phase W)) → phase_at old name ≡ phase → PollsAs phase old name waker answer new → Polled
-    line_as (Some Fresh) is did = fresh_line (for_newcomer old) is did
-    line_as (Some (Registered before)) is did = registered_line (for_registered old) did
-    line_as (Some Told) is did = told_line old.own.value refl did.0 did.1
-    line_as phase is did = absurd did
+    polled_as : (phase : Option (Phase W)) → phase_at old name ≡ phase → PollsAs phase old name waker answer new → Polled
+    polled_as (Some Fresh) is did = fresh_polled (for_newcomer old) refl is did
+    polled_as (Some (Registered before)) is did = registered_polled before (for_registered old) refl is did
+    polled_as (Some Told) is did = told_polled old.own.value refl is did.0 did.1
+    polled_as phase is did = absurd did
 
-    pub poll_line : Polls old name waker answer new → Polled
-    poll_line did = line_as (phase_at old name) refl did
+    pub poll_line : Polls old name waker answer new → PollLine (rules keeps) name (poll_change name waker answer) old new
+    poll_line did = (polled_as (phase_at old name) refl did).line
 
-    module _ (was : IsWell old) where
-      abbrev keeps : Bool
-      keeps = old.own.is_fair
-
-      -- after a grant it is held, and if it is fair nobody is told
-      granted_owes : (value : T) → (answer ≡ Ready value) × StepsTo old (held old.own) (EndsPlaced name) new →
-          (keeps ≡ true → (q : ℕ) → q ≢ name → is_told (phase_at old q) ≡ false) → OwesNoWakeAs keeps new
-      granted_owes value did none =
-          let becomes = phases_after (rules keeps) (held old.own) (EndsPlaced name) old new was.0 tt did.1 in
-          owes_held old new keeps (free_if new _ did.1.0)
-          (λ fair. none_told old.waiting.side new.waiting.side name (Some Ended) becomes refl (none fair))
-
-      -- after a registration
-      registered_owes : (phase : Option (Phase W)) → (answer ≡ Pending) × StepsTo old old.own (Registers name waker) new →
-          Becomes old.waiting.side new.waiting.side name (Some (Registered waker)) → is_told (phase_at old name) ≡ false →
-          (is_free old ≡ true → (keeps ≡ true) × (is_empty (queue_of old) ≡ false)) → OwesNoWakeAs keeps new
-      registered_owes phase did becomes off some =
-          owes_pushed old new keeps name
-          (told_as_before old.waiting.side new.waiting.side name (Some (Registered waker)) becomes (sym off))
-          (free_if new _ did.1.0) (ap (λ (w : Waiting
-          (Unit {0}) W). w.side.queue) did.1.1.1) some was.1
-
-      fresh_owes : (given : Option T) → for_newcomer old ≡ given → phase_at old name ≡ Some Fresh →
-          GrantsOr (Registers name waker) given old name answer new → OwesNoWakeAs keeps new
-      fresh_owes (Some value) for_it is did =
-          granted_owes value did
-          (λ fair q ne. none_if_empty old was fair (some_for_newcomer keeps (queue_of old) old.own.value value for_it fair) q)
-      fresh_owes None for_it is did =
-          registered_owes (Some Fresh) did
-          (phases_after (rules keeps) old.own (Registers name waker) old new was.0 (untold keeps (phase_at old name)
-          (ap is_told is)) did.1)
-          (ap is_told is) (nothing_for_newcomer keeps (queue_of old) old.own.value for_it)
-
-      registered_owes_as : (before : W) (given : Option T) → for_registered old ≡ given →
-          phase_at old name ≡ Some (Registered before) →
-          GrantsOr (KeepsWaiting name waker) given old name answer new → OwesNoWakeAs keeps new
-      registered_owes_as before (Some value) for_it is did =
-          granted_owes value did (λ fair q ne. absurd (some_for_registered keeps old.own.value value for_it fair))
-      registered_owes_as before None for_it is did =
-          let becomes = phases_after (rules keeps) old.own (KeepsWaiting name waker) old new was.0 tt did.1 in
-          owes_same old new keeps
-          (told_as_before old.waiting.side new.waiting.side name (Some (Registered waker)) becomes (sym (ap is_told is)))
-          (free_if new _ did.1.0) (queue_if _ _ did.1.1.1) was.1
-
-      told_owes : (given : Option T) → old.own.value ≡ given → phase_at old name ≡ Some Told →
-          (old.own.is_fair ≡ true → is_free old ≡ true) → GrantsOr (Registers name waker) given old name answer new →
-          OwesNoWakeAs keeps new
-      told_owes (Some value) there is free did = granted_owes value did (λ fair. no_other old was name (ap is_told is) fair)
-      told_owes None there is free did =
-          owes_held old new keeps (free_if new _ did.1.0 ∙ ap is_some there)
-          (λ fair. absurd (both_ways keeps (is_unfair free there) fair))
-
-      owes_as : (phase : Option (Phase W)) → phase_at old name ≡ phase → PollsAs phase old name waker answer new →
-          OwesNoWakeAs keeps new
-      owes_as (Some Fresh) is did = fresh_owes (for_newcomer old) refl is did
-      owes_as (Some (Registered before)) is did = registered_owes_as before (for_registered old) refl is did
-      owes_as (Some Told) is did = told_owes old.own.value refl is did.0 did.1
-      owes_as phase is did = absurd did
-
-      same_fairness : (waits : WaiterEffect (Unit {0}) W) (given : Option T) → GrantsOr waits given old name answer new →
-          new.own.is_fair ≡ old.own.is_fair
-      same_fairness waits (Some value) did = fair_if new _ did.1.0
-      same_fairness waits None did = fair_if new _ did.1.0
-
-      fairness_as : (phase : Option (Phase W)) → PollsAs phase old name waker answer new → new.own.is_fair ≡ old.own.is_fair
-      fairness_as (Some Fresh) did = same_fairness (Registers name waker) (for_newcomer old) did
-      fairness_as (Some (Registered before)) did = same_fairness (KeepsWaiting name waker) (for_registered old) did
-      fairness_as (Some Told) did = same_fairness (Registers name waker) old.own.value did.1
-      fairness_as phase did = absurd did
-
-      pub polled : Polls old name waker answer new → MutexLine (poll_change name waker answer) old new
-      polled did = record {
-        line = (poll_line did).line;
-        is_fair = fairness_as (phase_at old name) did;
-        owes = owes_as (phase_at old name) refl did;
-      }
-
-    granted_locks : (waits : WaiterEffect (Unit {0}) W) (given : Option T) → GrantsOr waits given old name answer new →
-        IsLockedIfReady answer new
-    granted_locks waits (Some value) did =
-        subst (λ a. IsLockedIfReady a new) (sym did.0) (free_if new _ did.1.0)
-    granted_locks waits None did = subst (λ a. IsLockedIfReady a new) (sym did.0) tt
-
-    locks_as : (phase : Option (Phase W)) → PollsAs phase old name waker answer new → IsLockedIfReady answer new
-    locks_as (Some Fresh) did = granted_locks (Registers name waker) (for_newcomer old) did
-    locks_as (Some (Registered before)) did = granted_locks (KeepsWaiting name waker) (for_registered old) did
-    locks_as (Some Told) did = granted_locks (Registers name waker) old.own.value did.1
-    locks_as phase did = absurd did
-
-    pub locks_if_ready : Polls old name waker answer new → IsLockedIfReady answer new
-    locks_if_ready did = locks_as (phase_at old name) did
+    pub polled : Polls old name waker answer new → MutexLine (poll_change name waker answer) old new
+    polled did =
+        let now = polled_as (phase_at old name) refl did in
+        record { line = now.line.line; is_fair = now.is_fair; owes = now.owes }
 
   -- The other calls.
 
   module _ (old new : MutexMachine T W) where
     pub makes_pollable : (name : ℕ) → Makes old name new → can_be_polled (phase_at new name) ≡ true
     makes_pollable name did = ap can_be_polled (added (rules old.own.is_fair) old.own name tt old new did)
-
-    given_locks : (given answer : Option T) → TriesFor given old answer new → IsLockedIfGiven answer new
-    given_locks (Some value) answer did =
-        subst (λ a. IsLockedIfGiven a new) (sym did.0) (free_if new _ did.1.0)
-    given_locks None answer did = subst (λ a. IsLockedIfGiven a new) (sym did.0) tt
-
-    pub locks_if_given : (answer : Option T) → TriesLock old answer new → IsLockedIfGiven answer new
-    locks_if_given answer did = given_locks (for_newcomer old) answer did
 
     own_as : (name : ℕ) (phase : Option (Phase W)) → CancelsAs phase old name new → new.own ≡ old.own
     own_as name (Some Told) did = did.0
@@ -417,9 +350,6 @@ module _ {T W : Type 0} where
     cancel_keeps_own name did = own_as name (phase_at old name) did
 
     module _ (was : IsWell old) where
-      fairness : (own : MutexData T) → own.is_fair ≡ old.own.is_fair → new.own ≡ own → new.own.is_fair ≡ old.own.is_fair
-      fairness own same is = fair_if new _ is ∙ same
-
       -- where nothing that matters to who is told has changed
       same_line : {on_wakers : WakerChange W} → TableLine (rules old.own.is_fair) on_wakers old new → new.own ≡ old.own →
           ((q : ℕ) → is_told (phase_at new q) ≡ is_told (phase_at old q)) → queue_of new ≡ queue_of old →
@@ -457,7 +387,7 @@ module _ {T W : Type 0} where
       taken : (value : T) → for_newcomer old ≡ Some value → StepsTo old (held old.own) NoChange new → MutexLine NoEffect old new
       taken value for_it did = record {
         line = line (rules old.own.is_fair) (held old.own) NoChange old new did tt (λ asks lack. tt);
-        is_fair = fairness (held old.own) refl did.0;
+        is_fair = fair_if new (held old.own) did.0;
         owes = owes_held old new old.own.is_fair (free_if new _ did.0)
             (λ fair q. ap is_told (phases_after (rules old.own.is_fair) (held old.own) NoChange old new was.0 tt did q)
             ∙ none_if_empty old was fair (some_for_newcomer old.own.is_fair (queue_of old) old.own.value value for_it fair) q);
@@ -477,7 +407,7 @@ module _ {T W : Type 0} where
           let effect : WaiterEffect (Unit {0}) W = tells_oldest old.own.is_fair (queue_of old) in
           record {
             line = line (rules old.own.is_fair) (freed old.own value) effect old new did (refl, refl) (λ asks lack. tt);
-            is_fair = fairness (freed old.own value) refl did.0;
+            is_fair = fair_if new (freed old.own value) did.0;
             owes = owes_told old new old.own.is_fair old.waiting
                 (phases_after (rules old.own.is_fair) (freed old.own value) effect old new was.0 (refl, refl) did) did.1
                 (λ fair. free_if new _ did.0) (λ fair. none_if_held old was fair
@@ -496,7 +426,7 @@ module _ {T W : Type 0} where
           MutexLine (Leaves name) old new
       removed name off did = record {
         line = removes (rules old.own.is_fair) name old new did;
-        is_fair = fairness old.own refl did.0;
+        is_fair = fair_if new old.own did.0;
         owes = owes_removed old new old.own.is_fair name
             (phases_after (rules old.own.is_fair) old.own (Removes name) old new was.0 tt did) off
             (free_if new _ did.0) (queue_if _ _ did.1.1) was.1;
@@ -518,7 +448,7 @@ module _ {T W : Type 0} where
           subst (λ names. TakesEffect (tells_oldest is_fair names) mid new.waiting) (sym left) did.1.2 in
           record {
             line = line (rules is_fair) old.own effect old new did (tt, λ between taken. (refl, refl), refl) (λ asks. tt);
-            is_fair = fairness old.own refl did.0;
+            is_fair = fair_if new old.own did.0;
             owes = owes_told old new is_fair mid
                 (effect_after (queued_rule is_fair) is_wait_phase waits_known (NotifiesFront is_fair
                 (first_of mid.side.queue)) mid new.waiting

@@ -1,7 +1,6 @@
 -- Each call on a semaphore is a line of its table, and keeps a semaphore sound that owes no wake.
-use Rattle.std.specs.Prelude.{◌≡◌, ◌≢◌, ◌+◌, ◌-◌, ◌^◌, ◌<◌, ◌≤◌, ◌==◌}
-use Rattle.std.specs.Prelude.{ℕ, zero, suc, nat_le, nat_lt, not, Bool, true, false}
-use Rattle.std.specs.Prelude.{if◌then◌else◌, Option, Some, None, List, [], sum_by, refl}
+use Rattle.std.specs.Prelude.{◌≡◌, ◌≢◌, ◌+◌, ◌-◌, ◌^◌, ◌<◌, ◌≤◌, ◌==◌, ℕ, zero, suc, nat_le, nat_lt, not, Bool, true, false, if◌then◌else◌}
+use Rattle.std.specs.Prelude.{Option, Some, None, List, [], sum_by, refl}
 use Rattle.std.proofs.Common.{ap, subst, sym, ◌∙◌, inl, inr, arith}
 use Rattle.std.proofs.lemmas.Bool.{both_ways, leb-true, leb-false, le-leb, ltb-false, and_parts, and_cases, and_from}
 use Rattle.std.proofs.lemmas.Bool.{or_right, or_parts, not-true, not-false, false_from_ne_true}
@@ -10,11 +9,10 @@ use Rattle.std.specs.FinMap as map
 use Rattle.futures.specs.declared.task.Poll.{Poll}
 use Rattle.futures.specs.declared.task.Poll.TheVariants.{Ready}
 use Rattle.fi_parts.specs.declared.phase.Phase.{Phase}
-use Rattle.fi_parts.specs.declared.phase.Phase.TheVariants.{Fresh, Registered, Told, Complete, Ended}
+use Rattle.fi_parts.specs.declared.phase.Phase.TheVariants.{Fresh, Registered, Told, Ended}
 use Rattle.fi_parts.specs.Effects.{WaiterEffect, TakesEffect}
-use Rattle.fi_parts.specs.Effects.WaiterEffect.{NoChange, Inserts, Registers, KeepsWaiting, Ends}
-use Rattle.fi_parts.specs.Effects.WaiterEffect.{EndsPlaced, Removes, NotifiesFront, PopsOldest}
-use Rattle.fi_parts.specs.Effects.WaiterEffect.{AndThen}
+use Rattle.fi_parts.specs.Effects.WaiterEffect.{NoChange, Inserts, Registers, KeepsWaiting, Ends, EndsPlaced, Removes, NotifiesFront}
+use Rattle.fi_parts.specs.Effects.WaiterEffect.{PopsOldest, AndThen}
 use Rattle.fi_parts.specs.Machine.{phase_at, StepsTo}
 use Rattle.fi_parts.specs.MachineTable.{AllowsEffect, LacksAfter, TableLine, PollLine, poll_change, waker_change}
 use Rattle.fi_parts.specs.Order.{holds, without}
@@ -31,10 +29,9 @@ use Rattle.fi_locks.specs.declared.semaphore.asked.Asked.{Asked}
 use Rattle.fi_locks.specs.declared.semaphore.asked.Asked.TheVariants.{NoNeed, OneNeed, MixedNeeds}
 use Rattle.fi_locks.specs.FrontLaws.{sum_without, not_empty}
 use Rattle.fi_locks.specs.Semaphore.{Permits, SemaphoreMachine, asked_after, granted, can_take, opened, need_of, can_be_polled, is_granted}
-use Rattle.fi_locks.specs.Semaphore.{at_own, AreHeld, Tells, StepsTelling, Makes, PollsAs}
-use Rattle.fi_locks.specs.Semaphore.{Polls, cancel_tells, Cancels, TriesAcquire, Releases}
-use Rattle.fi_locks.specs.Semaphore.{GivesBack, Disarms, Wakes, is_wait_phase, IsSound}
-use Rattle.fi_locks.specs.Semaphore.{OwesNoWakeFair, OwesNoWakeUnfair, OwesNoWakeIf, OwesNoWake}
+use Rattle.fi_locks.specs.Semaphore.{at_own, Tells, StepsTelling, Makes, PollsAs, Polls, cancel_tells, Cancels, TriesAcquire, Releases}
+use Rattle.fi_locks.specs.Semaphore.{GivesBack, Disarms, Wakes, is_wait_phase, IsSound, OwesNoWakeFair, OwesNoWakeUnfair, OwesNoWakeIf}
+use Rattle.fi_locks.specs.Semaphore.{OwesNoWake}
 use Rattle.fi_locks.specs.SemaphoreSoundLaws.{rules, no_lack, Changes, same_need, other_need_inserted, other_need_removed}
 use Rattle.fi_locks.specs.SemaphoreSoundLaws.{told_waits, registered_waits, waiters_after, sound_phase, sound_permits, sound_inserted}
 use Rattle.fi_locks.specs.SemaphoreSoundLaws.{counted_still, after, sound_ended, sound_removed, sound_tells, sound_opened}
@@ -431,12 +428,9 @@ module _ {W : Type 0} where
     -- a cancel that no round follows is of one that was not told, and in a fair semaphore not queued
     quiet_cancel : (is_fair : Bool) (phase : Option (Phase W)) → cancel_tells is_fair phase ≡ false →
         (is_told phase ≡ false) × (is_fair ≡ true → is_queued is_fair phase ≡ false)
-    quiet_cancel is_fair None h = (refl, λ is. refl)
-    quiet_cancel is_fair (Some Fresh) h = (refl, λ is. refl)
     quiet_cancel is_fair (Some (Registered w)) h = (refl, λ is. absurd (both_ways _ h is))
     quiet_cancel is_fair (Some Told) h = absurd (both_ways true h refl)
-    quiet_cancel is_fair (Some Complete) h = (refl, λ is. refl)
-    quiet_cancel is_fair (Some Ended) h = (refl, λ is. refl)
+    quiet_cancel is_fair phase h = (refl, λ is. refl)
 
     cancel_quiet : cancel_tells old.own.is_fair (phase_at old name) ≡ false → Holds (at_own old.own mid)
     cancel_quiet is =
@@ -502,13 +496,11 @@ module _ {W : Type 0} where
         StepsTo old (granted old.own need) (EndsPlaced name) new → Holds new
     registered_granted before stood unfair fits did =
         let permits = granted old.own need in
-        let b = after (EndsPlaced name) old new.waiting was.0 tt did.1 in
         let needs = same_need (EndsPlaced name) old.waiting new.waiting did.1 (λ q. refl) in
-        let sound = sound_phase old permits new.waiting name (Some Ended) was.0 refl refl
-        (waiters_after (EndsPlaced name) old new.waiting was.0 tt did.1)
-        (counted_still old.own.free old.own.held need was.0.counted fits) b needs (λ at. absurd (both_ways false refl at)) in
-        to_new permits new did.0 (quietly old permits new.waiting name (Some Ended) was.1 sound refl refl
-        (record { becomes = b; needs = λ q ne. needs q }) refl (ap is_told stood) (λ h. absurd (both_ways false refl h))
+        to_new permits new did.0 (quietly old permits new.waiting name (Some Ended) was.1
+        (sound_ended old new.waiting name was.0 did.1 fits) refl refl
+        (record { becomes = after (EndsPlaced name) old new.waiting was.0 tt did.1; needs = λ q ne. needs q }) refl
+        (ap is_told stood) (λ h. absurd (both_ways false refl h))
         (λ fair. absurd (both_ways _ unfair fair)) (omega arith))
 
     registered_stays : (before : W) → phase_at old name ≡ Some (Registered before) → StepsTo old old.own (KeepsWaiting name waker) new →
@@ -589,46 +581,3 @@ module _ {W : Type 0} where
   poll_holds old name waker answer new was did =
       poll_as old name waker new was (phase_at old name) (is_granted (phase_at old name) old (need_of old.waiting.side name)) answer refl
       refl did
-
-  -- what was granted is held
-  held_after : (permits : Permits) (need : ℕ) (answer : Poll ℕ) (new : SemaphoreMachine W) → answer ≡ Ready need →
-      new.own ≡ granted permits need → AreHeld answer new.own.held
-  held_after permits need answer new is own = rw (is, own) (omega arith)
-
-  held_as : (phase : Option (Phase W)) (granting : Bool) (need : ℕ) (old : SemaphoreMachine W) (name : ℕ) (waker : W)
-      (answer : Poll ℕ) (new : SemaphoreMachine W) → PollsAs phase granting need old name waker answer new →
-      AreHeld answer new.own.held
-  held_as (Some Fresh) true need old name waker answer new did = held_after old.own need answer new did.0 did.1.0
-  held_as (Some Fresh) false need old name waker answer new did = rw did.0 tt
-  held_as (Some (Registered before)) true need old name waker answer new did = held_after old.own need answer new did.0 did.1.0
-  held_as (Some (Registered before)) false need old name waker answer new did = rw did.0 tt
-  held_as (Some Told) true need old name waker answer new did = each old.own.is_fair did.1
-    where
-      each : (tells : Bool) → StepsTelling tells old (granted old.own need) (EndsPlaced name) new → AreHeld answer new.own.held
-      each true steps = held_after old.own need answer new did.0 steps.2.2.0
-      each false steps = held_after old.own need answer new did.0 steps.0
-  held_as (Some Told) false need old name waker answer new did = rw did.1 tt
-  held_as phase granting need old name waker answer new did = absurd did
-
-  pub polled_held : (old : SemaphoreMachine W) (name : ℕ) (waker : W) (answer : Poll ℕ) (new : SemaphoreMachine W) →
-      Polls old name waker answer new → AreHeld answer new.own.held
-  polled_held old name waker answer new did =
-      held_as (phase_at old name) (is_granted (phase_at old name) old (need_of old.waiting.side name))
-      (need_of old.waiting.side name) old name waker answer new did
-
-  -- a cancel leaves the held permits
-  pub cancelled_held : (old new : SemaphoreMachine W) (name : ℕ) → Cancels old name new → new.own.held ≡ old.own.held
-  cancelled_held old new name did = each (cancel_tells old.own.is_fair (phase_at old name)) did
-    where
-      each : (tells : Bool) → StepsTelling tells old old.own (Removes name) new → new.own.held ≡ old.own.held
-      each true steps = ap (λ (p : Permits). p.held) steps.2.2.0
-      each false steps = ap (λ (p : Permits). p.held) steps.0
-
-  -- so does a release
-  pub released_held : (old new : SemaphoreMachine W) (n : ℕ) → Releases old n new → new.own.held ≡ old.own.held
-  released_held old new n did = each (nat_lt 0 n) did.1
-    where
-      each : (tells : Bool) → StepsTelling tells old (record old.own { free = old.own.free + n }) NoChange new →
-          new.own.held ≡ old.own.held
-      each true steps = ap (λ (p : Permits). p.held) steps.2.2.0
-      each false steps = ap (λ (p : Permits). p.held) steps.0

@@ -6,7 +6,7 @@ use Rattle.std.proofs.lemmas.Bool.{both_ways, cases_eq, cases_Bool, eqb-true, eq
 use Rattle.std.specs.Ordering.{nat_cmp}
 use Rattle.std.specs.FinMap as map
 use Rattle.fi_parts.specs.declared.phase.Phase.{Phase}
-use Rattle.fi_parts.specs.declared.phase.Phase.TheVariants.{Fresh, Registered, Told, Complete, Ended}
+use Rattle.fi_parts.specs.declared.phase.Phase.TheVariants.{Fresh, Registered, Told, Ended}
 use Rattle.fi_parts.specs.Effects.{WaiterEffect, TakesEffect}
 use Rattle.fi_parts.specs.Effects.WaiterEffect.{Inserts, EndsPlaced, Removes, NotifiesFront}
 use Rattle.fi_parts.specs.Machine.{phase_at, HasSoundWaitersBy}
@@ -72,28 +72,19 @@ module _ {W : Type 0} where
 
   -- who has a place is registered or told
   pub waits_if : (keeps : Bool) (p : Option (Phase W)) → is_queued keeps p ≡ true → is_queued true p ≡ true
-  waits_if keeps None h = h
-  waits_if keeps (Some Fresh) h = h
   waits_if keeps (Some (Registered w)) h = refl
   waits_if keeps (Some Told) h = refl
-  waits_if keeps (Some Complete) h = h
-  waits_if keeps (Some Ended) h = h
+  waits_if keeps phase h = h
 
   pub told_waits : (p : Option (Phase W)) → is_told p ≡ true → is_queued true p ≡ true
-  told_waits None h = h
-  told_waits (Some Fresh) h = h
   told_waits (Some (Registered w)) h = refl
   told_waits (Some Told) h = refl
-  told_waits (Some Complete) h = h
-  told_waits (Some Ended) h = h
+  told_waits phase h = h
 
   pub registered_waits : (keeps : Bool) (p : Option (Phase W)) → is_registered p ≡ true → is_queued keeps p ≡ true
-  registered_waits keeps None h = h
-  registered_waits keeps (Some Fresh) h = h
   registered_waits keeps (Some (Registered w)) h = refl
   registered_waits keeps (Some Told) h = absurd (both_ways false refl h)
-  registered_waits keeps (Some Complete) h = h
-  registered_waits keeps (Some Ended) h = h
+  registered_waits keeps phase h = h
 
   -- One name changed: this is its phase now, and the others have the phases and needs that they had.
   pub record Changes (old new : Waiters ℕ W) (name : ℕ) (phase : Option (Phase W)) : Type 0 where

@@ -1,10 +1,9 @@
 -- The calls on an unfair semaphore whose futures all needed one number leave no wake owed.
-use Rattle.std.specs.Prelude.{◌≡◌, ◌+◌, ◌-◌, ◌*◌, ◌<◌, ◌≤◌, ◌||◌, ℕ, true, false}
-use Rattle.std.specs.Prelude.{Option, Some, None, List, ◌∷◌, ◌++◌, length, sum_by, refl}
+use Rattle.std.specs.Prelude.{◌≡◌, ◌+◌, ◌-◌, ◌*◌, ◌<◌, ◌≤◌, ◌||◌, ℕ, true, false, Option, Some, List, ◌∷◌, ◌++◌, length, sum_by, refl}
 use Rattle.std.proofs.Common.{ap, subst, sym, ◌∙◌, inl, inr, arith, length-append}
 use Rattle.std.proofs.lemmas.Bool.{both_ways, cases_eq, cases_Bool, or_left, or_right, false_from_ne_true}
 use Rattle.fi_parts.specs.declared.phase.Phase.{Phase}
-use Rattle.fi_parts.specs.declared.phase.Phase.TheVariants.{Fresh, Registered, Told, Complete, Ended}
+use Rattle.fi_parts.specs.declared.phase.Phase.TheVariants.{Registered, Told}
 use Rattle.fi_parts.specs.Machine.{phase_at}
 use Rattle.fi_parts.specs.Order.{holds, Apart, without}
 use Rattle.fi_parts.specs.Places.{is_told}
@@ -41,12 +40,8 @@ module _ {W : Type 0} where
 
   -- an unfair told one has no place
   pub told_unqueued : (p : Option (Phase W)) → is_told p ≡ true → is_queued false p ≡ false
-  told_unqueued None h = refl
-  told_unqueued (Some Fresh) h = refl
   told_unqueued (Some (Registered w)) h = absurd (both_ways false refl h)
-  told_unqueued (Some Told) h = refl
-  told_unqueued (Some Complete) h = refl
-  told_unqueued (Some Ended) h = refl
+  told_unqueued phase h = refl
 
   told_unregistered : (p : Option (Phase W)) → p ≡ Some Told → is_registered p ≡ true → ⊥
   told_unregistered p is h = both_ways _ (ap is_registered is) h

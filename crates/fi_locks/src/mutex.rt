@@ -8,7 +8,8 @@ ghost use Rattle.fi_parts.specs.Polled.{unused_after, WouldBeReady, IsRefused, L
 ghost use Rattle.fi_parts.specs.Order.{holds};
 ghost use Rattle.fi_parts.specs.Waiting.{IsLive, IsOrderedBy, displaced, is_queued, is_registered, may_be_named, phase_of};
 ghost use Rattle.fi_parts.specs.Effects.{TakesEffect};
-ghost use Rattle.fi_parts.specs.Effects.WaiterEffect.{EndsPlaced, Registers, KeepsWaiting};
+ghost use Rattle.fi_parts.specs.Effects.WaiterEffect.{AndThen, EndsPlaced, Removes, Registers, KeepsWaiting};
+ghost use Rattle.fi_locks.specs.Leaving.{PollsAndLeaves};
 ghost use Rattle.fi_locks.specs.Mutex.{opened, is_free, is_empty, queue_of, can_be_polled, Makes, Polls, Cancels, TriesLock};
 ghost use Rattle.fi_locks.specs.Mutex.{Unlocks, Wakes, tells_oldest, IsLockedIfReady, IsLockedIfGiven, IsSound, OwesNoWake};
 ghost use Rattle.futures.specs.declared.task.Poll.TheVariants as polled;
@@ -136,6 +137,20 @@ fn grant<T, W: Drop>(
         Poll::Ready(value),
         Leftover::of(before.or(named), Some(waker)),
     )
+}
+
+// Ends a live future, whatever its phase is, and removes it. Gives the waker that it had.
+#[inline(always)]
+fn end_and_remove<D: Drop, W: Drop>(locks: &mut Waits<D, W>, slot: Slot) -> Option<W>
+    requires live { IsLive locks.old.side slot.0 }
+    ensures ended { TakesEffect (AndThen (EndsPlaced slot.0) (Removes slot.0)) locks.old locks.new }
+    ensures had { result ≡ displaced locks.old.side locks.old.out slot.0 }
+{
+    match locks.remove(slot) {
+        Some((_, had)) => had,
+        // It lives, as the call requires.
+        None => unreachable!(),
+    }
 }
 
 // Takes the value, if it may be taken and is there.
@@ -324,17 +339,27 @@ impl<T: Drop, W: Drop> MutexState<T, W> {
             (WouldBeReady (Polls self.old slot.0) false)) }
         ensures others { OthersStay can_be_polled slot.0 self.old self.new }
     {
-        let Some((has_place, may_pass)) = self.standing(slot) else {
-            return Err(NotPolled::NoFuture(waker));
-        };
-        let Some(value) = take_if(&mut self.value, may_pass) else {
-            if !may_wait {
-                return Err(NotPolled::WouldWait(waker));
-            }
-            // Whoever has a place is registered: a told one of a fair mutex finds the value.
-            return Ok(wait(&mut self.locks, slot, has_place, waker));
-        };
-        Ok(grant(&mut self.locks, slot, has_place, value, waker))
+        self.poll_as(slot, waker, may_wait, false)
+    }
+
+    /// As `poll`, and a future that is ready is cancelled at once, with one look-up less than by `leave`. Its cancel leaves no waker.
+    #[inline(always)]
+    pub fn poll_and_leave(
+        &mut self,
+        slot: Slot,
+        waker: W,
+        may_wait: bool,
+    ) -> Result<(Poll<T>, Leftover<W>), NotPolled<W>>
+        ensures polled { IfOk result (λ polled. PollsAndLeaves true Polls Cancels self.old slot.0 waker polled.0 self.new) }
+        ensures displaced { IfOk result (λ polled. polled.1.displaced ≡ displaced_at self.old slot.0) }
+        ensures unused { IfOk result (λ polled. polled.1.unused ≡ unused_after polled.0 waker) }
+        ensures locked { IfOk result (λ polled. IsLockedIfReady polled.0 self.new) }
+        ensures waits { IfOk result (λ polled. OnPending polled.0 (may_wait ≡ true)) }
+        ensures unchanged { OnErr result (self.new ≡ self.old) }
+        ensures refused { IfErr result (λ why. IsRefused why waker (can_be_polled (phase_at self.old slot.0)) may_wait
+            (WouldBeReady (Polls self.old slot.0) false)) }
+    {
+        self.poll_as(slot, waker, may_wait, true)
     }
 
     /// Cancels the future under this slot, if one lives there, and gives back the waker that it had. If it was told, the oldest queued
@@ -357,6 +382,42 @@ impl<T: Drop, W: Drop> MutexState<T, W> {
             tell_oldest(&mut self.locks, self.is_fair);
         }
         waker
+    }
+
+    // Polls a future, which leaves, where it is ready and this says so.
+    #[inline(always)]
+    fn poll_as(
+        &mut self,
+        slot: Slot,
+        waker: W,
+        may_wait: bool,
+        leaves: bool,
+    ) -> Result<(Poll<T>, Leftover<W>), NotPolled<W>>
+        ensures well { IsSound self.old × OwesNoWake self.old }
+        ensures polled { IfOk result (λ polled. PollsAndLeaves leaves Polls Cancels self.old slot.0 waker polled.0 self.new) }
+        ensures displaced { IfOk result (λ polled. polled.1.displaced ≡ displaced_at self.old slot.0) }
+        ensures unused { IfOk result (λ polled. polled.1.unused ≡ unused_after polled.0 waker) }
+        ensures locked { IfOk result (λ polled. IsLockedIfReady polled.0 self.new) }
+        ensures waits { IfOk result (λ polled. OnPending polled.0 (may_wait ≡ true)) }
+        ensures unchanged { OnErr result (self.new ≡ self.old) }
+        ensures refused { IfErr result (λ why. IsRefused why waker (can_be_polled (phase_at self.old slot.0)) may_wait
+            (WouldBeReady (Polls self.old slot.0) false)) }
+    {
+        let Some((has_place, may_pass)) = self.standing(slot) else {
+            return Err(NotPolled::NoFuture(waker));
+        };
+        let Some(value) = take_if(&mut self.value, may_pass) else {
+            if !may_wait {
+                return Err(NotPolled::WouldWait(waker));
+            }
+            // Whoever has a place is registered: a told one of a fair mutex finds the value.
+            return Ok(wait(&mut self.locks, slot, has_place, waker));
+        };
+        if leaves {
+            let had = end_and_remove(&mut self.locks, slot);
+            return Ok((Poll::Ready(value), Leftover::of(had, Some(waker))));
+        }
+        Ok(grant(&mut self.locks, slot, has_place, value, waker))
     }
 
     // Whether a newcomer has to wait, though the mutex may be free.
@@ -399,6 +460,7 @@ impl<T, W: Drop> MutexState<T, W> {
     }
 
     /// Lends the value out, to be changed in place. None if the mutex is locked: then its holder has the value.
+    #[tactic(auto, using(crate::specs::MutexLaws::revalued))]
     pub fn get_mut(&mut self) -> Option<&mut T>
         ensures* writes_back { sem 𝓛 (LendsIf (the_row T.row W.row) T.row self.entry result (with_value self.old) self.old) }
         ensures shows { option_copied_mut result ≡ self.old.own.value }

@@ -9,8 +9,7 @@ ghost use Rattle.fi_parts.specs.Polled.{unused_after, WouldBeReady, IsRefused, L
 ghost use Rattle.futures.specs.Poll.{OnPending};
 ghost use Rattle.fi_parts.specs.Stays.{AllStay, OthersStay, IsApart};
 ghost use Rattle.fi_parts.specs.Stages.{stage_of};
-ghost use Rattle.fi_locks.specs.Timer.{opened, expiry_after, can_be_polled, Makes, Polls, Cancels, Checks, Wakes};
-ghost use Rattle.fi_locks.specs.Timer.{IsSound, OwesNoWake};
+ghost use Rattle.fi_locks.specs.Timer.{opened, expiry_after, can_be_polled, Makes, Polls, Cancels, Checks, Wakes, IsSound, OwesNoWake};
 
 pub mod future;
 

@@ -151,6 +151,24 @@ Befalls cancels true name (Ended left) old new = cancels old name left new
 Befalls cancels false name (GoesOn claim) old new = (claim ≡ name) × (new ≡ old)
 Befalls cancels false name (Ended left) old new = ⊥
 
+-- what becomes of the future under this name, whose cancel left this if it has ended
+abbrev pub fate_after : {K L : Type 0} → ℕ → Option L → Fate K L
+fate_after name None = GoesOn name
+fate_after name (Some left) = Ended left
+
+-- The same by what the cancel of a future that has ended left.
+abbrev pub CancelsIf : {S L : Type 0} → (S → ℕ → L → S → Type 0) → Bool → ℕ → Option L → S → S → Type 0
+CancelsIf cancels true name (Some left) old new = cancels old name left new
+CancelsIf cancels false name None old new = new ≡ old
+CancelsIf cancels has_ended name left old new = ⊥
+
+-- A poll, or none, which changes nothing, and then a cancel of this name, if the poll has ended its future, lead from old to new.
+abbrev pub PollsAndCancels : {S A B L : Type 0} → (Poll A → S → S → Type 0) → (S → ℕ → L → S → Type 0) → (A → Bool)
+    → ℕ → Option (Poll A × B) → Option L → S → S → Type 0
+PollsAndCancels {S} polls cancels is_last name polled left old new =
+    (between : S) × MatchOption polled (between ≡ old) (λ polled. polls polled.0 old between)
+    × CancelsIf cancels (is_over is_last polled) name left between new
+
 -- A poll under this name, or none, which changes nothing, and what becomes of its future then, lead from old to new.
 abbrev pub IsSettled : {S W A B K L : Type 0} → (S → ℕ → Option W → Poll A → S → Type 0) → (S → ℕ → L → S → Type 0) → (A → Bool)
     → ℕ → Option (Poll A × B) → Fate K L → S → S → Type 0

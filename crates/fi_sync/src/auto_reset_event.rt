@@ -179,9 +179,7 @@ impl HasOutbox for MutexState<(), PollWaker> {
 
     ghost wakes = { Wakes };
 
-    fn next_wake(&mut self) -> Option<PollWaker>
-        ensures { Wakes self.old result self.new }
-    {
+    fn next_wake(&mut self) -> Option<PollWaker> {
         MutexState::next_wake(self)
     }
 

@@ -280,9 +280,7 @@ impl<T: Drop, B: RingBuf<Item = T>> HasOutbox for ChannelState<T, B, PollWaker> 
 
     ghost wakes = { Wakes };
 
-    fn next_wake(&mut self) -> Option<PollWaker>
-        ensures { Wakes self.old result self.new }
-    {
+    fn next_wake(&mut self) -> Option<PollWaker> {
         ChannelState::next_wake(self)
     }
 

@@ -150,9 +150,7 @@ impl HasOutbox for EventState<PollWaker> {
 
     ghost wakes = { Wakes };
 
-    fn next_wake(&mut self) -> Option<PollWaker>
-        ensures { Wakes self.old result self.new }
-    {
+    fn next_wake(&mut self) -> Option<PollWaker> {
         EventState::next_wake(self)
     }
 

@@ -162,9 +162,7 @@ impl<T: Drop, G: GivesValue<T>> HasOutbox for OneValueState<T, PollWaker, G> {
 
     ghost wakes = { Wakes };
 
-    fn next_wake(&mut self) -> Option<PollWaker>
-        ensures { Wakes self.old result self.new }
-    {
+    fn next_wake(&mut self) -> Option<PollWaker> {
         OneValueState::next_wake(self)
     }
 

@@ -152,9 +152,7 @@ impl<T: Clone> HasOutbox for StateBroadcastState<T, PollWaker> {
 
     ghost wakes = { Wakes };
 
-    fn next_wake(&mut self) -> Option<PollWaker>
-        ensures { Wakes self.old result self.new }
-    {
+    fn next_wake(&mut self) -> Option<PollWaker> {
         StateBroadcastState::next_wake(self)
     }
 

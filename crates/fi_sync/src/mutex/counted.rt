@@ -29,8 +29,7 @@ impl<T, L: Ledger> fmt::Debug for CountedMutex<T, L> {
 }
 
 impl<T, L: Ledger> Model for CountedMutex<T, L> {
-    ghost use Rattle.std.specs.Prelude.{◌≡◌};
-    ghost use Rattle.std.specs.Prelude.{Option};
+    ghost use Rattle.std.specs.Prelude.{◌≡◌, Option};
     ghost use Rattle.std.specs.Coded.{coded_option};
     ghost use Rattle.futures.specs.contracts.task.waker.Waker as waker;
     ghost use Rattle.futures.specs.declared.task.waker.Waker.{Waker};
@@ -197,6 +196,28 @@ impl<T: Drop, L: Ledger> PollSlot<MutexLock> for CountedMutex<T, L> {
     fn cancel(&mut self, slot: Slot) -> Option<PollWaker> {
         self.state.leave(slot)
     }
+
+    #[inline(always)]
+    fn poll_or_end(
+        &mut self,
+        slot: Slot,
+        waker: PollWaker,
+    ) -> (SlotPolled<Self::Output>, Option<Self::Left>) {
+        let may_wait = waker.is_some();
+        let CountedMutex { state, tally } = self;
+        match state.poll_and_leave(slot, waker, may_wait) {
+            Ok((answer, leftover)) => match answer {
+                Poll::Ready(value) => {
+                    let hold = tally.hand_out(1);
+                    let locked = Poll::Ready(Ok(Locked { value, hold }));
+                    (Some((locked, leftover)), Some(None))
+                }
+                Poll::Pending => (Some((Poll::Pending, leftover)), None),
+            },
+            Err(NotPolled::NoFuture(waker)) => (no_slot(waker), None),
+            Err(NotPolled::WouldWait(_none)) => (None, None),
+        }
+    }
 }
 
 impl<T: Drop, L: Ledger> HasOutbox for CountedMutex<T, L> {
@@ -207,9 +228,7 @@ impl<T: Drop, L: Ledger> HasOutbox for CountedMutex<T, L> {
 
     ghost wakes = { Wakes };
 
-    fn next_wake(&mut self) -> Option<PollWaker>
-        ensures { Wakes self.old result self.new }
-    {
+    fn next_wake(&mut self) -> Option<PollWaker> {
         self.state.next_wake()
     }
 

@@ -225,9 +225,7 @@ impl<L: Ledger> HasOutbox for CountedSemaphore<L> {
 
     ghost wakes = { λ old answer new. OnPermits (λ before after. Wakes before answer after) old new };
 
-    fn next_wake(&mut self) -> Option<PollWaker>
-        ensures { OnPermits (λ before after. Wakes before result after) self.old self.new }
-    {
+    fn next_wake(&mut self) -> Option<PollWaker> {
         self.state.next_wake()
     }
 

@@ -252,9 +252,7 @@ impl<C: Clock> HasOutbox for Timed<C> {
 
     ghost wakes = { λ old answer new. (new ≡ record old { timer = new.timer }) × Wakes old.timer answer new.timer };
 
-    fn next_wake(&mut self) -> Option<PollWaker>
-        ensures step { (self.new ≡ record self.old { timer = self.new.timer }) × Wakes self.old.timer result self.new.timer }
-    {
+    fn next_wake(&mut self) -> Option<PollWaker> {
         self.timer.next_wake()
     }
 

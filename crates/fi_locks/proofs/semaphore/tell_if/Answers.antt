@@ -6,8 +6,7 @@ pub returns-then-permits-clause-told : goal.returns-then-permits-clause-told
 returns-then-permits-clause-told g c =
     let walk = c.tell_from-untold in
     rw c.if-not-tells.false
-    (walk_tells (at_own c.args.permits c.args.waits.now) walk.new.waits walk.result.1 walk.result.0 walk.ensures.walked
-    walk.ensures.stopped)
+    (walk_tells (at_own c.args.permits c.args.waits.now) _ _ _ walk.ensures.walked walk.ensures.stopped)
 
 pub returns-then-permits-clause-marked : goal.returns-then-permits-clause-marked
 returns-then-permits-clause-marked g c =
@@ -19,5 +18,4 @@ pub returns-else-permits-clause-told : goal.returns-else-permits-clause-told
 returns-else-permits-clause-told g c =
     let walk = c.tell_from-untold in
     rw c.if-not-tells.false
-    (walk_tells (at_own c.args.permits c.args.waits.now) walk.new.waits walk.result.1 walk.result.0 walk.ensures.walked
-    walk.ensures.stopped)
+    (walk_tells (at_own c.args.permits c.args.waits.now) _ _ _ walk.ensures.walked walk.ensures.stopped)

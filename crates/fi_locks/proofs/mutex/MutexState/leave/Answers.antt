@@ -50,9 +50,7 @@ cancels g c =
     c.tell_oldest.ensures
 
 pub invariant_of-self-then-was_told : goal.invariant_of-self-then-was_told
-invariant_of-self-then-was_told g c =
-    let old = mutex_of c.self.inside.is_fair c.self.inside.value c.self.inside.locks in
-    (after old c.args.slot.0 (told g c) c.self.invariant (cancels g c)).0
+invariant_of-self-then-was_told g c = (after _ c.args.slot.0 (told g c) c.self.invariant (cancels g c)).0
 
 pub returns-then-was_told-clause-left : goal.returns-then-was_told-clause-left
 returns-then-was_told-clause-left g c =
@@ -62,17 +60,14 @@ returns-then-was_told-clause-left g c =
 
 pub returns-then-was_told-clause-others : goal.returns-then-was_told-clause-others
 returns-then-was_told-clause-others g c =
-    let old = mutex_of c.self.inside.is_fair c.self.inside.value c.self.inside.locks in
-    rw (← c.self.view_is) (after old c.args.slot.0 (told g c) c.self.invariant (cancels g c)).1
+    rw (← c.self.view_is) (after _ c.args.slot.0 (told g c) c.self.invariant (cancels g c)).1
 
 pub invariant_of-self-else-was_told : goal.invariant_of-self-else-was_told
 invariant_of-self-else-was_told g c =
-    let old = mutex_of c.self.inside.is_fair c.self.inside.value c.self.inside.locks in
     let new = mutex_of c.self.inside.is_fair c.self.inside.value c.remove_future.new.self in
-    (after old c.args.slot.0 new c.self.invariant (search lemmas)).0
+    (after _ c.args.slot.0 new c.self.invariant (search lemmas)).0
 
 pub returns-else-was_told-clause-others : goal.returns-else-was_told-clause-others
 returns-else-was_told-clause-others g c =
-    let old = mutex_of c.self.inside.is_fair c.self.inside.value c.self.inside.locks in
     let new = mutex_of c.self.inside.is_fair c.self.inside.value c.remove_future.new.self in
-    rw (← c.self.view_is) (after old c.args.slot.0 new c.self.invariant (search lemmas)).1
+    rw (← c.self.view_is) (after _ c.args.slot.0 new c.self.invariant (search lemmas)).1

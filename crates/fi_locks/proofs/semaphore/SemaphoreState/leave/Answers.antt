@@ -46,8 +46,7 @@ pub unpromise-requires : goal.unpromise-requires
 unpromise-requires g c is =
     let inside = c.self.inside in
     let old = at_own inside.permits inside.waits in
-    let left = has_left old c.args.slot.0 c.in-Some.left.0 c.pass_over.new.waits c.remove_future.new.self c.pass_over.ensures.same
-    c.in-Some.ensures.future c.in-Some.ensures.removed in
+    let left = has_left old c.args.slot.0 _ _ _ c.pass_over.ensures.same c.in-Some.ensures.future c.in-Some.ensures.removed in
     let parts = and_parts inside.permits.is_fair c.is_told.result is in
     rw (← left.need, c.pass_over.ensures.promised) (told_need_free old c.args.slot.0 inside.marks.promised inside.marks.untold
     inside.waits c.self.invariant.0.0 parts.0 (left.told ∙ sym c.is_told.ensures ∙ parts.1) c.self.invariant.1)
@@ -56,8 +55,7 @@ pub tell_if-requires-clause-sound : goal.tell_if-requires-clause-sound
 tell_if-requires-clause-sound g c =
     let old = at_own c.self.inside.permits c.self.inside.waits in
     let mid = c.remove_future.new.self in
-    let left = has_left old c.args.slot.0 c.in-Some.left.0 c.pass_over.new.waits mid c.pass_over.ensures.same
-    c.in-Some.ensures.future c.in-Some.ensures.removed in
+    let left = has_left old c.args.slot.0 _ _ _ c.pass_over.ensures.same c.in-Some.ensures.future c.in-Some.ensures.removed in
     sound_removed old mid c.args.slot.0 c.self.invariant.0.0 left.taken
     (after (Removes c.args.slot.0) old mid c.self.invariant.0.0 tt left.taken)
 
@@ -65,8 +63,7 @@ pub tell_if-requires-clause-marked : goal.tell_if-requires-clause-marked
 tell_if-requires-clause-marked g c =
     let old = at_own c.self.inside.permits c.self.inside.waits in
     let mid = c.remove_future.new.self in
-    let left = has_left old c.args.slot.0 c.in-Some.left.0 c.pass_over.new.waits mid c.pass_over.ensures.same
-    c.in-Some.ensures.future c.in-Some.ensures.removed in
+    let left = has_left old c.args.slot.0 _ _ _ c.pass_over.ensures.same c.in-Some.ensures.future c.in-Some.ensures.removed in
     rw (c.unpromise.ensures, c.pass_over.ensures.promised, c.is_told.ensures, ← left.told, ← left.need)
     (marks_removed old c.args.slot.0 _ c.pass_over.new.marks.untold mid c.self.invariant.0.0 c.pass_over.ensures.marked left.taken)
 
@@ -79,8 +76,7 @@ new g c = at_own c.self.inside.permits c.tell_if.new.waits
 did : (g : Over) (c : goal.After-tell_if g) → Cancels (old g c) c.args.slot.0 (new g c)
 did g c =
     let mid = c.remove_future.new.self in
-    let left = has_left (old g c) c.args.slot.0 c.in-Some.left.0 c.pass_over.new.waits mid c.pass_over.ensures.same
-    c.in-Some.ensures.future c.in-Some.ensures.removed in
+    let left = has_left (old g c) c.args.slot.0 _ _ _ c.pass_over.ensures.same c.in-Some.ensures.future c.in-Some.ensures.removed in
     steps_telling _ (old g c) (old g c).own (Removes c.args.slot.0) mid (new g c) left.taken
     (subst (λ b. TellsIf b (at_own (old g c).own mid) (new g c)) (c.tells_on_cancel-tells.ensures ∙ sym left.tells)
     c.tell_if.ensures.told)

@@ -15,12 +15,10 @@ after old name waker result new sound did same =
     after_poll_or old name (rules old.own.is_fair) waits_are_fit waker sound.waiters (Polls old name waker)
     (λ answer new did. polled old name waker answer new sound did) result new did same
 
-fresh : (g : Over) (c : goal.After-poll_fresh g) →
-    AfterPollOr c.args.self.now c.args.slot.0 c.poll_fresh.result c.poll_fresh.new.self
+fresh : (g : Over) (c : goal.After-poll_fresh g) → AfterPollOr c.args.self.now c.args.slot.0 c.poll_fresh.result c.poll_fresh.new.self
 fresh g c =
-    after c.args.self.now c.args.slot.0 c.args.waker c.poll_fresh.result
-    c.poll_fresh.new.self
-    (subst IsSound c.self.view_is c.self.invariant.0.0) c.poll_fresh.ensures.polled c.poll_fresh.ensures.unchanged
+    after _ _ c.args.waker _ _ (subst IsSound c.self.view_is c.self.invariant.0.0) c.poll_fresh.ensures.polled
+    c.poll_fresh.ensures.unchanged
 
 pub returns-in-Fresh-clause-live : goal.returns-in-Fresh-clause-live
 returns-in-Fresh-clause-live g c = (fresh g c).live
@@ -34,9 +32,8 @@ returns-in-Fresh-clause-others g c = (fresh g c).others
 registered : (g : Over) (c : goal.After-poll_registered g) →
     AfterPollOr c.args.self.now c.args.slot.0 c.poll_registered.result c.poll_registered.new.self
 registered g c =
-    after c.args.self.now c.args.slot.0 c.args.waker c.poll_registered.result
-    c.poll_registered.new.self
-    (subst IsSound c.self.view_is c.self.invariant.0.0) c.poll_registered.ensures.polled c.poll_registered.ensures.unchanged
+    after _ _ c.args.waker _ _ (subst IsSound c.self.view_is c.self.invariant.0.0) c.poll_registered.ensures.polled
+    c.poll_registered.ensures.unchanged
 
 pub returns-in-Registered-clause-live : goal.returns-in-Registered-clause-live
 returns-in-Registered-clause-live g c = (registered g c).live
@@ -47,12 +44,10 @@ returns-in-Registered-clause-pending g c = (registered g c).pending
 pub returns-in-Registered-clause-others : goal.returns-in-Registered-clause-others
 returns-in-Registered-clause-others g c = (registered g c).others
 
-told : (g : Over) (c : goal.After-poll_told g) →
-    AfterPollOr c.args.self.now c.args.slot.0 c.poll_told.result c.poll_told.new.self
+told : (g : Over) (c : goal.After-poll_told g) → AfterPollOr c.args.self.now c.args.slot.0 c.poll_told.result c.poll_told.new.self
 told g c =
-    after c.args.self.now c.args.slot.0 c.args.waker c.poll_told.result
-    c.poll_told.new.self
-    (subst IsSound c.self.view_is c.self.invariant.0.0) c.poll_told.ensures.polled c.poll_told.ensures.unchanged
+    after _ _ c.args.waker _ _ (subst IsSound c.self.view_is c.self.invariant.0.0) c.poll_told.ensures.polled
+    c.poll_told.ensures.unchanged
 
 pub returns-in-Told-clause-live : goal.returns-in-Told-clause-live
 returns-in-Told-clause-live g c = (told g c).live

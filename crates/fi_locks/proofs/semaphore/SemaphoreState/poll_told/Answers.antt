@@ -106,8 +106,7 @@ did_end g c =
 
 pub invariant_of-self-2 : goal.invariant_of-self-2
 invariant_of-self-2 g c = (
-  poll_holds (at_own c.self.inside.permits c.self.inside.waits) c.args.slot.0 c.args.waker (Ready c.args.need)
-      (at_own (granted c.self.inside.permits c.args.need) c.tell_if.new.waits) c.self.invariant.0 (did_end g c),
+  poll_holds _ c.args.slot.0 c.args.waker (Ready c.args.need) _ c.self.invariant.0 (did_end g c),
   c.tell_if.ensures.marked,
 )
 

@@ -43,12 +43,8 @@ module _ {W : Type 0} (floor : ℕ) (deadlines : Waiting ℕ W) (name : ℕ) (le
       }
 
 pub invariant_of-self : goal.invariant_of-self
-invariant_of-self g c =
-    (after_leave c.self.inside.floor c.self.inside.deadlines c.args.slot.0 c.remove.result c.remove.new.self
-    (is_some (phase_of c.self.inside.deadlines.side c.args.slot.0)) refl c.self.invariant c.remove.ensures).invariant
+invariant_of-self g c = (after_leave _ _ c.args.slot.0 _ _ _ refl c.self.invariant c.remove.ensures).invariant
 
 pub returns-clause-others : goal.returns-clause-others
 returns-clause-others g c =
-    rw (← c.self.view_is)
-    (after_leave c.self.inside.floor c.self.inside.deadlines c.args.slot.0 c.remove.result c.remove.new.self
-    (is_some (phase_of c.self.inside.deadlines.side c.args.slot.0)) refl c.self.invariant c.remove.ensures).others
+    rw (← c.self.view_is) (after_leave _ _ c.args.slot.0 _ _ _ refl c.self.invariant c.remove.ensures).others

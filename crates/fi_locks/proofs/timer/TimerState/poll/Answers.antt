@@ -29,11 +29,7 @@ module _ {W : Type 0} where
 -- It was registered, and stays so.
 stays : (g : Over) (c : goal.Joined-named g) →
     After c.args.self.now c.args.slot.0 c.args.now c.args.waker Pending (at c.self.inside.floor c.set_phase-before.new.self)
-stays g c =
-    let old = c.args.self.now in
-    let new = at c.self.inside.floor c.set_phase-before.new.self in
-    let did : Polls old c.args.slot.0 c.args.now c.args.waker Pending new = search lemmas in
-    after old c.args.slot.0 c.args.now c.args.waker Pending new (subst IsWell c.self.view_is c.self.invariant) did
+stays g c = after _ _ c.args.now c.args.waker _ _ (subst IsWell c.self.view_is c.self.invariant) (search lemmas)
 
 pub invariant_of-self : goal.invariant_of-self
 invariant_of-self g c = (stays g c).0
@@ -50,11 +46,7 @@ returns-then-is_registered-2-clause-others g c = (stays g c).1.others
 -- It was fresh, its expiry has not come, and it registers.
 registers : (g : Over) (c : goal.After-of-then-is_early-2 g) →
     After c.args.self.now c.args.slot.0 c.args.now c.args.waker Pending (at c.min-self-inside.result c.register.new.self)
-registers g c =
-    let old = c.args.self.now in
-    let new = at c.min-self-inside.result c.register.new.self in
-    let did : Polls old c.args.slot.0 c.args.now c.args.waker Pending new = search lemmas in
-    after old c.args.slot.0 c.args.now c.args.waker Pending new (subst IsWell c.self.view_is c.self.invariant) did
+registers g c = after _ _ c.args.now c.args.waker _ _ (subst IsWell c.self.view_is c.self.invariant) (search lemmas)
 
 pub invariant_of-self-then-is_early-2 : goal.invariant_of-self-then-is_early-2
 invariant_of-self-then-is_early-2 g c = (registers g c).0
@@ -71,11 +63,7 @@ returns-then-is_early-2-clause-others g c = (registers g c).1.others
 -- It ends.
 ends : (g : Over) (c : goal.After-of-2 g) →
     After c.args.self.now c.args.slot.0 c.args.now c.args.waker (Ready tt) (at c.self.inside.floor c.set_phase.new.self)
-ends g c =
-    let old = c.args.self.now in
-    let new = at c.self.inside.floor c.set_phase.new.self in
-    let did : Polls old c.args.slot.0 c.args.now c.args.waker (Ready tt) new = search lemmas in
-    after old c.args.slot.0 c.args.now c.args.waker (Ready tt) new (subst IsWell c.self.view_is c.self.invariant) did
+ends g c = after _ _ c.args.now c.args.waker _ _ (subst IsWell c.self.view_is c.self.invariant) (search lemmas)
 
 pub invariant_of-self-2 : goal.invariant_of-self-2
 invariant_of-self-2 g c = (ends g c).0
