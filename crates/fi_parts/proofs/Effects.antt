@@ -44,26 +44,19 @@ module _ {W : Type 0} where
 module _ {W : Type 0} (place : Option (Phase W) → Bool) (rule : IsPlaceRule place) where
   -- who may be named has no place, unless it is told and the told have places
   unplaced : (p : Option (Phase W)) → may_be_named p ≡ true → IsUntold (place (Some Told)) p → place p ≡ false
-  unplaced None may untold = rule.none
-  unplaced (Some Fresh) may untold = rule.fresh
   unplaced (Some (Registered w)) may untold = absurd (both_ways false refl may)
   unplaced (Some Told) may untold = each (place (Some Told)) untold
     where
       each : (b : Bool) → IsUntold {W = W} b (Some Told) → b ≡ false
       each false told = refl
       each true told = absurd (both_ways _ told refl)
-  unplaced (Some Complete) may untold = rule.complete
-  unplaced (Some Ended) may untold = rule.ended
+  unplaced p may untold = cc (rule.none, rule.fresh, rule.complete, rule.ended)
 
   -- where the registered have places, and the told have none
   noticed_by_place : (phase : Phase W) (p now : Option (Phase W)) → rule.has_queue ≡ true → place (Some Told) ≡ false →
       (place p ≡ true → now ≡ Some phase) → (place p ≡ false → now ≡ p) → now ≡ noticed_phase phase p
-  noticed_by_place phase None now waiting told at off = off rule.none
-  noticed_by_place phase (Some Fresh) now waiting told at off = off rule.fresh
   noticed_by_place phase (Some (Registered w)) now waiting told at off = at (rule.registered w ∙ waiting)
-  noticed_by_place phase (Some Told) now waiting told at off = off told
-  noticed_by_place phase (Some Complete) now waiting told at off = off rule.complete
-  noticed_by_place phase (Some Ended) now waiting told at off = off rule.ended
+  noticed_by_place phase p now waiting told at off = off (cc (rule.none, rule.fresh, told, rule.complete, rule.ended))
 
   unplaced_after : (notice : Notice) → place (Some Told) ≡ false → place (Some (phase_after notice)) ≡ false
   unplaced_after Tell told = told
@@ -358,12 +351,6 @@ module _ {D W : Type 0} {place : Option (Phase W) → Bool} (rule : IsPlaceRule 
         TakesEffect effect old new → After effect old new
     effect_after NoChange old new is was taken = same_phases old new old taken refl
     effect_after (Inserts name asks) old new is was taken = to old new _ name (Some Fresh) taken.1 (becomes-made old.side name asks)
-    effect_after (Registers name waker) old new is was taken = polled_becomes (Registers name waker) old new name refl taken
-    effect_after (RegistersApart name waker) old new is was taken = polled_becomes (RegistersApart name waker) old new name refl taken
-    effect_after (KeepsWaiting name waker) old new is was taken = polled_becomes (KeepsWaiting name waker) old new name refl taken
-    effect_after (Ends name) old new is was taken = polled_becomes (Ends name) old new name refl taken
-    effect_after (EndsPlaced name) old new is was taken = polled_becomes (EndsPlaced name) old new name refl taken
-    effect_after (Renews name) old new is was taken = polled_becomes (Renews name) old new name refl taken
     effect_after (Asks name asks) old new is was taken = λ q.
         same_phases (asking name asks old) new _ taken.1 refl q ∙ phase-with_asks old.side.live name asks q
     effect_after (Removes name) old new is was taken = to old new _ name None taken.1 (becomes-forgotten old.side name)
@@ -390,6 +377,7 @@ module _ {D W : Type 0} {place : Option (Phase W) → Bool} (rule : IsPlaceRule 
       effect_after one old taken.0 is.0 was taken.1,
       effect_after other taken.0 new (is.1 taken.0 taken.1) (effect_sound one old taken.0 is.0 was taken.1) taken.2,
     )
+    effect_after effect old new is was taken = polled_becomes effect old new _ refl taken
 
 -- Who is fresh or waits is fit for this, and so is who was notified, in the phases that are known.
 pub record AreFit {W : Type 0} (known fit : Option (Phase W) → Bool) : Type 0 where

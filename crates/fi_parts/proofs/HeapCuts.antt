@@ -2,6 +2,7 @@
 use Rattle.std.proofs.Common.{◌≡◌, ◌≢◌, ℕ, zero, suc, ◌+◌, ◌≤◌, true, false, Option, Some, None, is_some, IfSome, refl, sym, ap, subst, ◌∙◌}
 use Rattle.std.proofs.Common.{inl, inr, arith}
 use Rattle.std.proofs.lemmas.Bool.{cases_eq, true≢false}
+use Rattle.std.proofs.lemmas.Option.{same_Some}
 use Rattle.std.specs.declared.cmp.Ordering.{Ordering}
 use Rattle.fi_parts.specs.declared.heap_nodes.Back.{Back}
 use Rattle.fi_parts.specs.declared.heap_nodes.Back.TheVariants.{Root, Parent, Sibling}
@@ -11,7 +12,7 @@ use Rattle.fi_parts.specs.HeapForests.{linked, backed, pointed, root_to, IsBackL
 use Rattle.fi_parts.specs.HeapPieces.{flag, Pieces, HeapSplit}
 use Rattle.fi_parts.proofs.HeapForests.{differs, one_at-same, one_at-other, not_there, linked-same, linked-other, backed-other, Makes-alike}
 use Rattle.fi_parts.proofs.HeapForests.{Makes-backed, Strings-made, Ordered-under}
-use Rattle.fi_parts.proofs.HeapPieces.{flag-le, flag-some, flag-same, parts}
+use Rattle.fi_parts.proofs.HeapPieces.{flag-le, flag-some, opened, parts}
 
 -- the way from the root to a list of trees: the nodes passed, with what stands on their other sides
 data Path : Type 0 where
@@ -166,9 +167,6 @@ module _ {T : Type 0} (cmp : T → T → Ordering) (v : ℕ → Option T) where
   join-order (into y rest path) f way ordered = join-order path (node y f rest) way.2 (way.0, ordered, way.1)
   join-order (past y kids path) f way ordered = join-order path (node y kids f) way.2 (way.0, way.1, ordered)
 
-some_links : {l m : HeapLinks} → ◌≡◌ {A = Option HeapLinks} (Some l) (Some m) → l ≡ m
-some_links e = cc
-
 flag-none : (o : Option HeapLinks) → is_some o ≡ false → flag o ≡ 0
 flag-none None e = refl
 flag-none (Some l) e = absurd (true≢false e)
@@ -188,18 +186,7 @@ pub record Cut {T : Type 0} (cmp : T → T → Ordering) (g : ℕ → Option Hea
 module _ {T : Type 0} (cmp : T → T → Ordering) (g : ℕ → Option HeapLinks) (v : ℕ → Option T) where
   tally-cut : (h : ℕ → Option HeapLinks) (x n : ℕ) (k : ℕ) → is_some (h x) ≡ false → ((k : ℕ) → k ≢ x → is_some (h k) ≡ is_some (g k))
       → one_at k x + n ≡ flag (g k) → n ≡ flag (h k)
-  tally-cut h x n k here others was =
-      elim (cases_eq k x) [
-        | inl same ↦
-            let one : one_at k x ≡ 1 = ap (λ z. one_at z x) same ∙ one_at-same x in
-            let most = flag-le (g k) in
-            let none : flag (h k) ≡ 0 = ap (λ z. flag (h z)) same ∙ flag-none (h x) here in
-            omega arith
-        | inr ne ↦
-            let none = one_at-other k x ne in
-            let kept = flag-same (g k) (h k) (others k ne) in
-            omega arith
-      ]
+  tally-cut h x n k here others was = grind (arith, cases_eq k x, here, others k, was, flag-le (g k))
 
   cut-root : (x : ℕ) (kids : Forest) → Pieces cmp g v (tree x kids) no_tree nil nil
       → Cut cmp g v (Some x) x (record { child = head kids; next = None; back = Root })
@@ -210,7 +197,7 @@ module _ {T : Type 0} (cmp : T → T → Ordering) (g : ℕ → Option HeapLinks
       let off_kids : count x kids ≡ 0 = omega arith in record {
         back_linked = tt;
         next_linked = tt;
-        parts = λ h is gone others. (parts cmp v h no_tree no_tree kids nil None None (head kids) None refl refl refl refl (record {
+        parts = λ h is gone others. (parts cmp v {g = h} {m = no_tree} {t = no_tree} {ts = kids} {us = nil} refl refl refl refl (record {
           main_made = tt;
           held_made = tt;
           rest_made = Strings-made h (Parent x) kids (Makes-alike g h (Parent x) kids
@@ -283,7 +270,7 @@ module _ {T : Type 0} (cmp : T → T → Ordering) (g : ℕ → Option HeapLinks
     cut-path = record {
       back_linked = back-linked (linked g x None) path (Some x) leads-1;
       next_linked = head-linked rest (Sibling x) rest-then;
-      parts = λ h is gone others. (parts cmp v h (plug path rest) no_tree kids nil _ None (head kids) None
+      parts = λ h is gone others. (parts cmp v {g = h} {m = plug path rest} {t = no_tree} {ts = kids} {us = nil}
           (top-plug path rest (node x kids rest) ∙ sym (root_to-same (top (plug path (node x kids rest))) (head rest) path)) refl refl refl
           (record {
             main_made = subst (λ f. Roots f (plug path rest)) (sym is) (join at_last path rest leads-last rest-last);
@@ -310,7 +297,7 @@ module _ {T : Type 0} (cmp : T → T → Ordering) (g : ℕ → Option HeapLinks
         | inl same ↦
             let q = subst (λ (z : ℕ). Pieces cmp g v (tree z kids) no_tree nil nil) (sym same) p in
             subst (λ (z : ℕ). Cut cmp g v (Some z) x l) same (subst (λ (m : HeapLinks). Cut cmp g v (Some x) x m)
-            (some_links (sym q.main_made.0 ∙ is)) (cut-root x kids q))
+            (same_Some _ _ (sym q.main_made.0 ∙ is)) (cut-root x kids q))
         | inr ne ↦
             let was = p.tally x in
             let one : flag (g x) ≡ 1 = flag-some (g x) (ap is_some is) in
@@ -319,17 +306,12 @@ module _ {T : Type 0} (cmp : T → T → Ordering) (g : ℕ → Option HeapLinks
             let q = subst (λ (t : Tree). Pieces cmp g v t no_tree nil nil) found.is p in
             subst (λ (t : Tree). Cut cmp g v (top t) x l) (sym found.is)
             (subst (λ (m : HeapLinks). Cut cmp g v (top (plug found.path (node x found.kids found.rest))) x m)
-            (some_links (sym (cut-links found.path x found.kids found.rest q) ∙ is)) (cut-path found.path x found.kids found.rest q))
+            (same_Some _ _ (sym (cut-links found.path x found.kids found.rest q) ∙ is)) (cut-path found.path x found.kids found.rest q))
       ]
 
   pub cut : (root : Option ℕ) (x : ℕ) (l : HeapLinks) → g x ≡ Some l → HeapSplit cmp g v root None None None → Cut cmp g v root x l
-  cut root x l is P = from P.main P.held P.rest P.pairs P.main_top P.held_top P.rest_head P.pairs_head P.pieces
-    where
-      from : (m t : Tree) (ts us : Forest) → top m ≡ root → top t ≡ None → head ts ≡ None → head us ≡ None → Pieces cmp g v m t ts us
-          → Cut cmp g v root x l
-      from m (tree y ky) ts us mt ht rt pt p = absurd (cc)
-      from m no_tree (node y ky ry) us mt ht rt pt p = absurd (cc)
-      from m no_tree nil (node y ky ry) mt ht rt pt p = absurd (cc)
-      from no_tree no_tree nil nil mt ht rt pt p = let one : flag (g x) ≡ 1 = flag-some (g x) (ap is_some is) in let was =
-          p.tally x in absurd (omega arith)
-      from (tree r kids) no_tree nil nil mt ht rt pt p = subst (λ (o : Option ℕ). Cut cmp g v o x l) mt (cut-tree x r kids l is p)
+  cut None x l is P =
+      let one : flag (g x) ≡ 1 = flag-some (g x) (ap is_some is) in
+      let was = (opened cmp v P).pieces.tally x in
+      absurd (omega arith)
+  cut (Some r) x l is P = let o = opened cmp v P in cut-tree x r o.main l is o.pieces

@@ -1,7 +1,8 @@
 -- Forests that links make: what a change of the links leaves, and what the order says.
 use Rattle.std.proofs.Common.{◌≡◌, ◌≢◌, ℕ, zero, suc, ◌+◌, ◌≤◌, ◌<◌, true, false, eqb, List, [], ◌∷◌, length, Option, Some, None, is_some}
 use Rattle.std.proofs.Common.{refl, sym, ap, subst, ◌∙◌, inl, inr, arith}
-use Rattle.std.proofs.lemmas.Bool.{eq-eqb, ne_eqb, cond-true, cond-false, cases_eq, false≢true, or_cases}
+use Rattle.std.proofs.lemmas.Bool.{eq-eqb, ne_eqb, cond-true, cond-false, cases_eq, false≢true}
+use Rattle.std.proofs.lemmas.Option.{same_Some}
 use Rattle.std.proofs.lemmas.Map.Steps.{length-le_from_distinct_below}
 use Rattle.std.specs.List.{IsDistinct, AllByRecursion, list_any}
 use Rattle.std.specs.Cmp.{IsTotalOrder}
@@ -44,14 +45,11 @@ count-head x kids rest = let here = one_at-same x in omega arith
 pub count-top : (x : ℕ) (kids : Forest) → 1 ≤ count_in x (tree x kids)
 count-top x kids = let here = one_at-same x in omega arith
 
-pub some_same : {k x : ℕ} → ◌≡◌ {A = Option ℕ} (Some x) (Some k) → x ≡ k
-some_same e = cc
-
 count-first : (k x : ℕ) (kids rest : Forest) → ◌≡◌ {A = Option ℕ} (Some x) (Some k) → 1 ≤ count k (node x kids rest)
-count-first k x kids rest e = subst (λ y. 1 ≤ count y (node x kids rest)) (some_same e) (count-head x kids rest)
+count-first k x kids rest e = subst (λ y. 1 ≤ count y (node x kids rest)) (same_Some _ _ e) (count-head x kids rest)
 
 count-only : (k x : ℕ) (kids : Forest) → ◌≡◌ {A = Option ℕ} (Some x) (Some k) → 1 ≤ count_in k (tree x kids)
-count-only k x kids e = subst (λ y. 1 ≤ count_in y (tree x kids)) (some_same e) (count-top x kids)
+count-only k x kids e = subst (λ y. 1 ≤ count_in y (tree x kids)) (same_Some _ _ e) (count-top x kids)
 
 -- writes
 
@@ -63,11 +61,7 @@ linked-other g x w k ne = cond-false (eqb k x) _ _ (ne_eqb k x ne)
 
 pub linked-some : (g : ℕ → Option HeapLinks) (x : ℕ) (w : Option HeapLinks) → is_some w ≡ is_some (g x) → (k : ℕ)
     → is_some (linked g x w k) ≡ is_some (g k)
-linked-some g x w some k =
-    elim (cases_eq k x) [
-      | inl same ↦ rw same (ap is_some (linked-same g x w) ∙ some)
-      | inr ne ↦ ap is_some (linked-other g x w k ne)
-    ]
+linked-some g x w some k = grind (arith, cases_eq k x, some)
 
 pub backed-other : (g : ℕ → Option HeapLinks) (f : Forest) (back : Back) (k : ℕ) → count k f ≡ 0 → backed g (head f) back k ≡ g k
 backed-other g nil back k none = refl
@@ -240,11 +234,7 @@ length-tops (node x kids rest) = ap suc (length-tops rest)
 count-tops : (k : ℕ) (f : Forest) → list_any (eqb k) (tops f) ≡ true → 1 ≤ count k f
 unfolding tops
 count-tops k nil at = absurd (false≢true at)
-count-tops k (node x kids rest) at =
-    elim (or_cases _ _ at) [
-      | inl here ↦ let one : one_at k x ≡ 1 = cond-true (eqb k x) 1 0 here in omega arith
-      | inr there ↦ let more = count-tops k rest there in omega arith
-    ]
+count-tops k (node x kids rest) at = grind (arith, count-tops k rest, at)
 
 tops-all : (z : ℕ) (f : Forest) → count z f ≡ 0 → AllByRecursion (λ y. eqb z y ≡ false) (tops f)
 unfolding tops

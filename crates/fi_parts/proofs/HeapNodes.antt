@@ -1,7 +1,7 @@
 -- What each change of a heap's store makes of the links, the values and the members.
-use Rattle.std.proofs.Common.{◌≡◌, ℕ, ◌<◌, Bool, true, false, cond, eqb, length, Option, Some, None, is_some, IsSome, IfSome, refl, sym, ap}
-use Rattle.std.proofs.Common.{◌∙◌, inl, inr}
-use Rattle.std.proofs.lemmas.Bool.{cases_eq, false≢true, cond-false, ne_eqb}
+use Rattle.std.proofs.Common.{◌≡◌, ℕ, ◌<◌, true, length, Option, Some, None, is_some, IsSome, IfSome, refl, sym, ap}
+use Rattle.std.proofs.Common.{◌∙◌, arith}
+use Rattle.std.proofs.lemmas.Bool.{cases_eq, false≢true}
 use Rattle.std.proofs.lemmas.List.{length-set}
 use Rattle.std.specs.FinMap as map
 use Rattle.std.specs.FinSet as finite
@@ -75,18 +75,11 @@ module _ {T : Type 0} where
       links-at : Updates s.store (with_links s x w).store x (relinked (get s.store x) w) → (k : ℕ) → links_of (with_links s x w) k
           ≡ linked (links_of s) x w k
       links-at updates k =
-          elim (cases_eq k x) [
-            | inl same ↦ rw same (ap (picked links_in) updates.changed ∙ links-is (get s.store x) live ∙ sym (linked-same (links_of s) x w))
-            | inr ne ↦ ap (picked links_in) (updates.others k ne) ∙ sym (linked-other (links_of s) x w k ne)
-          ]
+          grind (arith, cases_eq k x, links-is (get s.store x) live, updates.changed, updates.others k, linked-other (links_of s) x w k)
 
       values-at : Updates s.store (with_links s x w).store x (relinked (get s.store x) w) → (k : ℕ) → values_of (with_links s x w) k
           ≡ values_of s k
-      values-at updates k =
-          elim (cases_eq k x) [
-            | inl same ↦ rw same (ap (picked value_in) updates.changed ∙ values-is (get s.store x))
-            | inr ne ↦ ap (picked value_in) (updates.others k ne)
-          ]
+      values-at updates k = grind (arith, cases_eq k x, values-is (get s.store x), updates.changed, updates.others k)
 
   pub Keeps-itself : (s : HeapNodes T) → Keeps s s
   Keeps-itself s = record { values = refl; linked = λ k. refl; size = refl; root = refl }
@@ -119,31 +112,13 @@ placed-some (Some l) next back = refl
 abbrev pub changed : (ℕ → Option HeapLinks) → ℕ → (Option HeapLinks → Option HeapLinks) → ℕ → Option HeapLinks
 changed g x f = linked g x (f (g x))
 
-changed-at : (g : ℕ → Option HeapLinks) (x : ℕ) (f : Option HeapLinks → Option HeapLinks) (k : ℕ) → changed g x f k
-    ≡ cond (eqb k x) (f (g k)) (g k)
-changed-at g x f k =
-    elim (cases_eq k x) [
-      | inl same ↦ ap (λ z. cond (eqb k x) (f (g z)) (g k)) (sym same)
-      | inr ne ↦ linked-other g x _ k ne ∙ sym (cond-false (eqb k x) _ _ (ne_eqb k x ne))
-    ]
-
-both-ways : (a b : Bool) (f h : Option HeapLinks → Option HeapLinks) (o : Option HeapLinks) → h (f o) ≡ f (h o)
-    → cond b (h (cond a (f o) o)) (cond a (f o) o) ≡ cond a (f (cond b (h o) o)) (cond b (h o) o)
-both-ways true true f h o same = same
-both-ways true false f h o same = refl
-both-ways false true f h o same = refl
-both-ways false false f h o same = refl
-
 -- changes of different links, under whatever slots, come to the same in either order
 pub changed-after : (g : ℕ → Option HeapLinks) (x y : ℕ) (f h : Option HeapLinks → Option HeapLinks)
     → ((o : Option HeapLinks) → h (f o) ≡ f (h o)) → changed (changed g x f) y h ≡ changed (changed g y h) x f
 changed-after g x y f h same = λ i. λ k. at k i
   where
     at : (k : ℕ) → changed (changed g x f) y h k ≡ changed (changed g y h) x f k
-    at k =
-        changed-at (changed g x f) y h k ∙ ap (λ o. cond (eqb k y) (h o) o) (changed-at g x f k)
-        ∙ both-ways (eqb k x) (eqb k y) f h (g k) (same (g k))
-        ∙ sym (changed-at (changed g y h) x f k ∙ ap (λ o. cond (eqb k x) (f o) o) (changed-at g y h k))
+    at k = grind (arith, cases_eq k x, cases_eq k y, cases_eq x y, same (g k))
 
 child-back : (o : Option HeapLinks) (child : Option ℕ) (back : Back) → back_to (child_to o child) back ≡ child_to (back_to o back) child
 child-back None child back = refl

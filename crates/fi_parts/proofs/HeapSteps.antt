@@ -39,20 +39,12 @@ module _ {T : Type 0} (cmp : T → T → Ordering) where
       → MeldsInto cmp s t a b winner → Keeps s t → (P : InParts cmp s ma (Some a) (Some b) pa)
       → (Q : InParts cmp t ma (Some winner) next pa) × (suc (roots Q.rest) ≡ roots P.rest)
   meld-next s t a b winner ma pa next is melds keeps P =
-      subst (λ (v : ℕ → Option T). (Q : HeapSplit cmp (links_of t) v ma (Some winner) next pa) × (suc (roots Q.rest) ≡ roots P.rest))
-      (sym keeps.values)
-      (subst (λ (n : Option ℕ). (Q : HeapSplit cmp (links_of t) (values_of s) ma (Some winner) n pa) × (suc (roots Q.rest) ≡ roots P.rest))
-      (sym is)
-      (meld-parts cmp (values_of s) (links_of s) (links_of t) keeps.linked a b winner ma pa melds P))
+      rw (keeps.values, is) (meld-parts cmp (values_of s) (links_of s) (links_of t) keeps.linked a b winner ma pa melds P)
 
   pub push-next : (s t : HeapNodes T) (a : ℕ) (ma ra pa : Option ℕ) → Relinks s t a (next_to (links_of s a) pa)
       → (P : InParts cmp s ma (Some a) ra pa) → (Q : InParts cmp t ma None ra (Some a)) × (roots Q.rest ≡ roots P.rest)
   push-next s t a ma ra pa relinks P =
-      subst (λ (v : ℕ → Option T). (Q : HeapSplit cmp (links_of t) v ma None ra (Some a)) × (roots Q.rest ≡ roots P.rest))
-      (sym relinks.values)
-      (subst (λ (g : ℕ → Option HeapLinks). (Q : HeapSplit cmp g (values_of s) ma None ra (Some a)) × (roots Q.rest ≡ roots P.rest))
-      (sym relinks.links)
-      (push-parts cmp (values_of s) (links_of s) a ma ra pa P))
+      rw (relinks.values, relinks.links) (push-parts cmp (values_of s) (links_of s) a ma ra pa P)
 
   -- one turn of the pairing: what it leaves, and that fewer trees are left
   pub record Turned (s u : HeapNodes T) (ma before rest pairs : Option ℕ) (P : InParts cmp s ma None before pairs) (pair : ℕ) : Type 0 where
@@ -152,18 +144,14 @@ module _ {T : Type 0} (cmp : T → T → Ordering) where
   pub root-step : (t u : HeapNodes T) (a : ℕ) → Relinks t u a (placed (links_of t a) None Root) → InParts cmp t None (Some a) None None
       → InParts cmp u (Some a) None None None
   root-step t u a relinks P =
-      subst (λ (v : ℕ → Option T). HeapSplit cmp (links_of u) v (Some a) None None None) (sym relinks.values)
-      (subst (λ (f : ℕ → Option HeapLinks). HeapSplit cmp f (values_of t) (Some a) None None None) (sym relinks.links)
-      (root-parts cmp (values_of t) (links_of t) a P))
+      rw (relinks.values, relinks.links) (root-parts cmp (values_of t) (links_of t) a P)
 
   -- a node alone is a tree
   pub add-step : (s t : HeapNodes T) (a : ℕ) → is_some (links_of s a) ≡ false → IsHeap cmp s
       → Relinks s t a (Some (record { child = None; next = None; back = Root })) → InParts cmp t t.root (Some a) None None
   add-step s t a free P relinks =
       at-root t s.root (Some a) None None relinks.root
-      (subst (λ (v : ℕ → Option T). HeapSplit cmp (links_of t) v s.root (Some a) None None) (sym relinks.values)
-      (subst (λ (f : ℕ → Option HeapLinks). HeapSplit cmp f (values_of s) s.root (Some a) None None) (sym relinks.links)
-      (add-parts cmp (values_of s) (links_of s) a s.root free P)))
+      (rw (relinks.values, relinks.links) (add-parts cmp (values_of s) (links_of s) a s.root free P))
 
   -- the store holds one tree, and has the same values
   pub record Holding (s t : HeapNodes T) (a : ℕ) : Type 0 where

@@ -2,9 +2,10 @@
 use Rattle.std.proofs.Common.{◌≡◌, ◌≢◌, ℕ, ◌+◌, ◌≤◌, Bool, true, false, not, eqb, [], get_or, Option, Some, None, is_some, IsSome, Bor}
 use Rattle.std.proofs.Common.{option_copied, refl, sym, ap, subst, ◌∙◌, inl, inr, arith}
 use Rattle.std.proofs.lemmas.Bool.{cases_eq, false≢true, true≢false, eq-eqb, ne_eqb}
+use Rattle.std.proofs.lemmas.Option.{same_Some}
 use Rattle.std.specs.Ordering.{nat_cmp, is_le, ordering_reverse}
 use Rattle.std.specs.declared.cmp.Ordering.{Ordering}
-use Rattle.std.specs.declared.cmp.Ordering.TheVariants.{Less, Equal, Greater}
+use Rattle.std.specs.declared.cmp.Ordering.TheVariants.{Less, Greater}
 use Rattle.std.specs.Cmp.{IsTotalOrder, nat_cmp_total}
 use Rattle.std.specs.FinMap as map
 use Rattle.std.specs.FinSet as finite
@@ -14,16 +15,16 @@ use Rattle.fi_parts.specs.declared.heap_nodes.HeapLinks.{HeapLinks}
 use Rattle.fi_parts.specs.declared.heap_nodes.HeapNode.{HeapNode}
 use Rattle.fi_parts.specs.declared.heap_nodes.HeapNodes.{HeapNodes}
 use Rattle.fi_parts.specs.HeapModel.{HeapModel, IsLiveIn, with_values, MembersAreLive, IsLeastOf}
-use Rattle.fi_parts.specs.HeapForests.{Forest, nil, node, Tree, no_tree, tree, head, top, count, count_in, Roots, at_most}
-use Rattle.fi_parts.specs.HeapPieces.{flag, Pieces, HeapSplit}
+use Rattle.fi_parts.specs.HeapForests.{nil, no_tree, count, count_in, at_most}
+use Rattle.fi_parts.specs.HeapPieces.{flag, HeapSplit}
 use Rattle.fi_parts.specs.HeapNodes.{value_in, links_in, values_of, links_of, live_of, members_of, TakesOut, PutsIn, loose_node, revalued}
 use Rattle.fi_parts.specs.HeapNodes.{with_value, InParts, IsHeap}
 use Rattle.fi_parts.specs.Picked.{picked}
 use Rattle.fi_parts.proofs.Picked.{get-insert_same, get-insert_other, get-remove_same, get-remove_other, contains-insert_same}
 use Rattle.fi_parts.proofs.Picked.{contains-insert_other, contains-remove_same, contains-remove_other}
-use Rattle.fi_parts.proofs.HeapForests.{one_at-other, Ordered-alike, OrderedIn-alike, at_most-all, some_same}
+use Rattle.fi_parts.proofs.HeapForests.{one_at-other, Ordered-alike, OrderedIn-alike, at_most-all}
 use Rattle.fi_parts.proofs.FiniteMaps.{same_maps}
-use Rattle.fi_parts.proofs.HeapPieces.{flag-some, some-flag, parts}
+use Rattle.fi_parts.proofs.HeapPieces.{flag-some, some-flag, opened, parts}
 use Rattle.fi_parts.proofs.HeapNodes.{get-live_of, contains-members_of, is_live, live-value, value-live}
 
 module _ {T : Type 0} where
@@ -92,11 +93,7 @@ module _ {T : Type 0} where
   }
     where
       links-at : (k : ℕ) → links_of t k ≡ links_of s k
-      links-at k =
-          elim (cases_eq k x) [
-            | inl same ↦ rw same (ap (picked links_in) updates.changed ∙ loose ∙ sym (links_none s x free))
-            | inr ne ↦ ap (picked links_in) (updates.others k ne)
-          ]
+      links-at k = grind (arith, cases_eq k x, updates.changed, updates.others k, loose, links_none s x free)
 
   pub Stays-claimed : (s t : HeapNodes T) (x : ℕ) (value : T) → get s.store x ≡ None
       → Updates s.store t.store x (Some (loose_node value)) → t.root ≡ s.root → Stays s t
@@ -140,8 +137,7 @@ module _ {T : Type 0} where
     heap-stays s t same P =
         subst (λ (r : Option ℕ). InParts cmp t r None None None) (sym same.root)
         (subst (λ (g : ℕ → Option HeapLinks). HeapSplit cmp g (values_of t) s.root None None None) (sym same.links)
-        (parts cmp (values_of t) (links_of s) P.main P.held P.rest P.pairs s.root None None None P.main_top P.held_top P.rest_head
-        P.pairs_head (record {
+        (parts cmp (values_of t) {g = links_of s} {m = P.main} {t = P.held} {ts = P.rest} {us = P.pairs} P.main_top P.held_top P.rest_head P.pairs_head (record {
           main_made = P.pieces.main_made;
           held_made = P.pieces.held_made;
           rest_made = P.pieces.rest_made;
@@ -162,7 +158,7 @@ module _ {T : Type 0} where
     pub heap-empty : (s : HeapNodes T) → s.store.slots ≡ [] → s.root ≡ None → IsHeap cmp s
     heap-empty s none root =
         subst (λ (r : Option ℕ). InParts cmp s r None None None) (sym root)
-        (parts cmp (values_of s) (links_of s) no_tree no_tree nil nil None None None None refl refl refl refl (record {
+        (parts cmp (values_of s) {g = links_of s} {m = no_tree} {t = no_tree} {ts = nil} {us = nil} refl refl refl refl (record {
           main_made = tt;
           held_made = tt;
           rest_made = tt;
@@ -176,55 +172,38 @@ module _ {T : Type 0} where
 
     -- the least
 
+    rooted_at : (s : HeapNodes T) (r : Option ℕ) → s.root ≡ r → IsHeap cmp s → InParts cmp s r None None None
+    rooted_at s r root P = subst (λ (o : Option ℕ). InParts cmp s o None None None) root P
+
     less-or-not : (r : Ordering) → is_le r ≡ true → ordering_reverse r ≢ Less
-    less-or-not Less le e = absurd (cc)
-    less-or-not Equal le e = absurd (cc)
     less-or-not Greater le e = absurd (false≢true le)
+    less-or-not r le e = absurd (cc)
 
     pub record RootIsLeast (s : HeapNodes T) (r : ℕ) : Type 0 where
       pub linked : is_some (links_of s r) ≡ true
       pub least : (k : ℕ) → is_some (links_of s k) ≡ true → k ≢ r → at_most cmp (values_of s r) (values_of s k) ≡ true
 
     pub root-is-least : (total : IsTotalOrder cmp) (s : HeapNodes T) (r : ℕ) → s.root ≡ Some r → IsHeap cmp s → RootIsLeast s r
-    root-is-least total s r root P = from P.main P.held P.rest P.pairs (P.main_top ∙ root) P.held_top P.rest_head P.pairs_head P.pieces
-      where
-        from : (m t : Tree) (ts us : Forest) → top m ≡ Some r → top t ≡ None → head ts ≡ None → head us ≡ None
-            → Pieces cmp (links_of s) (values_of s) m t ts us → RootIsLeast s r
-        from m (tree y ky) ts us mt ht rt pt p = absurd (cc)
-        from m no_tree (node y ky ry) us mt ht rt pt p = absurd (cc)
-        from m no_tree nil (node y ky ry) mt ht rt pt p = absurd (cc)
-        from no_tree no_tree nil nil mt ht rt pt p = absurd (cc)
-        from (tree x kids) no_tree nil nil mt ht rt pt p =
-            subst (λ (z : ℕ). RootIsLeast s z) (some_same mt) (record {
-              linked = ap is_some p.main_made.0;
-              least = λ k at ne.
-                  let one = flag-some (links_of s k) at in
-                  let was = p.tally k in
-                  let off = one_at-other k x ne in
-                  at_most-all cmp total (values_of s) x kids p.main_ordered k (omega arith);
-            })
+    root-is-least total s r root P =
+        let o = opened cmp (values_of s) (rooted_at s (Some r) root P) in record {
+          linked = ap is_some o.pieces.main_made.0;
+          least = λ k at ne.
+            let one = flag-some (links_of s k) at in
+            let was = o.pieces.tally k in
+            let off = one_at-other k r ne in
+            at_most-all cmp total (values_of s) r o.main o.pieces.main_ordered k (omega arith);
+        }
 
     pub root-linked : (s : HeapNodes T) (r : ℕ) → s.root ≡ Some r → IsHeap cmp s → is_some (links_of s r) ≡ true
-    root-linked s r root P = from P.main (P.main_top ∙ root) P.pieces.main_made
-      where
-        from : (m : Tree) → top m ≡ Some r → Roots (links_of s) m → is_some (links_of s r) ≡ true
-        from no_tree e made = absurd (cc)
-        from (tree x kids) e made = subst (λ (z : ℕ). is_some (links_of s z) ≡ true) (some_same e) (ap is_some made.0)
+    root-linked s r root P = ap is_some (opened cmp (values_of s) (rooted_at s (Some r) root P)).pieces.main_made.0
 
     pub no-root : (s : HeapNodes T) → s.root ≡ None → IsHeap cmp s → (k : ℕ) → is_some (links_of s k) ≡ false
-    no-root s root P k = from P.main P.held P.rest P.pairs (P.main_top ∙ root) P.held_top P.rest_head P.pairs_head P.pieces
+    no-root s root P k =
+        let was = (opened cmp (values_of s) (rooted_at s None root P)).pieces.tally k in none (links_of s k) (omega arith)
       where
         none : (o : Option HeapLinks) → flag o ≡ 0 → is_some o ≡ false
         none None e = refl
         none (Some l) e = absurd (omega arith)
-
-        from : (m t : Tree) (ts us : Forest) → top m ≡ None → top t ≡ None → head ts ≡ None → head us ≡ None
-            → Pieces cmp (links_of s) (values_of s) m t ts us → is_some (links_of s k) ≡ false
-        from m (tree y ky) ts us mt ht rt pt p = absurd (cc)
-        from m no_tree (node y ky ry) us mt ht rt pt p = absurd (cc)
-        from m no_tree nil (node y ky ry) mt ht rt pt p = absurd (cc)
-        from (tree x kids) no_tree nil nil mt ht rt pt p = absurd (cc)
-        from no_tree no_tree nil nil mt ht rt pt p = let was = p.tally k in none (links_of s k) (omega arith)
 
     pub members-empty : (s : HeapNodes T) → s.root ≡ None → IsHeap cmp s → members_of s ≡ finite.empty
     members-empty s root heap =
@@ -242,15 +221,12 @@ module _ {T : Type 0} where
               (sym (get-live_of s other) ∙ there) is;
         }
       where
-        some-value : {a b : T} → ◌≡◌ {A = Option T} (Some a) (Some b) → a ≡ b
-        some-value e = cc
-
         none-less : (other : ℕ) (least value : T) → is_some (links_of s other) ≡ true → values_of s r ≡ Some least → values_of s other
             ≡ Some value → RootIsLeast s r → cmp value least ≢ Less
         none-less other least value at here there is less =
             elim (cases_eq other r) [
               | inl same ↦
-                  let alike : value ≡ least = some-value (sym there ∙ ap (values_of s) same ∙ here) in
+                  let alike : value ≡ least = same_Some _ _ (sym there ∙ ap (values_of s) same ∙ here) in
                   itself least (ap (λ z. cmp z least) (sym alike) ∙ less)
               | inr ne ↦
                   let le : is_le (cmp least value) ≡ true = ap (λ o. at_most cmp (Some least) o) (sym there) ∙ ap
@@ -260,8 +236,7 @@ module _ {T : Type 0} where
           where
             less-twice : (q : Ordering) → q ≡ Less → q ≡ ordering_reverse q → ⊥
             less-twice Less e f = cc
-            less-twice Equal e f = cc
-            less-twice Greater e f = cc
+            less-twice q e f = cc
 
             itself : (a : T) → cmp a a ≢ Less
             itself a e = less-twice (cmp a a) e (total.antisymm a a)

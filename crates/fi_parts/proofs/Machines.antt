@@ -8,7 +8,7 @@ use Rattle.futures.specs.declared.task.Poll.{Poll}
 use Rattle.futures.specs.declared.task.Poll.TheVariants.{Ready, Pending}
 use Rattle.futures.specs.Poll.{OnPending}
 use Rattle.fi_parts.specs.declared.phase.Phase.{Phase}
-use Rattle.fi_parts.specs.declared.phase.Phase.TheVariants.{Fresh, Registered, Told, Complete, Ended}
+use Rattle.fi_parts.specs.declared.phase.Phase.TheVariants.{Fresh, Told, Complete}
 use Rattle.fi_parts.specs.declared.phase.Notice.{Notice}
 use Rattle.fi_parts.specs.Noticed.{phase_after}
 use Rattle.fi_parts.specs.Oldest.{pop_first}
@@ -26,7 +26,7 @@ use Rattle.fi_parts.proofs.Results.{either}
 use Rattle.fi_parts.specs.Effects.{WaiterEffect, TakesEffect}
 use Rattle.fi_parts.specs.MachineTable.{keeps_asks, AllowsEffect, LacksAfter, StillLacks, waker_change, WaiterRules, TableLine, poll_change}
 use Rattle.fi_parts.specs.MachineTable.{answered_change, PollLine}
-use Rattle.fi_parts.specs.Effects.WaiterEffect.{NoChange, Inserts, Registers, RegistersApart, KeepsWaiting, Ends, EndsPlaced, Renews}
+use Rattle.fi_parts.specs.Effects.WaiterEffect.{NoChange, Inserts, Registers, RegistersApart, KeepsWaiting, Ends, EndsPlaced}
 use Rattle.fi_parts.specs.Effects.WaiterEffect.{NotifiesOldest, NotifiesAll, NotifiesListed, NotifiesFront, PopsOldest, AndThen, Asks}
 use Rattle.fi_parts.specs.Effects.WaiterEffect.{Removes, CompletesOldest}
 use Rattle.fi_parts.specs.Machine.{Machine, phase_at, initial, StepsTo, HasSoundWaitersBy, AllLack}
@@ -94,12 +94,6 @@ module _ {D W : Type 0} where
   asks_after (Inserts name asks) old new did q =
       asks_to new _ q did.1 ∙ asks_if old.side (insert_fresh old.side name asks) name q (Some asks)
       (ap asks_in (get-insert_same old.side.live name _)) (λ ne. asks_made old.side name asks q ne)
-  asks_after (Registers name waker) old new did q = asks_to new _ q did.1 ∙ asks-with_phase old.side.live name (Registered waker) q
-  asks_after (RegistersApart name waker) old new did q = asks_to new _ q did.1 ∙ asks-with_phase old.side.live name (Registered waker) q
-  asks_after (KeepsWaiting name waker) old new did q = asks_to new _ q did.1 ∙ asks-with_phase old.side.live name (Registered waker) q
-  asks_after (Ends name) old new did q = asks_to new _ q did.1 ∙ asks-with_phase old.side.live name Ended q
-  asks_after (EndsPlaced name) old new did q = asks_to new _ q did.1 ∙ asks-with_phase old.side.live name Ended q
-  asks_after (Renews name) old new did q = asks_to new _ q did.1 ∙ asks-with_phase old.side.live name Fresh q
   asks_after (Asks name asks) old new did q = asks_to new _ q did.1 ∙ asks_asking name asks old.side q did.0
   asks_after (Removes name) old new did q =
       asks_to new _ q did.1 ∙ asks_if old.side (without_future old.side name) name q None (ap asks_in (get-remove_same old.side.live name))
@@ -114,6 +108,7 @@ module _ {D W : Type 0} where
   asks_after (PopsOldest waker) old new did q = asks_to new _ q did.1
   asks_after (AndThen one other) old new did q =
       asks_after other did.0 new did.2 q ∙ ap (asks_step other q) (asks_after one old did.0 did.1 q)
+  asks_after effect old new did q = asks_to new _ q did.1 ∙ asks-with_phase old.side.live _ _ q
 
   -- Whoever is not made or removed asks for the same after an effect that keeps what is asked for.
   pub asks_stay : (effect : WaiterEffect D W) (old new : Waiting D W) → keeps_asks effect ≡ true → TakesEffect effect old new → (q : ℕ) →
@@ -192,12 +187,6 @@ module _ {S D W : Type 0} (rules : WaiterRules S D W) where
   lack_after (KeepsWaiting name waker) old new before after sound is did stand lack was =
       lack_one old new before after name _ stand (asks_after (KeepsWaiting name waker) old new did)
       (lack (asks_of old.side name) (was name did.0)) lack was
-  lack_after (Ends name) old new before after sound is did stand lack was =
-      lack_others old new before after name (Some Ended) refl stand (λ q ne. asks_after (Ends name) old new did q) lack was
-  lack_after (EndsPlaced name) old new before after sound is did stand lack was =
-      lack_others old new before after name (Some Ended) refl stand (λ q ne. asks_after (EndsPlaced name) old new did q) lack was
-  lack_after (Renews name) old new before after sound is did stand lack was =
-      lack_others old new before after name (Some Fresh) refl stand (λ q ne. asks_after (Renews name) old new did q) lack was
   lack_after (Asks name asks) old new before after sound is did stand lack was = λ q now. elim (cases_eq q name) [
     | inl same ↦
         let here : asks_of new.side q ≡ Some asks =
@@ -228,6 +217,8 @@ module _ {S D W : Type 0} (rules : WaiterRules S D W) where
   lack_after (PopsOldest waker) old new before after sound is did stand lack was = λ q now.
       as_before old new before after was lack q (stand q) (asks_to new _ q did.1) now
   lack_after (AndThen one other) old new before after sound is did stand lack was = λ q now. lack (asks_of new.side q)
+  lack_after effect old new before after sound is did stand lack was =
+      lack_others old new before after _ _ refl stand (λ q ne. asks_after effect old new did q) lack was
 
   abbrev pub Holds : Machine S D W → Type 0
   Holds machine = HasSoundWaitersBy rules.place rules.phases machine × AllLack rules.lacks machine

@@ -1,6 +1,6 @@
 -- Some of the futures are notified: the phases then, and that the waiters stay in order.
 use Rattle.std.proofs.Common.{◌≡◌, ℕ, Bool, true, false, eqb, ◌||◌, if◌then◌else◌, List, [], ◌∷◌, ◌++◌, Option, Some, refl, sym, ap, subst}
-use Rattle.std.proofs.Common.{◌∙◌, inl, inr, ◌⊎◌}
+use Rattle.std.proofs.Common.{◌∙◌, inl, inr, ◌⊎◌, arith}
 use Rattle.std.proofs.lemmas.Bool.{eqb-true, or_from, or_left, or_right, or_cases, both_ways, cases_eq, cases_Bool, false_from_ne_true}
 use Rattle.std.proofs.lemmas.List.{append-nil}
 use Rattle.std.proofs.lemmas.List.Folds.{list_any-append}
@@ -70,17 +70,11 @@ pub record AllBecome {D W : Type 0} (old new : Waiters D W) (names : List ℕ) (
 module _ {D W : Type 0} (fit : Option (Phase W) → Bool) (old new : Waiters D W) (q : ℕ) where
   pub fit_one : (name : ℕ) (phase : Option (Phase W)) → fit phase ≡ true → Becomes old new name phase → fit (phase_of old q) ≡ true →
       fit (phase_of new q) ≡ true
-  fit_one name phase can now was = elim (cases_eq q name) [
-    | inl same ↦ rw same (ap fit now.here ∙ can)
-    | inr ne ↦ ap fit (now.others q ne) ∙ was
-  ]
+  fit_one name phase can now was = grind (arith, cases_eq q name, now.here, now.others q, can, was)
 
   pub fit_among : (names : List ℕ) (phase : Phase W) → fit (Some phase) ≡ true → AllBecome old new names phase →
       fit (phase_of old q) ≡ true → fit (phase_of new q) ≡ true
-  fit_among names phase can now was = elim (cases_Bool (holds q names)) [
-    | inl at ↦ ap fit (now.these q at) ∙ can
-    | inr off ↦ ap fit (now.others q off) ∙ was
-  ]
+  fit_among names phase can now was = grind (arith, now.these q, now.others q, can, was)
 
 -- These names, none twice, live, and the queue then holds those of them whose new phase has a place, and of the others whom it held.
 pub record MayNotify {D W : Type 0} (place : Option (Phase W) → Bool) (phase : Phase W) (names queue : List ℕ)
@@ -119,11 +113,7 @@ module _ {D W : Type 0} (place : Option (Phase W) → Bool) (rule : IsPlaceRule 
       let now = phases-notified place phase names queue old may in
       let pairs = named old.side.live names in
       record {
-        queued = λ q.
-            elim (cases_Bool (holds q names)) [
-              | inl at ↦ may.these q at ∙ sym (ap place (now.these q at))
-              | inr off ↦ may.others q off ∙ was.queued q ∙ ap place (sym (now.others q off))
-            ];
+        queued = λ q. grind (arith, may.these q, may.others q, was.queued q, now.these q, now.others q);
         once = may.queue_once;
         named = λ q at.
             elim (or_cases (has q old.out) (has q pairs) (sym (list_any-append (λ r. eqb q r.0) old.out pairs) ∙ at)) [

@@ -1,6 +1,6 @@
 -- What becomes of a side whose oldest future is named, and of one whose future asks for something else.
-use Rattle.std.proofs.Common.{◌≡◌, ◌≢◌, ℕ, Bool, false, List, [], ◌∷◌, ◌++◌, Option, Some, None, map, refl, sym, ap, append_assoc, ◌∙◌, inl}
-use Rattle.std.proofs.Common.{inr}
+use Rattle.std.proofs.Common.{◌≡◌, ◌≢◌, ℕ, Bool, false, List, [], ◌∷◌, ◌++◌, Option, Some, None, map, refl, sym, ap, append_assoc, ◌∙◌}
+use Rattle.std.proofs.Common.{arith}
 use Rattle.std.proofs.lemmas.Bool.{cases_eq, both_ways}
 use Rattle.std.proofs.lemmas.List.{append-nil, map-append}
 use Rattle.std.specs.Option.{IsSome}
@@ -38,10 +38,8 @@ module _ {D W : Type 0} where
       each : (o : Option (LiveFuture D W)) → finmap.get live n ≡ o →
           phase_in (finmap.get (with_asks_in live n d o) q) ≡ phase_in (finmap.get live q)
       each None is = refl
-      each (Some f) is = elim (cases_eq q n) [
-        | inl same ↦ rw same (ap phase_in (get-insert_same live n (record f { asks = d })) ∙ sym (ap phase_in is))
-        | inr ne ↦ ap phase_in (get-insert_other live n (record f { asks = d }) q ne)
-      ]
+      each (Some f) is =
+          grind (arith, cases_eq q n, get-insert_same live n (record f { asks = d }), get-insert_other live n (record f { asks = d }) q, is)
 
   pub asks-with_asks : (live : finmap.FinMap nat_cmp (LiveFuture D W)) (n : ℕ) (d : D) → IsSome (finmap.get live n) →
       asks_in (finmap.get (with_asks live n d) n) ≡ Some d
@@ -85,20 +83,9 @@ module _ {D W : Type 0} where
       ap (λ (v : Waiting D W). v.side)
       (all_noticed-step phase (record { side = side; out = [] }) n others (unnamed side out was) queue)
 
-  named_all-step : (phase : Phase W) (side : Waiters D W) (out : List (ℕ × W)) (n : ℕ) (others : List ℕ) →
-      IsOrdered side out →
-      side.queue ≡ n ∷ others → pair side n ++ named_all (noticed phase side n others) ≡ named_all side
-  named_all-step phase side out n others was queue =
-      ap (λ (v : Waiting D W). v.out)
-      (all_noticed-step phase (record { side = side; out = [] }) n others (unnamed side out was) queue)
-
   pub emptied-none : (phase : Phase W) (side : Waiters D W) → side.queue ≡ [] → clear_queue phase side ≡ side
   emptied-none phase side none =
       ap (λ (v : Waiting D W). v.side) (all_noticed-none phase (record { side = side; out = [] }) none)
-
-  named_all-none : (phase : Phase W) (side : Waiters D W) → side.queue ≡ [] → named_all side ≡ []
-  named_all-none phase side none =
-      ap (λ (v : Waiting D W). v.out) (all_noticed-none phase (record { side = side; out = [] }) none)
 
 -- The same for an outbox of pairs that are marked with their side.
 module _ {D W X : Type 0} (mark : ℕ × W → X) where
@@ -110,8 +97,10 @@ module _ {D W X : Type 0} (mark : ℕ × W → X) where
   marked-step phase side pairs out n others was queue =
       append_assoc out (map mark (pair side n)) (map mark (named_all (noticed phase side n others)))
       ∙ ap (λ ps. out ++ ps) (sym (map-append mark (pair side n) (named_all (noticed phase side n others)))
-      ∙ ap (map mark) (named_all-step phase side pairs n others was queue))
+      ∙ ap (λ (v : Waiting D W). map mark v.out)
+      (all_noticed-step phase (record { side = side; out = [] }) n others (unnamed side pairs was) queue))
 
   pub marked-none : (phase : Phase W) (side : Waiters D W) (out : List X) → side.queue ≡ [] →
       out ++ map mark (named_all side) ≡ out
-  marked-none phase side out none = ap (λ ps. out ++ map mark ps) (named_all-none phase side none) ∙ append-nil out
+  marked-none phase side out none =
+      ap (λ (v : Waiting D W). out ++ map mark v.out) (all_noticed-none phase (record { side = side; out = [] }) none) ∙ append-nil out

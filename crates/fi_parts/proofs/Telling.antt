@@ -1,7 +1,7 @@
 -- To tell the first that is due, and then all that are due, is to tell all that are due.
 use Rattle.std.proofs.Common.{◌≡◌, ◌≢◌, ℕ, true, false, ◌||◌, ◌&&◌, nat_le, List, [], ◌∷◌, ◌++◌, Option, Some, unwrap_or, append_assoc, sym}
-use Rattle.std.proofs.Common.{ap, subst, ◌∙◌, inl, inr}
-use Rattle.std.proofs.lemmas.Bool.{eq-eqb, ne_eqb, and_parts, both_ways, cases_eq}
+use Rattle.std.proofs.Common.{ap, subst, ◌∙◌, arith}
+use Rattle.std.proofs.lemmas.Bool.{ne_eqb, and_parts, both_ways, cases_eq}
 use Rattle.std.proofs.lemmas.List.{append-nil}
 use Rattle.fi_parts.specs.declared.phase.Phase.{Phase}
 use Rattle.fi_parts.specs.declared.phase.Phase.TheVariants.{Registered, Told}
@@ -54,10 +54,7 @@ module _ {W : Type 0} where
       let off : holds name due ≡ false = rest.1.exactly name ∙ not_due now old.side name entered in (
         name ∷ due,
         record {
-          exactly = λ q. elim (cases_eq q name) [
-            | inl same ↦ ap (λ b. b || holds q due) (eq-eqb q name same) ∙ sym (ap (is_due now old.side) same ∙ first.due)
-            | inr ne ↦ ap (λ b. b || holds q due) (ne_eqb q name ne) ∙ rest.1.exactly q ∙ due_other now old.side name q ne
-          ];
+          exactly = λ q. grind (arith, cases_eq q name, first.due, rest.1.exactly q, due_other now old.side name q);
           once = (off, rest.1.once);
           in_order = (
             λ later at. first.least later (entered_before later (λ same. both_ways _ off (ap (λ k. holds k due) (sym same) ∙ at))

@@ -2,6 +2,7 @@
 use Rattle.std.proofs.Common.{◌≡◌, ℕ, Bool, true, false, if◌then◌else◌, List, [], ◌∷◌, ◌++◌, Option, Some, None, append_assoc, refl, sym}
 use Rattle.std.proofs.Common.{ap, subst, ◌∙◌}
 use Rattle.std.proofs.lemmas.List.{append-nil}
+use Rattle.std.proofs.lemmas.Option.{same_Some}
 use Rattle.std.specs.Ordering.{nat_cmp}
 use Rattle.std.specs.FinMap as map
 use Rattle.fi_parts.specs.declared.phase.Phase.{Phase}
@@ -37,13 +38,10 @@ module _ {D W : Type 0} where
   unfolding with_phase
   with_phase-same live n phase is = each (map.get live n) refl is
     where
-      some : (a b : Phase W) → ◌≡◌ {A = Option (Phase W)} (Some a) (Some b) → b ≡ a
-      some a b e = cc
-
       each : (o : Option (LiveFuture D W)) → map.get live n ≡ o → phase_in o ≡ Some phase → rephased live n phase o ≡ live
       each None here stood = refl
       each (Some f) here stood = insert_known live n (record f { phase = phase })
-          (here ∙ ap (λ p. Some (record f { phase = p })) (sym (some f.phase phase stood)))
+          (here ∙ ap (λ p. Some (record f { phase = p })) (same_Some _ _ stood))
 
 module _ {D W : Type 0} (place : Option (Phase W) → Bool) (rule : IsPlaceRule place) where
   -- to tell a front and then the next one is to tell the front with it

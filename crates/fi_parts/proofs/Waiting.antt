@@ -1,6 +1,6 @@
 -- What each word on the futures of a store says of each name, and that it keeps their order.
 use Rattle.std.proofs.Common.{◌≡◌, ◌≢◌, ℕ, Bool, true, false, eqb, ◌||◌, List, [], ◌∷◌, ◌++◌, Option, Some, None, is_some, drop}
-use Rattle.std.proofs.Common.{append_assoc, refl, sym, ap, subst, ◌∙◌, inl, inr}
+use Rattle.std.proofs.Common.{append_assoc, refl, sym, ap, subst, ◌∙◌, inl, inr, arith}
 use Rattle.std.proofs.lemmas.Bool.{eqb-true, eq-eqb, ne_eqb, or_parts, or_left, or_right, or_cases, both_ways, cases_eq, cases_Bool}
 use Rattle.std.proofs.lemmas.Bool.{false_from_ne_true}
 use Rattle.std.specs.Option.{IsSome}
@@ -17,7 +17,7 @@ use Rattle.fi_parts.specs.PlaceRules.{IsPlaceRule, registered_rule}
 use Rattle.fi_parts.specs.Order.{holds, Apart, without}
 use Rattle.fi_parts.specs.Pairs.{has, without_pair, PairsApart}
 use Rattle.fi_parts.specs.Waiting.{Waiters, Waiting, phase_in, phase_of, asks_in, is_registered, may_be_named, rephased, with_phase}
-use Rattle.fi_parts.specs.Waiting.{no_futures, insert_fresh, registered, without_future, noticed, pair, IsOrdered, IsLive, named}
+use Rattle.fi_parts.specs.Waiting.{no_futures, insert_fresh, without_future, noticed, pair, IsOrdered, IsLive, named}
 use Rattle.fi_parts.specs.Waiting.{with_phases, clear_queue, notify_all, IsOrderedBy}
 use Rattle.fi_parts.proofs.FiniteMaps.{get-insert_same, get-insert_other, get-remove_same, get-remove_other}
 use Rattle.fi_parts.proofs.Queues.{holds-push, Apart-push, holds-without_same, holds-without_other, Apart-without_one, has_pushed}
@@ -154,15 +154,9 @@ module _ {D W : Type 0} (place : Option (Phase W) → Bool) (rule : IsPlaceRule 
       ((q : ℕ) → q ≢ name → has q after ≡ true → has q out ≡ true) → (has name after ≡ true → may_be_named phase ≡ true) →
       PairsApart after → IsOrderedBy place new after
   ordered_by old new out after name phase was now queue outs may apart = record {
-    queued = λ q. elim (cases_eq q name) [
-      | inl same ↦ rw same (queue.is ∙ sym (ap place now.here))
-      | inr ne ↦ queue.others q ne ∙ was.queued q ∙ ap place (sym (now.others q ne))
-    ];
+    queued = λ q. grind (arith, cases_eq q name, queue.is, now.here, queue.others q, was.queued q, now.others q);
     once = queue.once;
-    named = λ q at. elim (cases_eq q name) [
-      | inl same ↦ rw same (ap may_be_named now.here ∙ may (subst (λ (n : ℕ). has n after ≡ true) same at))
-      | inr ne ↦ ap may_be_named (now.others q ne) ∙ was.named q (outs q ne at)
-    ];
+    named = λ q at. grind (arith, cases_eq q name, at, may, outs q, was.named q, now.here, now.others q);
     named_once = apart;
   }
 
@@ -366,10 +360,9 @@ module _ {D W : Type 0} where
       each : (o : Option (LiveFuture D W)) → map.get live name ≡ o →
           asks_in (map.get (rephased live name phase o) q) ≡ asks_in (map.get live q)
       each None is = refl
-      each (Some f) is = elim (cases_eq q name) [
-        | inl same ↦ rw same (ap asks_in (get-insert_same live name (record f { phase = phase })) ∙ sym (ap asks_in is))
-        | inr ne ↦ ap asks_in (get-insert_other live name (record f { phase = phase }) q ne)
-      ]
+      each (Some f) is =
+          grind (arith, cases_eq q name, is, get-insert_same live name (record f { phase = phase }), get-insert_other live name
+          (record f { phase = phase }) q)
 
   pub asks-with_phases : (phase : Phase W) (names : List ℕ) (live : map.FinMap nat_cmp (LiveFuture D W)) (q : ℕ) →
       asks_in (map.get (with_phases live names phase) q) ≡ asks_in (map.get live q)

@@ -14,9 +14,9 @@ use Rattle.fi_parts.specs.WakerHistory.{WakerChange, IsIn, gives, last_waker, la
 use Rattle.fi_parts.specs.WakerHistory.{KeepsWakers}
 use Rattle.fi_parts.specs.WakerHistory.WakerChange.{Pends, Leaves, Gives, NoEffect}
 use Rattle.fi_parts.specs.Effects.{WaiterEffect, TakesEffect}
-use Rattle.fi_parts.specs.Effects.WaiterEffect.{NoChange, Inserts, Registers, RegistersApart, KeepsWaiting, Ends, EndsPlaced, Renews}
+use Rattle.fi_parts.specs.Effects.WaiterEffect.{NoChange, Inserts, Registers, RegistersApart, KeepsWaiting}
 use Rattle.fi_parts.specs.Effects.WaiterEffect.{NotifiesOldest, NotifiesAll, NotifiesListed, NotifiesFront, PopsOldest, AndThen, Asks}
-use Rattle.fi_parts.specs.Effects.WaiterEffect.{Removes, CompletesOldest}
+use Rattle.fi_parts.specs.Effects.WaiterEffect.{CompletesOldest}
 use Rattle.fi_parts.specs.Machine.{Machine, HasSoundWaitersBy, AllowsBasics}
 use Rattle.fi_parts.specs.MachineTable.{AllowsEffect, waker_change, WaiterRules, TableLine}
 use Rattle.fi_parts.proofs.PairsWithin.{none_some, some_same, if_true, if_false, in_append_left, in_append_right, in_without, in_waker_of}
@@ -127,12 +127,8 @@ module _ {D W : Type 0} where
     carries (Registers name waker) old new is was taken now = (inl now.here, others old new name _ now (ap out_of taken.1))
     carries (RegistersApart name waker) old new is was taken now = (inl now.here, others old new name _ now (ap out_of taken.1))
     carries (KeepsWaiting name waker) old new is was taken now = (inl now.here, others old new name _ now (ap out_of taken.1))
-    carries (Ends name) old new is was taken now = others old new name _ now (ap out_of taken.1)
-    carries (EndsPlaced name) old new is was taken now = others old new name _ now (ap out_of taken.1)
-    carries (Renews name) old new is was taken now = others old new name _ now (ap out_of taken.1)
     carries (Asks name asks) old new is was taken now = λ q v has.
         elim has [ inl there ↦ inl (now q ∙ there) | inr at ↦ inr (rw taken.1 at) ]
-    carries (Removes name) old new is was taken now = others old new name _ now (ap out_of taken.1)
     carries (NotifiesOldest notice) old new is was taken now =
         notified_carries place known _ _ old new (oldest_are rule known notice old new is was.ordered taken)
     carries (NotifiesAll notice) old new is was taken now =
@@ -155,6 +151,7 @@ module _ {D W : Type 0} where
         (carries one old mid is.0 was taken.1 (effect_after rule known knows one old mid is.0 was taken.1))
         (subst (λ (d : WakerChange W). CarriesOn d mid new) is.2
         (carries other mid new allows sound taken.2 (effect_after rule known knows other mid new allows sound taken.2)))
+    carries effect old new is was taken now = others old new _ _ now (ap out_of taken.1)
 
   at_first : (name : ℕ) (waker : W) (phase : Option (Phase W)) (first : Waiting D W) → phase_of first.side name ≡ phase →
       displaced_from phase (waker_of name first.out) ≡ Some waker → HasWaker first name waker
