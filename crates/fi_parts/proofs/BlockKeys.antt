@@ -1,6 +1,6 @@
 -- Pointers to blocks are told apart.
 use Rattle.std.proofs.Common.{◌≡◌, ◌≢◌, true, false, ◌⊎◌, inl, inr, refl, ap, subst}
-use Rattle.std.proofs.lemmas.Bool.{both_ways}
+use Rattle.std.proofs.lemmas.Bool.{both_ways, cases_Bool, false_from_ne_true}
 use denote.RawPtr.{Ptr}
 use Rattle.fi_parts.specs.declared.blocks.block.BlockPtr.{BlockPtr}
 use Rattle.fi_parts.specs.Links.{alike}
@@ -17,13 +17,10 @@ module _ {T : Type 0} where
   alike-from p q e = subst (λ s. alike p s ≡ true) e (alike_self p)
 
   pub ne_alike : (p q : BlockPtr T) → p ≢ q → alike p q ≡ false
-  ne_alike p q ne = (elim (alike p q) as (λ y. alike p q ≡ y → alike p q ≡ false) [
-    | true ↦ λ e. absurd (ne (alike-true p q e))
-    | false ↦ λ e. e
-  ]) refl
+  ne_alike p q ne = false_from_ne_true _ (λ e. ne (alike-true p q e))
 
   pub cases_alike : (p q : BlockPtr T) → (p ≡ q) ⊎ (p ≢ q)
-  cases_alike p q = (elim (alike p q) as (λ y. alike p q ≡ y → (p ≡ q) ⊎ (p ≢ q)) [
-    | true ↦ λ e. inl (alike-true p q e)
-    | false ↦ λ e. inr (λ is. both_ways (alike p q) e (alike-from p q is))
-  ]) refl
+  cases_alike p q = elim (cases_Bool (alike p q)) [
+    | inl e ↦ inl (alike-true p q e)
+    | inr e ↦ inr (λ is. both_ways (alike p q) e (alike-from p q is))
+  ]

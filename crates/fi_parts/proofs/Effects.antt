@@ -50,13 +50,13 @@ module _ {W : Type 0} (place : Option (Phase W) → Bool) (rule : IsPlaceRule pl
       each : (b : Bool) → IsUntold {W = W} b (Some Told) → b ≡ false
       each false told = refl
       each true told = absurd (both_ways _ told refl)
-  unplaced p may untold = cc (rule.none, rule.fresh, rule.complete, rule.ended)
+  unplaced p may untold = cc
 
   -- where the registered have places, and the told have none
   noticed_by_place : (phase : Phase W) (p now : Option (Phase W)) → rule.has_queue ≡ true → place (Some Told) ≡ false →
       (place p ≡ true → now ≡ Some phase) → (place p ≡ false → now ≡ p) → now ≡ noticed_phase phase p
   noticed_by_place phase (Some (Registered w)) now waiting told at off = at (rule.registered w ∙ waiting)
-  noticed_by_place phase p now waiting told at off = off (cc (rule.none, rule.fresh, told, rule.complete, rule.ended))
+  noticed_by_place phase p now waiting told at off = off (cc)
 
   unplaced_after : (notice : Notice) → place (Some Told) ≡ false → place (Some (phase_after notice)) ≡ false
   unplaced_after Tell told = told
@@ -100,10 +100,6 @@ module _ {D W : Type 0} where
   After (CompletesOldest name asks) old new = Becomes old.side new.side name (Some Complete)
   After (PopsOldest waker) old new = (q : ℕ) → phase_of new.side q ≡ phase_of old.side q
   After (AndThen one other) old new = (mid : Waiting D W) × After one old mid × After other mid new
-
-  to : (old new is : Waiting D W) (name : ℕ) (phase : Option (Phase W)) → new ≡ is → Becomes old.side is.side name phase →
-      Becomes old.side new.side name phase
-  to old new is name phase same b = subst (λ (w : Waiting D W). Becomes old.side w.side name phase) (sym same) b
 
   same_phases : (old new is : Waiting D W) → new ≡ is → is.side ≡ old.side → (q : ℕ) → phase_of new.side q ≡ phase_of old.side q
   same_phases old new is same sides q = ap (λ (w : Waiting D W). phase_of w.side q) same ∙ ap (λ (s : Waiters D W). phase_of s q) sides
@@ -156,7 +152,7 @@ module _ {D W : Type 0} where
 
   pub added_fresh : (old new : Waiting D W) (name : ℕ) (asks : D) → TakesEffect (Inserts name asks) old new →
       phase_of new.side name ≡ Some Fresh
-  added_fresh old new name asks taken = (to old new _ name (Some Fresh) taken.1 (becomes-made old.side name asks)).here
+  added_fresh old new name asks taken = ap (λ (w : Waiting D W). phase_of w.side name) taken.1 ∙ (becomes-made old.side name asks).here
 
 one_held : (name : ℕ) → holds name (name ∷ []) ≡ true
 one_held name = or_left _ _ (eqb_same name)
@@ -283,21 +279,18 @@ module _ {D W : Type 0} {place : Option (Phase W) → Bool} (rule : IsPlaceRule 
     abbrev IsSound : Waiting D W → Type 0
     IsSound w = AreSoundBy place known w.side w.out
 
-    by : (new is : Waiting D W) → new ≡ is → IsSound is → IsSound new
-    by new is same sound = subst IsSound (sym same) sound
-
     notified_sound : (phase : Phase W) (names : List ℕ) (old new : Waiting D W) → IsSound old →
         AreNotified place known phase names old new →
         IsSound new
     notified_sound phase names old new was did =
-        by new _ did.is (sound_by-notified place rule known phase names did.queue old did.may_be did.is_known was did.may)
+        rw did.is (sound_by-notified place rule known phase names did.queue old did.may_be did.is_known was did.may)
 
     polled_sound : (old new : Waiting D W) (name : ℕ) (phase : Phase W) (queue : List ℕ) → known (Some phase) ≡ true → IsSound old →
         IsLive old.side name → HasPlace name (place (Some phase)) old.side.queue queue →
         new ≡ record { side = record { live = with_phase old.side.live name phase; queue = queue }; out = without_pair name old.out } →
         IsSound new
     polled_sound old new name phase queue is was lives places taken =
-        by new _ taken (sound_by-polled place rule known old.side old.out name phase queue is was lives places)
+        rw taken (sound_by-polled place rule known old.side old.out name phase queue is was lives places)
 
     out_of_queue : (name : ℕ) (old : Waiting D W) → IsSound old → may_be_named (phase_of old.side name) ≡ true →
         IsUntold (place (Some Told)) (phase_of old.side name) → holds name old.side.queue ≡ false
@@ -306,9 +299,9 @@ module _ {D W : Type 0} {place : Option (Phase W) → Bool} (rule : IsPlaceRule 
     -- An effect keeps the queue and out in order.
     pub effect_sound : (effect : WaiterEffect D W) (old new : Waiting D W) → AllowsEffect rule known old effect → IsSound old →
         TakesEffect effect old new → IsSound new
-    effect_sound NoChange old new is was taken = by new old taken was
+    effect_sound NoChange old new is was taken = rw taken was
     effect_sound (Inserts name asks) old new is was taken =
-        by new _ taken.1 (sound_by-made place rule known old.side old.out name asks knows.fresh was taken.0)
+        rw taken.1 (sound_by-made place rule known old.side old.out name asks knows.fresh was taken.0)
     effect_sound (Registers name waker) old new is was taken =
         let can = given (place (Some (Registered waker))) is in
         polled_sound old new name (Registered waker) _ (knows.registered waker) was (if_named old.side name taken.0)
@@ -329,9 +322,9 @@ module _ {D W : Type 0} {place : Option (Phase W) → Bool} (rule : IsPlaceRule 
     effect_sound (Renews name) old new is was taken =
         polled_sound old new name Fresh _ knows.fresh was (if_named old.side name taken.0)
         (same_places name _ old.side.queue was.ordered.once (out_of_queue name old was taken.0 is ∙ sym rule.fresh)) taken.1
-    effect_sound (Asks name asks) old new is was taken = by new _ taken.1 (sound_by-exchange place known old.side old.out name asks was)
+    effect_sound (Asks name asks) old new is was taken = rw taken.1 (sound_by-exchange place known old.side old.out name asks was)
     effect_sound (Removes name) old new is was taken =
-        by new _ taken.1 (sound_by-forgotten place rule known old.side old.out name knows.gone was)
+        rw taken.1 (sound_by-forgotten place rule known old.side old.out name knows.gone was)
     effect_sound (NotifiesOldest notice) old new is was taken =
         notified_sound _ _ old new was (oldest_are notice old new is was.ordered taken)
     effect_sound (NotifiesAll notice) old new is was taken = notified_sound _ _ old new was (all_are notice old new is was.ordered taken)
@@ -342,7 +335,7 @@ module _ {D W : Type 0} {place : Option (Phase W) → Bool} (rule : IsPlaceRule 
     effect_sound (CompletesOldest name asks) old new is was taken =
         let asked = sound_by-exchange place known old.side old.out name asks was in
         notified_sound _ _ (asking name asks old) new asked (completed name asks old new is asked.ordered taken)
-    effect_sound (PopsOldest waker) old new is was taken = by new _ taken.1 (sound_by-drop place rule known old.side old.out was)
+    effect_sound (PopsOldest waker) old new is was taken = rw taken.1 (sound_by-drop place rule known old.side old.out was)
     effect_sound (AndThen one other) old new is was taken =
         effect_sound other taken.0 new (is.1 taken.0 taken.1) (effect_sound one old taken.0 is.0 was taken.1) taken.2
 
@@ -350,10 +343,10 @@ module _ {D W : Type 0} {place : Option (Phase W) → Bool} (rule : IsPlaceRule 
     pub effect_after : (effect : WaiterEffect D W) (old new : Waiting D W) → AllowsEffect rule known old effect → IsSound old →
         TakesEffect effect old new → After effect old new
     effect_after NoChange old new is was taken = same_phases old new old taken refl
-    effect_after (Inserts name asks) old new is was taken = to old new _ name (Some Fresh) taken.1 (becomes-made old.side name asks)
+    effect_after (Inserts name asks) old new is was taken = rw taken.1 (becomes-made old.side name asks)
     effect_after (Asks name asks) old new is was taken = λ q.
         same_phases (asking name asks old) new _ taken.1 refl q ∙ phase-with_asks old.side.live name asks q
-    effect_after (Removes name) old new is was taken = to old new _ name None taken.1 (becomes-forgotten old.side name)
+    effect_after (Removes name) old new is was taken = rw taken.1 (becomes-forgotten old.side name)
     effect_after (NotifiesOldest notice) old new is was taken = λ q.
         let now = notified_after place known _ _ old new (oldest_are notice old new is was.ordered taken) in
         elim (cases_Bool (holds q (first_of old.side.queue))) [ inl at ↦ inr (now.these q at) | inr off ↦ inl (now.others q off) ]

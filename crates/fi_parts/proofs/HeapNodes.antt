@@ -158,12 +158,12 @@ module _ {T : Type 0} where
       place.links ∙ ap (λ (b : ℕ → Option HeapLinks). changed b c moved) after ∙ last
       ∙ ap (λ (o : Option ℕ). adopted_before (links_of s) o p c) is
 
+  pub values-kept : (s t : HeapNodes T) → Keeps s t → KeepsValues s t
+  values-kept s t keeps = record { values = keeps.values; linked = keeps.linked }
+
   pub KeepsValues-relinks : (s t : HeapNodes T) (x : ℕ) (w : Option HeapLinks) → Relinks s t x w → is_some w ≡ is_some (links_of s x)
       → KeepsValues s t
-  KeepsValues-relinks s t x w r some = record {
-    values = r.values;
-    linked = λ k. ap (λ f. is_some (f k)) r.links ∙ linked-some (links_of s) x w some k;
-  }
+  KeepsValues-relinks s t x w r some = values-kept s t (Keeps-relinks s t x w r some)
 
   -- a node is no longer linked, and the others stay so
 
@@ -194,9 +194,6 @@ module _ {T : Type 0} where
     here = keeps.linked x ∙ in_it.here;
     others = λ k ne. keeps.linked k ∙ in_it.others k ne;
   }
-
-  pub values-kept : (s t : HeapNodes T) → Keeps s t → KeepsValues s t
-  values-kept s t keeps = record { values = keeps.values; linked = keeps.linked }
 
   pub KeepsValues-then : (s t u : HeapNodes T) → KeepsValues s t → KeepsValues t u → KeepsValues s u
   KeepsValues-then s t u a b = record { values = b.values ∙ a.values; linked = λ k. b.linked k ∙ a.linked k }

@@ -259,7 +259,7 @@ module _ {T : Type 0} (cmp : T → T → Ordering) (v : ℕ → Option T) where
     pop-parts a ma pa P =
         let o = opened P in
         let made = parts (top-at ma o.main) refl (sym o.pieces.rest_made.2) (head-at pa o.pairs)
-            (pop cmp g v (tree_at ma o.main) a o.rest.0 o.rest.1 (chain_at pa o.pairs) o.pieces) in
+        (pop cmp g v (tree_at ma o.main) a o.rest.0 o.rest.1 (chain_at pa o.pairs) o.pieces) in
         (made.0, ap suc made.1 ∙ o.trees)
 
     pub turn-parts : (ma pa : Option ℕ) → HeapSplit cmp g v ma None None pa → HeapSplit cmp g v ma None pa None
@@ -272,7 +272,7 @@ module _ {T : Type 0} (cmp : T → T → Ordering) (v : ℕ → Option T) where
     push-parts a ma ra pa P =
         let o = opened P in
         let made = parts (top-at ma o.main) refl (head-at ra o.rest) refl
-            (push cmp g v (tree_at ma o.main) a o.held (chain_at ra o.rest) (chain_at pa o.pairs) pa (head-at pa o.pairs) o.pieces) in
+        (push cmp g v (tree_at ma o.main) a o.held (chain_at ra o.rest) (chain_at pa o.pairs) pa (head-at pa o.pairs) o.pieces) in
         (made.0, made.1 ∙ o.trees)
 
     -- a slot that isn't linked becomes a tree of its own
@@ -297,15 +297,15 @@ module _ {T : Type 0} (cmp : T → T → Ordering) (v : ℕ → Option T) where
           elim into [
             | inl won ↦
                 let made = parts (top-at ma o.main) (ap Some (sym won.0)) (sym p.rest_made.2) (head-at pa o.pairs)
-                    (adopt cmp g v m a b o.held o.rest.0 o.rest.1 us (λ k. let was = p.tally k in omega arith) h won.1 flags p.main_made
-                    p.held_made hb p.rest_made.4 p.pairs_made p.main_ordered p.held_ordered p.rest_ordered.1 p.rest_ordered.2
-                    p.pairs_ordered) in
+                (adopt cmp g v m a b o.held o.rest.0 o.rest.1 us (λ k. let was = p.tally k in omega arith) h won.1 flags p.main_made
+                p.held_made hb p.rest_made.4 p.pairs_made p.main_ordered p.held_ordered p.rest_ordered.1 p.rest_ordered.2
+                p.pairs_ordered) in
                 (made.0, ap suc made.1 ∙ o.trees)
             | inr won ↦
                 let made = parts (top-at ma o.main) (ap Some (sym won.0)) (sym p.rest_made.2) (head-at pa o.pairs)
-                    (adopt cmp g v m b a o.rest.0 o.held o.rest.1 us (λ k. let was = p.tally k in omega arith) h won.1 flags p.main_made hb
-                    p.held_made p.rest_made.4 p.pairs_made p.main_ordered p.rest_ordered.1 p.held_ordered p.rest_ordered.2
-                    p.pairs_ordered) in
+                (adopt cmp g v m b a o.rest.0 o.held o.rest.1 us (λ k. let was = p.tally k in omega arith) h won.1 flags p.main_made hb
+                p.held_made p.rest_made.4 p.pairs_made p.main_ordered p.rest_ordered.1 p.held_ordered p.rest_ordered.2
+                p.pairs_ordered) in
                 (made.0, ap suc made.1 ∙ o.trees)
           ]
 

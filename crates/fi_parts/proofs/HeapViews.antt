@@ -188,10 +188,10 @@ module _ {T : Type 0} where
         let o = opened cmp (values_of s) (rooted_at s (Some r) root P) in record {
           linked = ap is_some o.pieces.main_made.0;
           least = λ k at ne.
-            let one = flag-some (links_of s k) at in
-            let was = o.pieces.tally k in
-            let off = one_at-other k r ne in
-            at_most-all cmp total (values_of s) r o.main o.pieces.main_ordered k (omega arith);
+              let one = flag-some (links_of s k) at in
+              let was = o.pieces.tally k in
+              let off = one_at-other k r ne in
+              at_most-all cmp total (values_of s) r o.main o.pieces.main_ordered k (omega arith);
         }
 
     pub root-linked : (s : HeapNodes T) (r : ℕ) → s.root ≡ Some r → IsHeap cmp s → is_some (links_of s r) ≡ true

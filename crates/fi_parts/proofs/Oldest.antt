@@ -10,6 +10,7 @@ use Rattle.fi_parts.specs.declared.phase.Phase.{Phase}
 use Rattle.fi_parts.specs.declared.phase.LiveFuture.{LiveFuture}
 use Rattle.fi_parts.specs.Waiting.{Waiters, Waiting, phase_in, asks_in, may_be_named, with_asks_in, with_asks, exchange, noticed, pair}
 use Rattle.fi_parts.specs.Waiting.{clear_queue, named_all, IsOrdered, AreSoundBy}
+use Rattle.fi_parts.proofs.Placed.{some_of}
 use Rattle.fi_parts.proofs.FiniteMaps.{get-insert_same, get-insert_other}
 use Rattle.fi_parts.proofs.Waiting.{all_noticed-step, all_noticed-none}
 
@@ -43,12 +44,8 @@ module _ {D W : Type 0} where
 
   pub asks-with_asks : (live : finmap.FinMap nat_cmp (LiveFuture D W)) (n : ℕ) (d : D) → IsSome (finmap.get live n) →
       asks_in (finmap.get (with_asks live n d) n) ≡ Some d
-  asks-with_asks live n d lives = each (finmap.get live n) refl lives
-    where
-      each : (o : Option (LiveFuture D W)) → finmap.get live n ≡ o → IsSome o →
-          asks_in (finmap.get (with_asks live n d) n) ≡ Some d
-      each None is h = absurd (both_ways false refl h)
-      each (Some f) is h = ap asks_in (get-with_asks live n d f is)
+  asks-with_asks live n d lives =
+      let f = some_of (finmap.get live n) lives in ap asks_in (get-with_asks live n d f.0 f.1)
 
   pub sound_by-exchange : (place allowed : Option (Phase W) → Bool) (side : Waiters D W) (out : List (ℕ × W)) (n : ℕ) (d : D) →
       AreSoundBy place allowed side out → AreSoundBy place allowed (exchange side n d) out

@@ -16,6 +16,7 @@ use Rattle.fi_parts.specs.declared.phase.Phase.TheVariants.{Fresh, Registered, T
 use Rattle.fi_parts.specs.Pairs.{without_pair}
 use Rattle.fi_parts.proofs.Picked.{contains-insert_same, contains-insert_other, contains-remove_same, contains-remove_other}
 use Rattle.fi_parts.proofs.Waiting.{get-with_phase, get-with_phase_other}
+use Rattle.fi_parts.proofs.Placed.{some_of}
 use Rattle.fi_parts.proofs.FiniteMaps.{get-insert_same, get-insert_other, get-remove_same, get-remove_other}
 use Rattle.fi_parts.specs.declared.deadlines.Deadline.{Deadline}
 use Rattle.fi_parts.specs.declared.deadlines.Due.{Due}
@@ -180,12 +181,7 @@ module _ {W : Type 0} where
       elim (finmap.get live n) as (λ o. IsSome o → IsSome (asks_in o)) [ None ↦ λ h. h | Some f ↦ λ h. refl ] lives
 
   pub future_here : (live : Live W) (n : ℕ) → IsSome (finmap.get live n) → (f : LiveFuture Deadline W) × (finmap.get live n ≡ Some f)
-  future_here live n lives = each (finmap.get live n) refl lives
-    where
-      each : (o : Option (LiveFuture Deadline W)) → finmap.get live n ≡ o → IsSome o → (f : LiveFuture Deadline W) ×
-          (finmap.get live n ≡ Some f)
-      each None at e = absurd (both_ways false refl e)
-      each (Some f) at e = (f, at)
+  future_here live n lives = some_of (finmap.get live n) lives
 
   -- a future stands otherwise, and is registered exactly if it was
   pub kept-stand : (live : Live W) (heap : HeapModel Due) (n : ℕ) (phase : Phase W) → AreSeated live heap → IsSome (finmap.get live n)

@@ -39,14 +39,9 @@ module _ {A B : Type 0} (f : A → B) where
   find-mapped : (q : ℕ) (es : List (ℕ × A)) →
       finmap.find nat_cmp q (map (λ e. (e.0, f e.1)) es) ≡ option_map f (finmap.find nat_cmp q es)
   find-mapped q [] = refl
-  find-mapped q (e ∷ es) = step (eq_by_cmp nat_cmp q e.0) (find-mapped q es)
-    where
-      step : (b : Bool) →
-          finmap.find nat_cmp q (map (λ e'. (e'.0, f e'.1)) es) ≡ option_map f (finmap.find nat_cmp q es) →
-          cond b (Some (f e.1)) (finmap.find nat_cmp q (map (λ e'. (e'.0, f e'.1)) es)) ≡ option_map f
-          (cond b (Some e.1) (finmap.find nat_cmp q es))
-      step true rest = refl
-      step false rest = rest
+  find-mapped q (e ∷ es) =
+      elim (eq_by_cmp nat_cmp q e.0) as (λ b. cond b (Some (f e.1)) (finmap.find nat_cmp q (map (λ e'. (e'.0, f e'.1)) es)) ≡ option_map f
+      (cond b (Some e.1) (finmap.find nat_cmp q es))) [ true ↦ refl | false ↦ find-mapped q es ]
 
   pub get-mapped : (live : finmap.FinMap nat_cmp A) (q : ℕ) →
       finmap.get (mapped f live) q ≡ option_map f (finmap.get live q)

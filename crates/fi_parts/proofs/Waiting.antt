@@ -19,6 +19,7 @@ use Rattle.fi_parts.specs.Pairs.{has, without_pair, PairsApart}
 use Rattle.fi_parts.specs.Waiting.{Waiters, Waiting, phase_in, phase_of, asks_in, is_registered, may_be_named, rephased, with_phase}
 use Rattle.fi_parts.specs.Waiting.{no_futures, insert_fresh, without_future, noticed, pair, IsOrdered, IsLive, named}
 use Rattle.fi_parts.specs.Waiting.{with_phases, clear_queue, notify_all, IsOrderedBy}
+use Rattle.fi_parts.proofs.Placed.{some_of}
 use Rattle.fi_parts.proofs.FiniteMaps.{get-insert_same, get-insert_other, get-remove_same, get-remove_other}
 use Rattle.fi_parts.proofs.Queues.{holds-push, Apart-push, holds-without_same, holds-without_other, Apart-without_one, has_pushed}
 use Rattle.fi_parts.proofs.Queues.{has-without_same, has-drop, PairsApart-drop}
@@ -59,12 +60,8 @@ module _ {D W : Type 0} where
   -- how a live name stands after a change
   pub phase-with_phase : (live : map.FinMap nat_cmp (LiveFuture D W)) (name : ℕ) (phase : Phase W) →
       IsSome (map.get live name) → phase_in (map.get (with_phase live name phase) name) ≡ Some phase
-  phase-with_phase live name phase lives = each (map.get live name) refl
-    where
-      each : (o : Option (LiveFuture D W)) → map.get live name ≡ o →
-          phase_in (map.get (with_phase live name phase) name) ≡ Some phase
-      each None is = absurd (both_ways _ (ap is_some is) lives)
-      each (Some f) is = ap phase_in (get-with_phase live name phase f is)
+  phase-with_phase live name phase lives =
+      let f = some_of (map.get live name) lives in ap phase_in (get-with_phase live name phase f.0 f.1)
 
   pub phase-with_phase_other : (live : map.FinMap nat_cmp (LiveFuture D W)) (name : ℕ) (phase : Phase W) (q : ℕ) →
       q ≢ name → phase_in (map.get (with_phase live name phase) q) ≡ phase_in (map.get live q)
@@ -361,8 +358,8 @@ module _ {D W : Type 0} where
           asks_in (map.get (rephased live name phase o) q) ≡ asks_in (map.get live q)
       each None is = refl
       each (Some f) is =
-          grind (arith, cases_eq q name, is, get-insert_same live name (record f { phase = phase }), get-insert_other live name
-          (record f { phase = phase }) q)
+          let now : LiveFuture D W = record f { phase = phase } in
+          grind (arith, cases_eq q name, is, get-insert_same live name now, get-insert_other live name now q)
 
   pub asks-with_phases : (phase : Phase W) (names : List ℕ) (live : map.FinMap nat_cmp (LiveFuture D W)) (q : ℕ) →
       asks_in (map.get (with_phases live names phase) q) ≡ asks_in (map.get live q)
