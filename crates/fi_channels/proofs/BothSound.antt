@@ -1,5 +1,5 @@
--- What keeps both sides of a store sound: each change of one side, and a waker handed out.
-use Rattle.std.proofs.Common.{◌≡◌, ℕ, Bool, true, List, [], ◌∷◌, ◌++◌, Option, Some, None, drop, sym, subst}
+-- What keeps both sides of a store sound: each change of one side.
+use Rattle.std.proofs.Common.{◌≡◌, ℕ, Bool, true, List, ◌++◌, Option, Some, None, sym, subst}
 use Rattle.fi_parts.specs.NamedPairs.{without_by}
 use Rattle.fi_parts.specs.Pairs.{without_pair}
 use Rattle.fi_channels.specs.TwoSidesModel.{TwoSidesModel, no_waiters, notify_receives, AreBothSound}
@@ -7,36 +7,15 @@ use Rattle.fi_channels.specs.Waiter.{same_waiter, of_receives, sends_in, receive
 use Rattle.fi_parts.specs.Waiting.{Waiters, may_be_named, without_future, clear_queue, named_all, AreSound}
 use Rattle.fi_parts.specs.declared.phase.Phase.{Phase}
 use Rattle.fi_channels.specs.declared.channel.two_sides.Waiter.{Waiter}
-use Rattle.fi_channels.specs.declared.channel.two_sides.Waiter.TheVariants.{Send, Receive}
+use Rattle.fi_channels.specs.declared.channel.two_sides.Waiter.TheVariants.{Receive}
 use Rattle.fi_channels.proofs.Sides.{sends-without_receive, receives-without, sends-and_receives}
 use Rattle.fi_channels.specs.SideLaws.{receives-and_receives}
-use Rattle.fi_parts.proofs.Sound.{sound-empty, sound-without_pair, sound-drop, sound-forgotten, sound-emptied}
-
-module _ {D W : Type 0} (allowed : Option (Phase W) → Bool) (side : Waiters D W) where
-  -- one waker was handed out, of this side or of the other
-  sound-sends_drop : (out : List (Waiter × W)) → AreSound allowed side (sends_in out) →
-      AreSound allowed side (sends_in (drop 1 out))
-  sound-sends_drop [] was = was
-  sound-sends_drop ((Send n, w) ∷ ps) was = sound-drop allowed side ((n, w) ∷ sends_in ps) was
-  sound-sends_drop ((Receive n, w) ∷ ps) was = was
-
-  sound-receives_drop : (out : List (Waiter × W)) → AreSound allowed side (receives_in out) →
-      AreSound allowed side (receives_in (drop 1 out))
-  sound-receives_drop [] was = was
-  sound-receives_drop ((Send n, w) ∷ ps) was = was
-  sound-receives_drop ((Receive n, w) ∷ ps) was = sound-drop allowed side ((n, w) ∷ receives_in ps) was
+use Rattle.fi_parts.proofs.Sound.{sound-empty, sound-without_pair, sound-forgotten, sound-emptied}
 
 module _ {D E W : Type 0} (sending receiving : Option (Phase W) → Bool) where
   pub both_sound-new : sending None ≡ true → receiving None ≡ true →
       AreBothSound sending receiving (no_waiters {D = D} {E = E})
   both_sound-new s r = record { sends = sound-empty sending s; receives = sound-empty receiving r }
-
-  pub both_sound-next_wake : (both : TwoSidesModel D E W) → AreBothSound sending receiving both →
-      AreBothSound sending receiving (record both { out = drop 1 both.out })
-  both_sound-next_wake both was = record {
-    sends = sound-sends_drop sending both.sends both.out was.sends;
-    receives = sound-receives_drop receiving both.receives both.out was.receives;
-  }
 
   receives_changed : (both : TwoSidesModel D E W) (receives : Waiters E W) (out : List (Waiter × W))
       (pairs : List (ℕ × W)) →

@@ -1,5 +1,5 @@
 -- Each call on a channel is a line of its table, and keeps a channel sound that owes no wake.
-use Rattle.std.proofs.Common.{◌≡◌, ◌≤◌, ◌+◌, ℕ, suc, not, eqb, cond, drop, Bool, true, false, List, [], ◌∷◌, ◌++◌, Option, Some, None}
+use Rattle.std.proofs.Common.{◌≡◌, ◌≤◌, ◌+◌, ℕ, suc, drop, Bool, true, false, List, [], ◌∷◌, ◌++◌, Option, Some, None}
 use Rattle.std.proofs.Common.{is_some, Result, Ok, Err, length, length-append, refl, sym, ap, subst, ◌∙◌, inl, inr, arith}
 use Rattle.std.proofs.lemmas.Bool.{both_ways, cases_eq}
 use Rattle.std.specs.Option.{option_flatten}
@@ -81,12 +81,7 @@ record Keeps {T W : Type 0} (own : Buffered T) (sending : Waiters (Option T) W) 
 
 shorter : (name : ℕ) (names : List ℕ) → length (without name names) ≤ length names
 shorter name [] = omega arith
-shorter name (other ∷ names) = each (shorter name names) (eqb name other)
-  where
-    each : length (without name names) ≤ length names → (b : Bool) →
-        length (cond (not b) (other ∷ without name names) (without name names)) ≤ suc (length names)
-    each rest true = omega (arith, rest)
-    each rest false = omega (arith, rest)
+shorter name (other ∷ names) = grind (arith, cases_eq name other, shorter name names)
 
 unregistered_fresh : {W : Type 0} (phase : Option (Phase W)) → is_registered (noticed_phase Fresh phase) ≡ false
 unregistered_fresh (Some (Registered waker)) = refl
@@ -139,20 +134,13 @@ module _ {D W : Type 0} where
   not_joined : (old new : Waiters D W) (name : ℕ) (phase : Option (Phase W)) → Becomes old new name phase →
       is_registered phase ≡ false →
       (q : ℕ) → is_registered (phase_of new q) ≡ true → is_registered (phase_of old q) ≡ true
-  not_joined old new name phase becomes off q now = elim (cases_eq q name) [
-    | inl same ↦ absurd (both_ways _ off (ap is_registered (sym becomes.here)
-        ∙ ap (λ k. is_registered (phase_of new k)) (sym same) ∙ now))
-    | inr ne ↦ ap is_registered (sym (becomes.others q ne)) ∙ now
-  ]
+  not_joined old new name phase becomes off q now = grind (arith, cases_eq q name, becomes.here, becomes.others q, off, now)
 
   -- one that was registered already changed
   joined_before : (old new : Waiters D W) (name : ℕ) (phase : Option (Phase W)) → Becomes old new name phase →
       is_registered (phase_of old name) ≡ true →
       (q : ℕ) → is_registered (phase_of new q) ≡ true → is_registered (phase_of old q) ≡ true
-  joined_before old new name phase becomes was q now = elim (cases_eq q name) [
-    | inl same ↦ ap (λ k. is_registered (phase_of old k)) same ∙ was
-    | inr ne ↦ ap is_registered (sym (becomes.others q ne)) ∙ now
-  ]
+  joined_before old new name phase becomes was q now = grind (arith, cases_eq q name, becomes.others q, was, now)
 
 completing_quiet : (T W : Type 0) (queue : List ℕ) →
     ◌≡◌ {A = WakerChange W} (waker_change (completes_first {D = Option T} None queue)) NoEffect
@@ -218,10 +206,7 @@ module _ {T W : Type 0} where
 
     keeps_at : (own : Buffered T) (sending : Waiters (Option T) W) (receiving : Waiters ReceiveKind W) → new.own ≡ own →
         new.waiting.sends ≡ sending → new.waiting.receives ≡ receiving → Keeps own sending receiving → Now
-    keeps_at own sending receiving owns sent received keeps =
-        subst (λ (o : Buffered T). Keeps o new.waiting.sends new.waiting.receives) (sym owns)
-        (subst (λ (s : Waiters (Option T) W). Keeps own s new.waiting.receives) (sym sent)
-        (subst (λ (r : Waiters ReceiveKind W). Keeps own sending r) (sym received) keeps))
+    keeps_at own sending receiving owns sent received keeps = rw (owns, sent, received) keeps
 
     -- The call is a line of the table, and what held holds afterwards.
     abbrev pub Goes : (on_send on_receive : WakerChange W) → Type 0
@@ -244,19 +229,7 @@ module _ {T W : Type 0} where
         )
 
     pub unchanged : new ≡ old → Holds old → Goes NoEffect NoEffect
-    unchanged same was = (
-      two_sided_line rules old.own (OnSends NoChange) old new (
-        ap (λ (m : ChannelMachine T W). m.own) same,
-        (
-          (
-            ap (λ (m : ChannelMachine T W). m.waiting.sends) same,
-            ap (λ (m : ChannelMachine T W). m.waiting.out) same,
-          ),
-          ap (λ (m : ChannelMachine T W). m.waiting.receives) same,
-        ),
-      ) tt tt,
-      subst Holds (sym same) was,
-    )
+    unchanged same was = rw same (two_sided_line rules old.own (OnSends NoChange) old old (refl, ((refl, refl), refl)) tt tt, was)
 
     -- The sends changed alone, and nobody joined those who wait.
     sends_alone : (sending : Waiters (Option T) W) → Was → Owned sending → length sending.queue ≤ length old.waiting.sends.queue →

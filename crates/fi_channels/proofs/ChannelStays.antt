@@ -20,7 +20,7 @@ use Rattle.fi_channels.specs.ChannelWords.{can_receive, can_stream, send_phase, 
 use Rattle.fi_channels.specs.ChannelStays.{TheseStay, AllStay, OtherSendsStay, OtherReceivesStay, IsApartFromSends, IsApartFromReceives}
 use Rattle.fi_channels.proofs.ChannelLaws.{Holds, Goes, sent_change, makes_send, makes_receive, unchanged}
 use Rattle.fi_channels.proofs.Results.{either, of_made}
-use Rattle.fi_channels.proofs.TwoSidedStays.{line_sends_fit, line_receives_fit, line_kinds_stay, line_send_pends, line_receive_pends}
+use Rattle.fi_channels.proofs.TwoSidedMachines.{line_steps, line_kinds_stay}
 
 module _ {W : Type 0} where
   sends_are_fit : AreFit (is_send_phase {W = W}) can_send
@@ -64,22 +64,22 @@ module _ {T W : Type 0} (old new : ChannelMachine T W) (was : Holds old) where
     these_stay : TheseStay sends receives old new
     these_stay = record {
       sends_live = λ q of lives.
-          line_sends_fit rules old new did.0 was.0.waiters is_some (are_live is_send_phase) q (send_spared q of lives) lives;
+          (line_steps rules old new did.0 was.0.waiters).0.fits is_some (are_live is_send_phase) q (send_spared q of lives) lives;
       sends_pollable = λ q of can.
-          line_sends_fit rules old new did.0 was.0.waiters can_send sends_are_fit q (send_spared q of (send_lives (send_phase old q) can))
-          can;
+          (line_steps rules old new did.0 was.0.waiters).0.fits can_send sends_are_fit q
+          (send_spared q of (send_lives (send_phase old q) can)) can;
       receives_live = λ q of lives.
-          line_receives_fit rules old new did.0 was.0.waiters is_some (are_live is_receive_phase) q (receive_spared q of lives) lives;
+          (line_steps rules old new did.0 was.0.waiters).1.fits is_some (are_live is_receive_phase) q (receive_spared q of lives) lives;
       receives_pollable = λ q of can.
           let spared = receive_spared q of (receive_lives (kind_of old q) (receive_phase old q) can) in
           rw (line_kinds_stay rules old new did.0 was.0.waiters q spared)
           (still_received (kind_of old q) (receive_phase old q) (receive_phase new q)
-          (line_receives_fit rules old new did.0 was.0.waiters can_take receives_are_fit q spared) can);
+          ((line_steps rules old new did.0 was.0.waiters).1.fits can_take receives_are_fit q spared) can);
       streams_pollable = λ q of can.
           let spared = receive_spared q of (stream_lives (kind_of old q) (receive_phase old q) can) in
           rw (line_kinds_stay rules old new did.0 was.0.waiters q spared)
           (still_streamed (kind_of old q) (receive_phase old q) (receive_phase new q)
-          (line_receives_fit rules old new did.0 was.0.waiters is_some (are_live is_receive_phase) q spared) can);
+          ((line_steps rules old new did.0 was.0.waiters).1.fits is_some (are_live is_receive_phase) q spared) can);
     }
 
   -- a call that is nothing to the wakers
@@ -147,7 +147,7 @@ module _ {T W : Type 0} (old new : ChannelMachine T W) (was : Holds old) where
   pending_receive name waker (Ready x) did same can = tt
   pending_receive name waker Pending did same can =
       rw same (still_received (kind_of old name) (receive_phase old name) (receive_phase new name)
-      (λ could. line_receive_pends rules old new did.0 was.0.waiters can_take receives_are_fit) can)
+      (λ could. (line_steps rules old new did.0 was.0.waiters).1.pends can_take receives_are_fit) can)
 
   -- a poll of a send
   send_poll_spares : (name : ℕ) (waker : W) (answer : Poll (Result (Unit {0}) (SendFault T))) (q : ℕ) → q ≢ name →
@@ -165,4 +165,4 @@ module _ {T W : Type 0} (old new : ChannelMachine T W) (was : Holds old) where
   pub pending_send : (name : ℕ) (waker : W) (answer : Poll (Result (Unit {0}) (SendFault T))) →
       Goes old new (sent_change name waker answer) NoEffect → OnPending answer (can_send (send_phase new name) ≡ true)
   pending_send name waker (Ready x) did = tt
-  pending_send name waker Pending did = line_send_pends rules old new did.0 was.0.waiters can_send sends_are_fit
+  pending_send name waker Pending did = (line_steps rules old new did.0 was.0.waiters).0.pends can_send sends_are_fit

@@ -1,8 +1,7 @@
 -- What the calls on the fields of a channel do to its sends and receives, as effects.
 use Rattle.std.specs.Prelude.{◌≡◌, ◌<◌, ◌≤◌, length, ℕ, Bool, true, false, is_some, Option, Some, None, Result, Ok, Err, List, ◌++◌, refl}
-use Rattle.std.proofs.Common.{sym, ◌∙◌, ap, subst, inl, inr}
-use Rattle.std.proofs.lemmas.Bool.{both_ways, cases_eq}
-use Rattle.std.specs.Cmp.{nat_cmp_total}
+use Rattle.std.proofs.Common.{sym, ◌∙◌, ap, subst}
+use Rattle.std.proofs.lemmas.Bool.{both_ways}
 use Rattle.std.specs.Option.{option_flatten}
 use Rattle.std.specs.Ordering.{nat_cmp}
 use Rattle.std.specs.FinMap as map
@@ -19,6 +18,7 @@ use Rattle.fi_parts.specs.Oldest.{pop_oldest, pair_of_oldest}
 use Rattle.fi_parts.specs.Waiting.{Waiters, phase_of, phase_in, asks_of, asks_in, is_registered, may_be_named, with_phase}
 use Rattle.fi_parts.specs.Waiting.{with_asks, exchange, ended, registered, without_future, IsLive, IsOrdered}
 use Rattle.fi_parts.proofs.Waiting.{get-with_phase, get-with_phase_other, lives_as, becomes-with_phase, asks-with_phase}
+use Rattle.fi_parts.proofs.FiniteMaps.{same_maps}
 use Rattle.fi_parts.proofs.Oldest.{get-with_asks, get-with_asks_other, phase-with_asks}
 use Rattle.fi_parts.proofs.PairsWithin.{none_some, some_same}
 use Rattle.fi_parts.proofs.Told.{with_phase-same}
@@ -60,21 +60,18 @@ module _ {D W : Type 0} where
   phase_then_asks : (live : map.FinMap nat_cmp (LiveFuture D W)) (n : ℕ) (d : D) (p : Phase W) (f : LiveFuture D W) →
       map.get live n ≡ Some f →
       with_phase (with_asks live n d) n p ≡ with_asks (with_phase live n p) n d
-  phase_then_asks live n d p f is = map.same_map nat_cmp_total map.nat_cmp-IsAntisymmetric _ _ (λ q. elim (cases_eq q n) [
-    | inl same ↦ rw same (get-with_phase (with_asks live n d) n p (record f { asks = d }) (get-with_asks live n d f is)
-        ∙ sym (get-with_asks (with_phase live n p) n d (record f { phase = p }) (get-with_phase live n p f is)))
-    | inr ne ↦ get-with_phase_other (with_asks live n d) n p q ne ∙ get-with_asks_other live n d q ne
-        ∙ sym (get-with_asks_other (with_phase live n p) n d q ne ∙ get-with_phase_other live n p q ne)
-  ])
+  phase_then_asks live n d p f is = same_maps _ _ n
+      (get-with_phase (with_asks live n d) n p (record f { asks = d }) (get-with_asks live n d f is)
+      ∙ sym (get-with_asks (with_phase live n p) n d (record f { phase = p }) (get-with_phase live n p f is)))
+      (λ q ne. get-with_phase_other (with_asks live n d) n p q ne ∙ get-with_asks_other live n d q ne
+      ∙ sym (get-with_asks_other (with_phase live n p) n d q ne ∙ get-with_phase_other live n p q ne))
 
   -- What a future asked for is put back.
   asks_back : (live : map.FinMap nat_cmp (LiveFuture D W)) (n : ℕ) (d : D) (f : LiveFuture D W) → map.get live n ≡ Some f →
       with_asks (with_asks live n d) n f.asks ≡ live
-  asks_back live n d f is = map.same_map nat_cmp_total map.nat_cmp-IsAntisymmetric _ _ (λ q. elim (cases_eq q n) [
-    | inl same ↦ rw same (get-with_asks (with_asks live n d) n f.asks (record f { asks = d }) (get-with_asks live n d f is)
-        ∙ sym is)
-    | inr ne ↦ get-with_asks_other (with_asks live n d) n f.asks q ne ∙ get-with_asks_other live n d q ne
-  ])
+  asks_back live n d f is = same_maps _ _ n
+      (get-with_asks (with_asks live n d) n f.asks (record f { asks = d }) (get-with_asks live n d f is) ∙ sym is)
+      (λ q ne. get-with_asks_other (with_asks live n d) n f.asks q ne ∙ get-with_asks_other live n d q ne)
 
 some_value : {T : Type 0} (asks : Option (Option T)) → is_some (option_flatten asks) ≡ true →
     (value : T) × (asks ≡ Some (Some value))
@@ -107,10 +104,7 @@ module _ {T W : Type 0} where
 
   -- What is equal is so on one side, with the pairs, and on the other.
   sends_now : (new is : ChannelWaiters T W) → new ≡ is → ((new.sends ≡ is.sends) × (new.out ≡ is.out)) × (new.receives ≡ is.receives)
-  sends_now new is same = (
-    (ap (λ (v : ChannelWaiters T W). v.sends) same, ap (λ (v : ChannelWaiters T W). v.out) same),
-    ap (λ (v : ChannelWaiters T W). v.receives) same,
-  )
+  sends_now new is same = rw same ((refl, refl), refl)
 
   receives_now : (new is : ChannelWaiters T W) → new ≡ is → ((new.receives ≡ is.receives) × (new.out ≡ is.out)) × (new.sends ≡ is.sends)
   receives_now new is same = let on = sends_now new is same in ((on.1, on.0.1), on.0.0)
@@ -205,20 +199,14 @@ module _ {T W : Type 0} (waiters : ChannelWaiters T W) (name : ℕ) where
   pub ended_then : (one two three : ChannelWaiters T W) → one ≡ no_send_pair →
       two ≡ send_ended name one →
       three ≡ send_asks name None two → three ≡ finished
-  ended_then one two three out phase asks =
-      asks ∙ ap (send_asks name None) (phase ∙ ap (send_ended name) out)
+  ended_then one two three out phase asks = rw (asks, phase, out)
 
   pub exchanged_then : phase_of waiters.sends name ≡ Some Fresh → (one two three : ChannelWaiters T W) → one ≡ exchanged →
       two ≡ record one { out = without_by same_waiter (Send name) one.out } →
       three ≡ send_ended name two → three ≡ finished
   exchanged_then fresh one two three asks out phase =
       let f = future_there waiters.sends name Fresh fresh in
-      phase ∙ ap (send_ended name) (out ∙ ap (λ (v : ChannelWaiters T W). let after : ChannelWaiters T W = record v {
-        out = without_by same_waiter (Send name) v.out;
-      } in after) asks)
-      ∙ ap (λ (live : map.FinMap nat_cmp (LiveFuture (Option T) W)). let after : ChannelWaiters T W = record no_send_pair {
-        sends = record waiters.sends { live = live };
-      } in after) (phase_then_asks waiters.sends.live name None Ended f.0 f.1)
+      rw (phase, out, asks, phase_then_asks waiters.sends.live name None Ended f.0 f.1)
 
   pub put_back : (value : T) → phase_of waiters.sends name ≡ Some Fresh → asks_of waiters.sends name ≡ Some (Some value) →
       (one two : ChannelWaiters T W) → one ≡ exchanged → two ≡ send_asks name (Some value) one →
@@ -226,12 +214,7 @@ module _ {T W : Type 0} (waiters : ChannelWaiters T W) (name : ℕ) where
   put_back value fresh asks one two took put =
       let f = future_there waiters.sends name Fresh fresh in
       let same : f.0.asks ≡ Some value = some_same f.0.asks (Some value) (ap asks_in (sym f.1) ∙ asks) in
-      put ∙ ap (send_asks name (Some value)) took
-      ∙ ap (λ (live : map.FinMap nat_cmp (LiveFuture (Option T) W)). let after : ChannelWaiters T W = record waiters {
-        sends = record waiters.sends { live = live };
-      } in after)
-      (ap (λ (d : Option T). with_asks (with_asks waiters.sends.live name None) name d) (sym same)
-      ∙ asks_back waiters.sends.live name None f.0 f.1)
+      rw (put, took, ← same, asks_back waiters.sends.live name None f.0 f.1)
 
   -- A full buffer lets it wait.
   abbrev waits_on : W → ChannelWaiters T W
@@ -240,9 +223,7 @@ module _ {T W : Type 0} (waiters : ChannelWaiters T W) (name : ℕ) where
   pub waits_then : (waker : W) (one two : ChannelWaiters T W) → one ≡ no_send_pair →
       two ≡ record one { sends = registered one.sends name waker } →
       two ≡ waits_on waker
-  waits_then waker one two out now =
-      now ∙ ap (λ (v : ChannelWaiters T W). let after : ChannelWaiters T W =
-      record v { sends = registered v.sends name waker } in after) out
+  waits_then waker one two out now = rw (now, out)
 
 module _ {T W : Type 0} (buffer : Bounded T) (waiters : ChannelWaiters T W) (is_open : Bool) (name : ℕ) where
   abbrev Old : ChannelMachine T W

@@ -1,6 +1,6 @@
 -- The next value of a channel: what is left once it was taken, and that there is none where nothing is left.
 use Rattle.std.proofs.Common.{◌≡◌, ◌+◌, ℕ, suc, nat_lt, drop, ◌⊎◌, List, [], ◌∷◌, ◌++◌, Option, Some, None, length, length-append}
-use Rattle.std.proofs.Common.{refl, sym, ap, subst, ◌∙◌, inl, inr, arith}
+use Rattle.std.proofs.Common.{refl, sym, ap, ◌∙◌, inl, inr, arith}
 use Rattle.fi_parts.specs.Buffer.{Bounded, Fits, pushed, popped}
 use Rattle.fi_parts.proofs.PairsWithin.{none_some, some_same}
 use Rattle.fi_channels.specs.ChannelWords.{Buffered, has_room, next_value}
@@ -22,17 +22,13 @@ module _ {T : Type 0} where
   left_over own [] (n ∷ others) asks next is fits fronts took =
       let same : (fronts.0, own.buffer) ≡ next = some_same _ _ (sym (ap (next_value own.buffer []) fronts.1) ∙ took) in
       let none : length own.buffer.items ≡ 0 = ap length is in
-      subst (λ (n2 : T × Bounded T). Fits n2.1 × (0 + suc (length others) ≡ suc (length n2.1.items + length others))
-      × (((n ∷ others) ≡ []) ⊎ (has_room (record own { buffer = n2.1 }) ≡ has_room own))) same
-      (fits, omega (arith, none), inr refl)
+      rw (← same) (fits, omega (arith, none), inr refl)
   left_over own (value ∷ left) [] asks next is fits fronts took =
       let same : (value, popped own.buffer left)
       ≡ next = some_same _ _ (sym (ap (next_value own.buffer (value ∷ left)) fronts) ∙ took) in
       let many : length own.buffer.items ≡ suc (length left) = ap length is in
       let less = fits.0 in
-      subst (λ (n2 : T × Bounded T). Fits n2.1 × (suc (length left) + 0 ≡ suc (length n2.1.items + 0))
-      × ((◌≡◌ {A = List ℕ} [] []) ⊎ (has_room (record own { buffer = n2.1 }) ≡ has_room own))) same
-      ((omega (arith, many, less), fits.1), omega arith, inl refl)
+      rw (← same) ((omega (arith, many, less), fits.1), omega arith, inl refl)
   left_over own (value ∷ left) (n ∷ others) asks next is fits fronts took =
       let after = pushed (popped own.buffer left) fronts.0 own.buffer.reserved in
       let same : (value, after) ≡ next = some_same _ _ (sym (ap (next_value own.buffer (value ∷ left)) fronts.1) ∙ took) in
@@ -40,9 +36,7 @@ module _ {T : Type 0} where
       let pushes : length (left ++ fronts.0 ∷ []) ≡ length left + 1 = length-append left (fronts.0 ∷ []) in
       let still : length (left ++ fronts.0 ∷ []) ≡ length own.buffer.items = omega (arith, many, pushes) in
       let less = fits.0 in
-      subst (λ (n2 : T × Bounded T). Fits n2.1 × (suc (length left) + suc (length others)
-      ≡ suc (length n2.1.items + length others))
-      × (((n ∷ others) ≡ []) ⊎ (has_room (record own { buffer = n2.1 }) ≡ has_room own))) same
+      rw (← same)
       ((omega (arith, still, less), fits.1), omega (arith, pushes), inr (ap (λ m. nat_lt m own.buffer.capacity) still))
 
   -- Where there is no next value there is none at all.

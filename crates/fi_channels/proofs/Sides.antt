@@ -1,6 +1,6 @@
 -- The pairs of one side among those of both.
-use Rattle.std.proofs.Common.{◌≡◌, ℕ, Bool, true, false, not, eqb, List, [], ◌∷◌, ◌++◌, None, cond, refl, ap}
-use Rattle.std.proofs.lemmas.Bool.{eqb-true, eq-eqb}
+use Rattle.std.proofs.Common.{◌≡◌, ℕ, true, List, [], ◌∷◌, ◌++◌, None, refl, ap, arith}
+use Rattle.std.proofs.lemmas.Bool.{cases_eq, eqb-true, eq-eqb}
 use Rattle.std.specs.Ordering.{nat_cmp}
 use Rattle.std.specs.FinMap as finmap
 use Rattle.std.specs.FinSet as set
@@ -29,51 +29,25 @@ module _ {W : Type 0} where
   pub sends-without : (n : ℕ) (out : List (Waiter × W)) →
       sends_in (without_by same_waiter (Send n) out) ≡ without_pair n (sends_in out)
   sends-without n [] = refl
-  sends-without n ((Send m, w) ∷ ps) = step (eqb n m) (sends-without n ps)
-    where
-      step : (b : Bool) → sends_in (without_by same_waiter (Send n) ps) ≡ without_pair n (sends_in ps) →
-          sends_in (cond (not b) ((Send m, w) ∷ without_by same_waiter (Send n) ps)
-          (without_by same_waiter (Send n) ps))
-          ≡ cond (not b) ((m, w) ∷ without_pair n (sends_in ps)) (without_pair n (sends_in ps))
-      step true rest = rest
-      step false rest = ap (λ qs. (m, w) ∷ qs) rest
+  sends-without n ((Send m, w) ∷ ps) = grind (arith, cases_eq n m, sends-without n ps)
   sends-without n ((Receive m, w) ∷ ps) = sends-without n ps
 
   pub receives-without : (n : ℕ) (out : List (Waiter × W)) →
       receives_in (without_by same_waiter (Receive n) out) ≡ without_pair n (receives_in out)
   receives-without n [] = refl
-  receives-without n ((Receive m, w) ∷ ps) = step (eqb n m) (receives-without n ps)
-    where
-      step : (b : Bool) → receives_in (without_by same_waiter (Receive n) ps) ≡ without_pair n (receives_in ps) →
-          receives_in (cond (not b) ((Receive m, w) ∷ without_by same_waiter (Receive n) ps)
-          (without_by same_waiter (Receive n) ps))
-          ≡ cond (not b) ((m, w) ∷ without_pair n (receives_in ps)) (without_pair n (receives_in ps))
-      step true rest = rest
-      step false rest = ap (λ qs. (m, w) ∷ qs) rest
+  receives-without n ((Receive m, w) ∷ ps) = grind (arith, cases_eq n m, receives-without n ps)
   receives-without n ((Send m, w) ∷ ps) = receives-without n ps
 
   pub receives-without_send : (n : ℕ) (out : List (Waiter × W)) →
       receives_in (without_by same_waiter (Send n) out) ≡ receives_in out
   receives-without_send n [] = refl
-  receives-without_send n ((Send m, w) ∷ ps) = step (eqb n m) (receives-without_send n ps)
-    where
-      step : (b : Bool) → receives_in (without_by same_waiter (Send n) ps) ≡ receives_in ps →
-          receives_in (cond (not b) ((Send m, w) ∷ without_by same_waiter (Send n) ps)
-          (without_by same_waiter (Send n) ps)) ≡ receives_in ps
-      step true rest = rest
-      step false rest = rest
+  receives-without_send n ((Send m, w) ∷ ps) = grind (arith, cases_eq n m, receives-without_send n ps)
   receives-without_send n ((Receive m, w) ∷ ps) = ap (λ qs. (m, w) ∷ qs) (receives-without_send n ps)
 
   pub sends-without_receive : (n : ℕ) (out : List (Waiter × W)) →
       sends_in (without_by same_waiter (Receive n) out) ≡ sends_in out
   sends-without_receive n [] = refl
-  sends-without_receive n ((Receive m, w) ∷ ps) = step (eqb n m) (sends-without_receive n ps)
-    where
-      step : (b : Bool) → sends_in (without_by same_waiter (Receive n) ps) ≡ sends_in ps →
-          sends_in (cond (not b) ((Receive m, w) ∷ without_by same_waiter (Receive n) ps)
-          (without_by same_waiter (Receive n) ps)) ≡ sends_in ps
-      step true rest = rest
-      step false rest = rest
+  sends-without_receive n ((Receive m, w) ∷ ps) = grind (arith, cases_eq n m, sends-without_receive n ps)
   sends-without_receive n ((Send m, w) ∷ ps) = ap (λ qs. (m, w) ∷ qs) (sends-without_receive n ps)
 
   pub receives-and_sends : (out : List (Waiter × W)) (ps : List (ℕ × W)) →

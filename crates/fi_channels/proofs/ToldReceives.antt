@@ -1,10 +1,10 @@
 -- How many receives are told, and that they stay enough.
-use Rattle.std.proofs.Common.{◌≡◌, ◌≢◌, ◌≤◌, ℕ, zero, suc, Bool, true, false, not, eqb, ◌||◌, cond, List, [], ◌∷◌, Option}
-use Rattle.std.proofs.Common.{Some, None, length, refl, sym, ap, ◌∙◌, inl, inr, arith}
-use Rattle.std.proofs.lemmas.Bool.{cases_eq, both_ways, eqb-true, ne_eqb}
+use Rattle.std.proofs.Common.{◌≡◌, ◌≢◌, ◌≤◌, ℕ, zero, suc, true, false, List, [], ◌∷◌, Option}
+use Rattle.std.proofs.Common.{Some, None, length, refl, sym, ap, ◌∙◌, arith}
+use Rattle.std.proofs.lemmas.Bool.{cases_eq, both_ways, ne_eqb}
 use Rattle.fi_parts.specs.declared.phase.Phase.{Phase}
 use Rattle.fi_parts.specs.declared.phase.Phase.TheVariants.{Told}
-use Rattle.fi_parts.specs.Order.{holds, Apart, without}
+use Rattle.fi_parts.specs.Order.{Apart, without}
 use Rattle.fi_parts.specs.Waiting.{Waiters, phase_of, is_registered, noticed, without_future, AreSound}
 use Rattle.fi_parts.proofs.Queues.{holds-without, holds-without_same, Apart-without_one}
 use Rattle.fi_parts.proofs.Slots.{without_absent}
@@ -16,16 +16,7 @@ use Rattle.fi_channels.specs.ChannelWords.{AreTold, is_receive_phase}
 
 length-without : (x : ℕ) (xs : List ℕ) → Apart xs → length xs ≤ suc (length (without x xs))
 length-without x [] a = omega arith
-length-without x (y ∷ ys) a = each (length-without x ys a.1) (eqb x y) refl
-  where
-    each : length ys ≤ suc (length (without x ys)) → (b : Bool) → eqb x y ≡ b →
-        suc (length ys) ≤ suc (length (cond (not b) (y ∷ without x ys) (without x ys)))
-    each rest true e =
-        let same : x ≡ y = eqb-true x y e in
-        let off : holds x ys ≡ false = ap (λ n. holds n ys) same ∙ a.0 in
-        let all : length (without x ys) ≡ length ys = ap length (without_absent x ys off) in
-        omega (arith, all)
-    each rest false e = omega (arith, rest)
+length-without x (y ∷ ys) a = grind (arith, cases_eq x y, length-without x ys a.1, without_absent x ys, a.0)
 
 told_or_registered : {W : Type 0} (p : Option (Phase W)) → p ≡ Some Told → is_registered p ≡ true → ⊥
 told_or_registered p e h = both_ways (is_registered p) (ap is_registered e) h
@@ -51,11 +42,8 @@ module _ {W : Type 0} where
       record {
         names = without name was.names;
         apart = Apart-without_one name was.names was.apart;
-        told = λ q at. elim (cases_eq q name) [
-          | inl same ↦ absurd (both_ways _ (holds-without_same name was.names) (ap (λ k. holds k (without name was.names))
-              (sym same) ∙ at))
-          | inr ne ↦ others q ne ∙ was.told q (holds-without q name was.names at)
-        ];
+        told = λ q at.
+            grind (arith, cases_eq q name, holds-without_same name was.names, holds-without q name was.names, others q, was.told q, at);
         many = omega (arith, many, left);
       }
 
@@ -66,17 +54,10 @@ module _ {W : Type 0} where
       let many = was.many in
       record {
         names = name ∷ was.names;
-        apart = (each (holds name was.names) refl, was.apart);
-        told = λ q at. elim (cases_eq q name) [
-          | inl same ↦ rw same becomes.here
-          | inr ne ↦ becomes.others q ne ∙ was.told q (sym (ap (λ b. b || holds q was.names) (ne_eqb q name ne)) ∙ at)
-        ];
+        apart = (grind (arith, apart, was.told name), was.apart);
+        told = λ q at. grind (arith, cases_eq q name, ne_eqb q name, becomes.here, becomes.others q, was.told q, at);
         many = omega (arith, many);
       }
-    where
-      each : (b : Bool) → holds name was.names ≡ b → holds name was.names ≡ false
-      each true e = absurd (apart (was.told name e))
-      each false e = e
 
   -- Where a receive is registered, so many are told.
   abbrev pub Enough : Waiters ReceiveKind W → ℕ → Type 0
@@ -87,11 +68,8 @@ module _ {W : Type 0} where
 
   pub enough_but : (old new : Waiters ReceiveKind W) (name n : ℕ) (phase : Option (Phase W)) → Becomes old new name phase →
       is_registered phase ≡ false → Enough old (suc n) → Enough new n
-  enough_but old new name n phase becomes apart was q is = told_but old new name n becomes.others (was q (elim (cases_eq q name) [
-    | inl same ↦ absurd (both_ways _ apart (ap is_registered (sym becomes.here)
-        ∙ ap (λ k. is_registered (phase_of new k)) (sym same) ∙ is))
-    | inr ne ↦ ap is_registered (sym (becomes.others q ne)) ∙ is
-  ]))
+  enough_but old new name n phase becomes apart was q is = told_but old new name n becomes.others
+      (was q (grind (arith, cases_eq q name, becomes.here, becomes.others q, apart, is)))
 
   first_told : (receives : Waiters ReceiveKind W) (out : List (ℕ × W)) (n : ℕ) (queue : List ℕ) →
       AreSound is_receive_phase receives out → receives.queue ≡ queue → Enough receives n →

@@ -1,5 +1,5 @@
 -- An effect on one of two sides is that effect on this side with its own pairs, and leaves the other side with its pairs as they are.
-use Rattle.std.specs.Prelude.{◌≡◌, ℕ, Bool, Option, Some, List, [], ◌∷◌, ◌++◌, drop, refl}
+use Rattle.std.specs.Prelude.{◌≡◌, ℕ, Bool, true, Option, Some, None, List, [], ◌∷◌, ◌++◌, drop, refl}
 use Rattle.std.proofs.Common.{sym, ◌∙◌, ap, subst, inl}
 use Rattle.std.proofs.lemmas.List.{append-nil}
 use Rattle.fi_parts.specs.declared.phase.Phase.{Phase}
@@ -9,24 +9,26 @@ use Rattle.fi_parts.specs.Effects.{WaiterEffect, PairsChange, LeadsTo, TakesEffe
 use Rattle.fi_parts.specs.Effects.PairsChange.{Keep, TakeOut, Append}
 use Rattle.fi_parts.specs.Effects.WaiterEffect.{NoChange, NotifiesOldest, NotifiesAll, NotifiesFront, CompletesOldest, PopsOldest, AndThen}
 use Rattle.fi_parts.specs.Machine.{AllowsBasics}
+use Rattle.fi_parts.specs.MachineTable.{AllowsEffect, waker_change}
 use Rattle.fi_parts.specs.NamedPairs.{first_waker}
 use Rattle.fi_parts.specs.Oldest.{pair_of_first, pair_of_oldest, complete_first, complete_oldest}
 use Rattle.fi_parts.specs.PlaceRules.{registered_rule}
 use Rattle.fi_channels.specs.TwoSidedEffects.{marked, pairs_on, TakesOn, TwoSidedEffect, waiting_sends, waiting_receives, TakesTwoSided}
-use Rattle.fi_channels.specs.TwoSidedTable.{on_sends, on_receives, AllowsTwoSided}
+use Rattle.fi_channels.specs.TwoSidedTable.{on_sends, on_receives, AllowsTwoSided, KeepsKinds}
 use Rattle.fi_channels.specs.TwoSidedEffects.TwoSidedEffect.{OnSends, OnReceives, PopsFirst, Then}
 use Rattle.fi_channels.specs.TwoSidesModel.{TwoSidesModel, AreBothSound}
 use Rattle.fi_channels.specs.Waiter.{same_waiter, sends_in, receives_in}
-use Rattle.fi_parts.specs.Waiting.{Waiters, Waiting, AreSound}
-use Rattle.fi_parts.specs.WakerHistory.{WakerChange, HasWaker, gives}
+use Rattle.fi_parts.specs.Waiting.{Waiters, Waiting, AreSound, phase_of, asks_of}
+use Rattle.fi_parts.specs.WakerHistory.{WakerChange, gives}
 use Rattle.fi_parts.specs.WakerHistory.WakerChange.{NoEffect}
-use Rattle.fi_channels.proofs.BothSound.{both_sound-next_wake}
-use Rattle.fi_parts.proofs.Effects.{effect_after, effect_sound}
+use Rattle.fi_parts.proofs.Effects.{effect_after, effect_sound, AreFit, SparedBy, IsFitIfPending, stays_fit, still_pending, given_away}
+use Rattle.fi_parts.proofs.Effects.{pending_is_fit}
+use Rattle.fi_parts.proofs.Machines.{asks_stay}
 use Rattle.fi_channels.proofs.Sides.{sends-without, sends-without_receive, receives-without, receives-without_send}
 use Rattle.fi_channels.proofs.Sides.{sends-and_receives, receives-and_sends}
 use Rattle.fi_channels.specs.SideLaws.{sends-and_sends, receives-and_receives}
 use Rattle.fi_parts.proofs.Waiting.{first_registered, live_if_registered}
-use Rattle.fi_parts.proofs.WakerHistories.{CarriesOn, carries, and_then, handed_carries}
+use Rattle.fi_parts.proofs.WakerHistories.{CarriesOn, carries, and_then}
 
 module _ {D W : Type 0} where
   same_waiting : (new old : Waiters D W) (after out : List (ℕ × W)) → new ≡ old → after ≡ out →
@@ -147,81 +149,103 @@ module _ {D E W : Type 0} where
   sends_stay effect old new did = same_waiting new.sends old.sends _ _ did.1
       (effect_unseen Receive same_waiter sends_in sends_unseen effect old.receives old.out new.receives new.out did.0)
 
-module _ {D W : Type 0} where
-  -- one waker of either side is handed out
-  sends_popped : (side : Waiters D W) (out : List (Waiter × W)) → CarriesOn (gives (first_waker out)) (record {
-    side =
-        side;
-    out = sends_in out;
+-- One side after a call: it is sound, the wakers of its pending polls are there or were handed out, and whoever was fit is so still.
+pub record SideStep {D W : Type 0} {known : Option (Phase W) → Bool} (knows : AllowsBasics known) (on_wakers : WakerChange W)
+    (old new : Waiting D W) : Type 0 where
+  pub sound : AreSound known new.side new.out
+  pub carries_on : CarriesOn on_wakers old new
+  pub fits : (fit : Option (Phase W) → Bool) → AreFit known fit → (q : ℕ) → SparedBy on_wakers q → fit (phase_of old.side q) ≡ true →
+      fit (phase_of new.side q) ≡ true
+  pub pends : (fit : Option (Phase W) → Bool) (can : AreFit known fit) →
+      IsFitIfPending registered_rule known knows fit can on_wakers new
+
+module _ {D W : Type 0} {known : Option (Phase W) → Bool} (knows : AllowsBasics known) where
+  step_taken : (effect : WaiterEffect D W) (old new : Waiting D W) → AllowsEffect registered_rule known old effect →
+      AreSound known old.side old.out → TakesEffect effect old new → SideStep knows (waker_change effect) old new
+  step_taken effect old new is was took =
+      let after = effect_after registered_rule known knows effect old new is was took in
+      record {
+        sound = effect_sound registered_rule known knows effect old new is was took;
+        carries_on = carries registered_rule known knows effect old new is was took after;
+        fits = λ fit can. stays_fit registered_rule known knows fit can effect old new is was took after;
+        pends = λ fit can. pending_is_fit registered_rule known knows fit can effect old new is was took after;
+      }
+
+  -- Nothing changed here; a waker of the other side may have been handed out.
+  step_beside : (waker : Option W) (old new : Waiting D W) → AreSound known old.side old.out → new ≡ old →
+      SideStep knows (gives waker) old new
+  step_beside waker old new was same = rw same (record {
+    sound = was;
+    carries_on = still waker;
+    fits = λ fit can q spared has. has;
+    pends = λ fit can. given_away registered_rule known knows fit can waker old;
   })
+    where
+      still : (given : Option W) → CarriesOn (gives given) old old
+      still None = λ q v has. has
+      still (Some w) = λ q v has. inl has
+
+  step_then : {on_wakers other : WakerChange W} (old mid new : Waiting D W) → SideStep knows on_wakers old mid →
+      SideStep knows other mid new → other ≡ NoEffect → SideStep knows on_wakers old new
+  step_then {on_wakers} {other} old mid new one two quiet =
+      let rest = subst (λ (e : WakerChange W). SideStep knows e mid new) quiet two in
+      record {
+        sound = rest.sound;
+        carries_on = and_then on_wakers old mid new one.carries_on rest.carries_on;
+        fits = λ fit can q spared has. rest.fits fit can q tt (one.fits fit can q spared has);
+        pends = λ fit can. still_pending registered_rule known knows fit can on_wakers mid new (one.pends fit can)
+            (λ q. rest.fits fit can q tt);
+      }
+
+  -- one waker of either side is handed out
+  sends_popped : (side : Waiters D W) (out : List (Waiter × W)) → AreSound known side (sends_in out) →
+      SideStep knows (gives (first_waker out)) (record { side = side; out = sends_in out })
       (record { side = side; out = sends_in (drop 1 out) })
-  sends_popped side [] = λ q v has. has
-  sends_popped side ((Send n, w) ∷ ps) =
-      handed_carries (Some w) (record { side = side; out = (n, w) ∷ sends_in ps }) (record { side = side; out = sends_in ps }) refl refl
-  sends_popped side ((Receive n, w) ∷ ps) = λ q v has. inl has
+  sends_popped side [] was = step_beside None _ _ was refl
+  sends_popped side ((Send n, w) ∷ ps) was = step_taken (PopsOldest (Some w)) _ _ tt was (refl, refl)
+  sends_popped side ((Receive n, w) ∷ ps) was = step_beside (Some w) _ _ was refl
 
-  receives_popped : (side : Waiters D W) (out : List (Waiter × W)) → CarriesOn (gives (first_waker out))
-      (record { side = side; out = receives_in out }) (record { side = side; out = receives_in (drop 1 out) })
-  receives_popped side [] = λ q v has. has
-  receives_popped side ((Send n, w) ∷ ps) = λ q v has. inl has
-  receives_popped side ((Receive n, w) ∷ ps) =
-      handed_carries (Some w) (record {
-        side =
-            side;
-        out = (n, w) ∷ receives_in ps;
-      }) (record { side = side; out = receives_in ps }) refl refl
+  receives_popped : (side : Waiters D W) (out : List (Waiter × W)) → AreSound known side (receives_in out) →
+      SideStep knows (gives (first_waker out)) (record { side = side; out = receives_in out })
+      (record { side = side; out = receives_in (drop 1 out) })
+  receives_popped side [] was = step_beside None _ _ was refl
+  receives_popped side ((Send n, w) ∷ ps) was = step_beside (Some w) _ _ was refl
+  receives_popped side ((Receive n, w) ∷ ps) was = step_taken (PopsOldest (Some w)) _ _ tt was (refl, refl)
 
-  nothing_carries : (old new : Waiting D W) → new ≡ old → CarriesOn NoEffect old new
-  nothing_carries old new same q v has = subst (λ (w : Waiting D W). HasWaker w q v) (sym same) has
+module _ {D E W : Type 0} {sending receiving : Option (Phase W) → Bool} where
+  pub two_sided_step : (knows_send : AllowsBasics sending) (knows_receive : AllowsBasics receiving) (effect : TwoSidedEffect D E W)
+      (old new : TwoSidesModel D E W) → AllowsTwoSided sending receiving old effect → AreBothSound sending receiving old →
+      TakesTwoSided effect old new → SideStep knows_send (on_sends effect) (waiting_sends old) (waiting_sends new)
+      × SideStep knows_receive (on_receives effect) (waiting_receives old) (waiting_receives new)
+  two_sided_step knows_send knows_receive (OnSends effect) old new is was did = (
+    step_taken knows_send effect _ _ is was.sends (sends_take effect old new did),
+    step_beside knows_receive None _ _ was.receives (receives_stay effect old new did),
+  )
+  two_sided_step knows_send knows_receive (OnReceives effect) old new is was did = (
+    step_beside knows_send None _ _ was.sends (sends_stay effect old new did),
+    step_taken knows_receive effect _ _ is was.receives (receives_take effect old new did),
+  )
+  two_sided_step knows_send knows_receive (PopsFirst waker) old new is was did =
+      rw (did.1, did.0) (
+        sends_popped knows_send old.sends old.out was.sends,
+        receives_popped knows_receive old.receives old.out was.receives,
+      )
+  two_sided_step knows_send knows_receive (Then one other) old new is was did =
+      let first = two_sided_step knows_send knows_receive one old did.0 is.0 was did.1 in
+      let next = two_sided_step knows_send knows_receive other did.0 new (is.1 did.0 did.1)
+      (record { sends = first.0.sound; receives = first.1.sound }) did.2 in
+      (step_then knows_send _ _ _ first.0 next.0 is.2, step_then knows_receive _ _ _ first.1 next.1 is.3)
 
-module _ {D E W : Type 0} {sending receiving : Option (Phase W) → Bool} (knows_send : AllowsBasics sending)
-    (knows_receive : AllowsBasics receiving) where
-  abbrev AreSoundBoth : TwoSidesModel D E W → Type 0
-  AreSoundBoth both = AreBothSound sending receiving both
-
-  -- An effect keeps both sides sound.
-  pub two_sided_sound : (effect : TwoSidedEffect D E W) (old new : TwoSidesModel D E W) → AllowsTwoSided sending receiving old effect →
-      AreSoundBoth old → TakesTwoSided effect old new → AreSoundBoth new
-  two_sided_sound (OnSends effect) old new is was did = record {
-    sends = effect_sound registered_rule sending knows_send effect (waiting_sends old) (waiting_sends new) is was.sends
-        (sends_take effect old new did);
-    receives = subst (λ (w : Waiting E W). AreSound receiving w.side w.out) (sym (receives_stay effect old new did)) was.receives;
-  }
-  two_sided_sound (OnReceives effect) old new is was did = record {
-    sends = subst (λ (w : Waiting D W). AreSound sending w.side w.out) (sym (sends_stay effect old new did)) was.sends;
-    receives = effect_sound registered_rule receiving knows_receive effect (waiting_receives old) (waiting_receives new) is was.receives
-        (receives_take effect old new did);
-  }
-  two_sided_sound (PopsFirst waker) old new is was did = subst AreSoundBoth (sym did.1) (both_sound-next_wake sending receiving old was)
-  two_sided_sound (Then one other) old new is was did =
-      two_sided_sound other did.0 new (is.1 did.0 did.1) (two_sided_sound one old did.0 is.0 was did.1) did.2
-
-  -- Which waker each pending poll of a side had is registered, named or handed out.
-  pub sends_carry : (effect : TwoSidedEffect D E W) (old new : TwoSidesModel D E W) → AllowsTwoSided sending receiving old effect →
-      AreSoundBoth old → TakesTwoSided effect old new → CarriesOn (on_sends effect) (waiting_sends old) (waiting_sends new)
-  sends_carry (OnSends effect) old new is was did =
-      let took = sends_take effect old new did in
-      carries registered_rule sending knows_send effect (waiting_sends old) (waiting_sends new) is was.sends took
-      (effect_after registered_rule sending knows_send effect (waiting_sends old) (waiting_sends new) is was.sends took)
-  sends_carry (OnReceives effect) old new is was did =
-      nothing_carries (waiting_sends old) (waiting_sends new) (sends_stay effect old new did)
-  sends_carry (PopsFirst waker) old new is was did = rw (did.1, did.0) (sends_popped old.sends old.out)
-  sends_carry (Then one other) old new is was did =
-      and_then (on_sends one) (waiting_sends old) (waiting_sends did.0) (waiting_sends new) (sends_carry one old did.0 is.0 was did.1)
-      (subst (λ (d : WakerChange W). CarriesOn d (waiting_sends did.0) (waiting_sends new)) is.2
-      (sends_carry other did.0 new (is.1 did.0 did.1) (two_sided_sound one old did.0 is.0 was did.1) did.2))
-
-  pub receives_carry : (effect : TwoSidedEffect D E W) (old new : TwoSidesModel D E W) → AllowsTwoSided sending receiving old effect →
-      AreSoundBoth old → TakesTwoSided effect old new → CarriesOn (on_receives effect) (waiting_receives old) (waiting_receives new)
-  receives_carry (OnSends effect) old new is was did =
-      nothing_carries (waiting_receives old) (waiting_receives new) (receives_stay effect old new did)
-  receives_carry (OnReceives effect) old new is was did =
-      let took = receives_take effect old new did in
-      carries registered_rule receiving knows_receive effect (waiting_receives old) (waiting_receives new) is was.receives took
-      (effect_after registered_rule receiving knows_receive effect (waiting_receives old) (waiting_receives new) is was.receives took)
-  receives_carry (PopsFirst waker) old new is was did = rw (did.1, did.0) (receives_popped old.receives old.out)
-  receives_carry (Then one other) old new is was did =
-      and_then (on_receives one) (waiting_receives old) (waiting_receives did.0) (waiting_receives new)
-      (receives_carry one old did.0 is.0 was did.1)
-      (subst (λ (d : WakerChange W). CarriesOn d (waiting_receives did.0) (waiting_receives new)) is.3
-      (receives_carry other did.0 new (is.1 did.0 did.1) (two_sided_sound one old did.0 is.0 was did.1) did.2))
+module _ {D E W : Type 0} (sending receiving : Option (Phase W) → Bool) where
+  -- whoever receives is of the kind that it was
+  pub kinds_stay : (effect : TwoSidedEffect D E W) (old new : TwoSidesModel D E W) → KeepsKinds effect →
+      AllowsTwoSided sending receiving old effect → TakesTwoSided effect old new → (q : ℕ) → SparedBy (on_receives effect) q →
+      asks_of new.receives q ≡ asks_of old.receives q
+  kinds_stay (OnReceives effect) old new keeps is did q spared =
+      asks_stay effect (waiting_receives old) (waiting_receives new) keeps (receives_take effect old new did) q spared
+  kinds_stay (OnSends effect) old new keeps is did q spared =
+      ap (λ (w : Waiting E W). asks_of w.side q) (receives_stay effect old new did)
+  kinds_stay (PopsFirst waker) old new keeps is did q spared = ap (λ (b : TwoSidesModel D E W). asks_of b.receives q) did.1
+  kinds_stay (Then one other) old new keeps is did q spared =
+      kinds_stay other did.0 new keeps.1 (is.1 did.0 did.1) did.2 q (subst (λ (e : WakerChange W). SparedBy e q) (sym is.3) tt)
+      ∙ kinds_stay one old did.0 keeps.0 is.0 did.1 q spared
