@@ -173,32 +173,24 @@ module _ {D E A W : Type 0} {s : SideView D E A W} (is : IsSide s) (both : TwoSi
       free =
           is.has n both.out ∙ no_pair is_registered registered_rule (s.waiters both) (s.pairs_in both.out) n was registered
 
-      -- the first of the queue is registered, and has no pair
-      pub waits : is_registered (phase_of (s.waiters mid) n) ≡ true
-      waits =
-          ap (λ (m : TwoSidesModel D E W). is_registered (phase_of (s.waiters m) n)) left
-          ∙ ap (λ (side : Waiters A W). is_registered (phase_of side n)) (is.put_in both _ both.out) ∙ registered
+      -- The first of the queue is registered, and has no pair, whatever else of its side has changed.
+      abbrev Stands : TwoSidesModel D E W → Type 0
+      Stands m = (is_registered (phase_of (s.waiters m) n) ≡ true) × (has_by same_waiter (s.waiter n) m.out ≡ false)
 
-      pub unpaired : has_by same_waiter (s.waiter n) mid.out ≡ false
-      unpaired =
-          ap (λ (m : TwoSidesModel D E W). has_by same_waiter (s.waiter n) m.out) left
-          ∙ ap (has_by same_waiter (s.waiter n)) (is.put_out both _ both.out) ∙ free
+      stands : {later : TwoSidesModel D E W} {side : Waiters A W} → later ≡ s.put both side both.out →
+          is_registered (phase_of side n) ≡ true → Stands later
+      stands {side = side} now waits = rw (now, is.put_in both side both.out, is.put_out both side both.out) (waits, free)
+
+      pub first_stands : Stands mid
+      first_stands = stands left registered
 
       -- the same once it asks for something else
       module _ (asks : A) {asked : TwoSidesModel D E W} (is_asked : asked ≡ change s (λ side. exchange side n asks) mid) where
         exchanged : asked ≡ s.put both (exchange (record (s.waiters both) { queue = others }) n asks) both.out
         exchanged = then_change (λ side. exchange side n asks) left is_asked
 
-        pub asked_waits : is_registered (phase_of (s.waiters asked) n) ≡ true
-        asked_waits =
-            ap (λ (m : TwoSidesModel D E W). is_registered (phase_of (s.waiters m) n)) exchanged
-            ∙ ap (λ (side : Waiters A W). is_registered (phase_of side n)) (is.put_in both _ both.out)
-            ∙ ap is_registered (phase-with_asks (s.waiters both).live n asks n) ∙ registered
-
-        pub asked_unpaired : has_by same_waiter (s.waiter n) asked.out ≡ false
-        asked_unpaired =
-            ap (λ (m : TwoSidesModel D E W). has_by same_waiter (s.waiter n) m.out) exchanged
-            ∙ ap (has_by same_waiter (s.waiter n)) (is.put_out both _ both.out) ∙ free
+        pub asked_stands : Stands asked
+        asked_stands = stands exchanged (ap is_registered (phase-with_asks (s.waiters both).live n asks n) ∙ registered)
 
     pub asks_first : (s.waiters both).queue ≡ n ∷ others → asks_of (s.waiters mid) n ≡ asks_of_oldest (s.waiters both)
     asks_first queue =

@@ -1,18 +1,18 @@
 use Rattle.std.proofs.Common.{sym, ◌∙◌}
-use Rattle.fi_channels.proofs.SideSteps.{completed, asked_waits, asked_unpaired, asks_first}
+use Rattle.fi_channels.proofs.SideSteps.{completed, asked_stands, asks_first}
 use Rattle.fi_channels.proofs.channel.two_sides.TwoSides.complete_oldest.Goals as goal
 
 pub notice-requires-clause-registered : goal.notice-requires-clause-registered
 notice-requires-clause-registered g c _ _ =
     let one = c.in_ok-slot.ensures in
-    asked_waits g.met.S.OneSide.is_side c.args.self.now c.in_ok-slot.slot.0 one.0 one.2 c.requires one.1
-    c.args.left c.exchange-asked.ensures.rest
+    (asked_stands g.met.S.OneSide.is_side c.args.self.now c.in_ok-slot.slot.0 one.0 one.2 c.requires one.1
+    c.args.left c.exchange-asked.ensures.rest).0
 
 pub notice-requires-clause-no_pair : goal.notice-requires-clause-no_pair
 notice-requires-clause-no_pair g c _ _ =
     let one = c.in_ok-slot.ensures in
-    asked_unpaired g.met.S.OneSide.is_side c.args.self.now c.in_ok-slot.slot.0 one.0 one.2 c.requires one.1
-    c.args.left c.exchange-asked.ensures.rest
+    (asked_stands g.met.S.OneSide.is_side c.args.self.now c.in_ok-slot.slot.0 one.0 one.2 c.requires one.1
+    c.args.left c.exchange-asked.ensures.rest).1
 
 pub returns-clause-asked : goal.returns-clause-asked
 returns-clause-asked g c =

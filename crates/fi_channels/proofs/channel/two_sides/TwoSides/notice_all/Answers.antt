@@ -2,18 +2,18 @@ use Rattle.std.proofs.Common.{sym, ap, ◌∙◌}
 use Rattle.fi_parts.specs.Noticed.{phase_after}
 use Rattle.fi_channels.specs.SideView.{notify}
 use Rattle.fi_parts.proofs.Waiting.{notices}
-use Rattle.fi_channels.proofs.SideSteps.{next, waits, unpaired, notify-step, notify-none, ordered}
+use Rattle.fi_channels.proofs.SideSteps.{next, first_stands, notify-step, notify-none, ordered}
 use Rattle.fi_channels.proofs.channel.two_sides.TwoSides.notice_all.Goals as goal
 
 pub notice-requires-clause-registered : goal.notice-requires-clause-registered
 notice-requires-clause-registered g c _ _ =
     let one = c.in-Some.ensures in
-    waits g.met.S.OneSide.is_side c.loop-slot.self c.in-Some.slot.0 one.0 one.2 c.loop-slot.invariant.ordered one.1
+    (first_stands g.met.S.OneSide.is_side c.loop-slot.self c.in-Some.slot.0 one.0 one.2 c.loop-slot.invariant.ordered one.1).0
 
 pub notice-requires-clause-no_pair : goal.notice-requires-clause-no_pair
 notice-requires-clause-no_pair g c _ _ =
     let one = c.in-Some.ensures in
-    unpaired g.met.S.OneSide.is_side c.loop-slot.self c.in-Some.slot.0 one.0 one.2 c.loop-slot.invariant.ordered one.1
+    (first_stands g.met.S.OneSide.is_side c.loop-slot.self c.in-Some.slot.0 one.0 one.2 c.loop-slot.invariant.ordered one.1).1
 
 pub returns : goal.returns
 returns g c =
