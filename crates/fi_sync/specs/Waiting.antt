@@ -93,6 +93,19 @@ abbrev pub IsPolled : {S W A : Type 0} → (S → ℕ → Option W → Poll A �
 IsPolled {S} {W} polls name answer old new =
     (waker : Option W) × polls old name waker answer new × OnPending answer (is_some waker ≡ true)
 
+-- A future under this name that has ended was cancelled already, in effect: a cancel of it does now what it did before. Of another nothing
+-- has changed.
+abbrev pub IsTakenOutIf : {S L : Type 0} → (S → ℕ → L → S → Type 0) → Bool → ℕ → S → S → Type 0
+IsTakenOutIf {S} {L} cancels true name old new = (left : L) (after : S) → cancels new name left after → cancels old name left after
+IsTakenOutIf cancels false name old new = new ≡ old
+
+-- A poll under this name that takes the future out where it ends it, or doesn't.
+abbrev pub PollsAs : {S W A L : Type 0} → Bool → (S → ℕ → W → Poll A → S → Type 0) → (S → ℕ → L → S → Type 0) → (A → Bool)
+    → S → ℕ → W → Poll A → S → Type 0
+PollsAs {S} true polls cancels is_last old name waker answer new =
+    (between : S) × polls old name waker answer between × IsTakenOutIf cancels (ends is_last answer) name between new
+PollsAs false polls cancels is_last old name waker answer new = polls old name waker answer new
+
 -- A poll under this name would have to wait, whatever its waker is.
 abbrev pub WouldWait : {S W A : Type 0} → (S → ℕ → W → Poll A → S → Type 0) → S → ℕ → Type 0
 WouldWait polls old name = WouldBeReady (polls old name) false
@@ -150,24 +163,6 @@ Befalls cancels true name (GoesOn claim) old new = ⊥
 Befalls cancels true name (Ended left) old new = cancels old name left new
 Befalls cancels false name (GoesOn claim) old new = (claim ≡ name) × (new ≡ old)
 Befalls cancels false name (Ended left) old new = ⊥
-
--- what becomes of the future under this name, whose cancel left this if it has ended
-abbrev pub fate_after : {K L : Type 0} → ℕ → Option L → Fate K L
-fate_after name None = GoesOn name
-fate_after name (Some left) = Ended left
-
--- The same by what the cancel of a future that has ended left.
-abbrev pub CancelsIf : {S L : Type 0} → (S → ℕ → L → S → Type 0) → Bool → ℕ → Option L → S → S → Type 0
-CancelsIf cancels true name (Some left) old new = cancels old name left new
-CancelsIf cancels false name None old new = new ≡ old
-CancelsIf cancels has_ended name left old new = ⊥
-
--- A poll, or none, which changes nothing, and then a cancel of this name, if the poll has ended its future, lead from old to new.
-abbrev pub PollsAndCancels : {S A B L : Type 0} → (Poll A → S → S → Type 0) → (S → ℕ → L → S → Type 0) → (A → Bool)
-    → ℕ → Option (Poll A × B) → Option L → S → S → Type 0
-PollsAndCancels {S} polls cancels is_last name polled left old new =
-    (between : S) × MatchOption polled (between ≡ old) (λ polled. polls polled.0 old between)
-    × CancelsIf cancels (is_over is_last polled) name left between new
 
 -- A poll under this name, or none, which changes nothing, and what becomes of its future then, lead from old to new.
 abbrev pub IsSettled : {S W A B K L : Type 0} → (S → ℕ → Option W → Poll A → S → Type 0) → (S → ℕ → L → S → Type 0) → (A → Bool)

@@ -1,6 +1,6 @@
 //! An event that resets itself, which threads share.
 ghost use Rattle.std.specs.Arc.{arc_value};
-ghost use Rattle.std.specs.Prelude.{◌≡◌, true, Option, IfOk, IfErr};
+ghost use Rattle.std.specs.Prelude.{◌≡◌, true, Option, IfOk, IfErr, false};
 ghost use Rattle.futures.specs.declared.task.waker.Waker.{Waker};
 ghost use Rattle.fi_locks.specs.Mutex.{MutexMachine, can_be_polled, is_free, Polls, Cancels};
 ghost use Rattle.fi_parts.specs.declared.errors.Fault.{Fault};
@@ -200,6 +200,8 @@ impl PollSlot<AutoResetWait> for MutexState<(), PollWaker> {
     ghost leaves = { leftover_at };
 
     ghost cancels = { CancelsAt Cancels };
+
+    ghost takes_out = { false };
 
     #[inline(always)]
     fn poll_slot(&mut self, slot: Slot, waker: PollWaker) -> SlotPolled<Self::Output> {

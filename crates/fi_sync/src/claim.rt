@@ -1,14 +1,14 @@
 //! The slot of a future, which has to be given back: by the poll that ends it, or by its drop.
 ghost use Rattle.std.specs.Prelude.{◌≡◌, ℕ, Some, None};
-ghost use Rattle.fi_sync.specs.Waiting.{fate_after, name_after};
+ghost use Rattle.fi_sync.specs.Waiting.{name_after};
 
 use crate::slot_future::PollSlot;
 use fi_parts::Slot;
 use std::fmt;
 use std::marker::{Model, PhantomData};
 
-/// The slot of a future of the kind `K`. It has no `Drop`: only a cancel takes it, or a poll that cancels its future too, so a future
-/// whose drop does not unregister it does not compile.
+/// The slot of a future of the kind `K`. It has no `Drop`: only a cancel takes it, so a future whose drop does not
+/// unregister it does not compile.
 pub struct Claim<K> {
     slot: Slot,
     kind: PhantomData<K>,
@@ -53,17 +53,6 @@ impl<K> Claim<K> {
     {
         let Claim { slot, kind: _ } = self;
         state.cancel(slot)
-    }
-
-    /// What becomes of the future after a poll: it has ended and was cancelled, which left this, or it goes on.
-    pub(crate) fn fate<L: Drop>(self, left: Option<L>) -> Fate<K, L>
-        ensures { result ≡ fate_after self left }
-    {
-        let Some(left) = left else {
-            return Fate::GoesOn(self);
-        };
-        let Claim { slot: _, kind: _ } = self;
-        Fate::Ended(left)
     }
 
     // Puts the claim in an empty place.

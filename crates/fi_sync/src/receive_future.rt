@@ -1,5 +1,5 @@
 //! Receives from the channels that threads share.
-ghost use Rattle.std.specs.Prelude.{Err};
+ghost use Rattle.std.specs.Prelude.{Err, false};
 ghost use Rattle.fi_parts.specs.Polled.{LeavesWhere};
 ghost use Rattle.fi_parts.specs.declared.errors.Fault.{Fault};
 ghost use Rattle.fi_sync.specs.Waiting.{PollsOrRefuses, WouldWait, leftover_after};
@@ -30,6 +30,8 @@ impl<C: ChannelReceiveAccess<Waker = PollWaker>> PollSlot<ChannelReceive> for C 
 
     ghost cancels = { λ old name left new. LeavesWhere (C.is_receiving old name) (C.cancels old name new)
         (C.waker_of old name) old left new };
+
+    ghost takes_out = { false };
 
     #[inline(always)]
     fn poll_slot(&mut self, slot: Slot, waker: PollWaker) -> SlotPolled<Self::Output> {

@@ -8,7 +8,7 @@ ghost use Rattle.futures.specs.Task.{Covers, Keeps};
 ghost use Rattle.fi_parts.specs.declared.errors.Fault.{Fault};
 ghost use Rattle.fi_parts.specs.declared.errors.Slot.{Slot};
 ghost use Rattle.fi_parts.specs.declared.phase.Leftover.{Leftover};
-ghost use Rattle.fi_sync.specs.Waiting.{ends, is_final, is_over, polled, IsAnswer, IsGiven, IsLeftBy, IsEndedBy, PollsAndCancels};
+ghost use Rattle.fi_sync.specs.Waiting.{ends, is_final, polled, IsAnswer, IsGiven, IsLeftBy, IsEndedBy, PollsAs};
 
 use crate::claim::Claim;
 use crate::monitor::HasMonitor;
@@ -107,12 +107,16 @@ pub trait PollSlot<K> {
     /// A cancel under this name may leave this and go on from old to new.
     ghost cancels: { Self → ℕ → Self.Left → Self → Type 0 };
 
-    /// Polls the future of this kind under this slot. It is refused with `NoSlot` where none lives there that can be polled; then
+    /// A poll that ends its future takes it out too, so that the cancel that follows finds it gone.
+    ghost takes_out: { Bool };
+
+    /// Polls the future of this kind under this slot. A state may take out a future that this ends, as a cancel would (`takes_out`);
+    /// whoever polls cancels it then all the same. It is refused with `NoSlot` where none lives there that can be polled; then
     /// the waker comes back and nothing has changed.
     ///
     /// None where it would have to wait and was given no waker; then nothing has changed.
     fn poll_slot(&mut self, slot: Slot, waker: PollWaker) -> SlotPolled<Self::Output>
-        ensures polled { IfSome result (λ polled. polls self.old slot.0 waker polled.0 self.new) }
+        ensures polled { IfSome result (λ polled. PollsAs takes_out polls cancels Self.Output.is_last self.old slot.0 waker polled.0 self.new) }
         ensures leftover { IfSome result (λ polled. polled.1 ≡ leaves self.old slot.0 waker polled.0) }
         ensures waits { IfSome result (λ polled. OnPending polled.0 (is_some waker ≡ true)) }
         ensures lacks { IfNone result ((waker ≡ None) × (self.new ≡ self.old)) }
@@ -121,38 +125,6 @@ pub trait PollSlot<K> {
     /// Cancels the future of this kind under this slot. Nothing is done where none lives there.
     fn cancel(&mut self, slot: Slot) -> Self::Left
         ensures { cancels self.old slot.0 result self.new };
-
-    /// Polls the future under this slot as `poll_slot`, and cancels it where the poll ends it: what that leaves.
-    #[inline(always)]
-    fn poll_or_end(
-        &mut self,
-        slot: Slot,
-        waker: PollWaker,
-    ) -> (SlotPolled<Self::Output>, Option<Self::Left>)
-        ensures settled { PollsAndCancels (λ answer old new. polls old slot.0 waker answer new) cancels Self.Output.is_last slot.0
-            result.0 result.1 self.old self.new }
-        ensures leftover { IfSome result.0 (λ polled. polled.1 ≡ leaves self.old slot.0 waker polled.0) }
-        ensures waits { IfSome result.0 (λ polled. OnPending polled.0 (is_some waker ≡ true)) }
-        ensures lacks { IfNone result.0 (waker ≡ None) }
-        ensures put_off { IfNone result.0 (would_wait self.old slot.0) }
-    {
-        let polled = self.poll_slot(slot, waker);
-        if has_ended(&polled) {
-            let left = self.cancel(slot);
-            return (polled, Some(left));
-        }
-        (polled, None)
-    }
-}
-
-// Returns `true` if the answer of this poll ends its future.
-fn has_ended<A: PollOutput>(polled: &SlotPolled<A>) -> bool
-    ensures { result ≡ is_over A.is_last polled.now }
-{
-    match polled {
-        Some((Poll::Ready(output), _)) => output.ends(),
-        _ => false,
-    }
 }
 
 /// A future of the kind `K` of a primitive that threads share, which it reaches by a reference or an `Arc`. The poll that ends it

@@ -4,14 +4,14 @@ ghost use Rattle.std.specs.Borrow.{MutBor};
 ghost use Rattle.futures.specs.Poll.{OnPending};
 ghost use Rattle.futures.specs.Task.{Covers, Keeps};
 ghost use Rattle.futures.specs.declared.task.waker.Waker.{Waker};
-ghost use Rattle.fi_sync.specs.Waiting.{HadToWait, IsPolled, IsSettled, PollsAndCancels};
+ghost use Rattle.fi_sync.specs.Waiting.{is_over, HadToWait, IsPolled, IsSettled, PollsAs};
 ghost use Rattle.fi_sync.specs.Wakes.{TakesFirst};
 
 mod owed;
 mod taken_apart;
 
 use crate::claim::{Claim, Fate};
-use crate::slot_future::{PollSlot, SlotPolled};
+use crate::slot_future::{PollOutput, PollSlot, SlotPolled};
 use fi_parts::memory::waker_for;
 use fi_parts::{Refused, Slot};
 use futures::task::{Context, Poll, Source, Waker};
@@ -112,8 +112,8 @@ impl<S: HasOutbox> Guarded<S> {
             let _: Poll<()> = cx.register(source, spare);
         }
         let state = &mut *self.state.lock(rt);
-        let (polled, left) = poll_or_register(state, claim.slot(), cx, source, spare, refused);
-        (polled, claim.fate(left), Owed::of(self, state))
+        let (polled, fate) = poll_or_end(state, claim, cx, source, spare, refused);
+        (polled, fate, Owed::of(self, state))
     }
 
     /// Cancels the future that has this claim, as `lend` makes a call.
@@ -156,8 +156,44 @@ impl<S: HasOutbox> Owed<'_, S> {
     }
 }
 
+// Polls the future that has this claim as `poll_or_register` does, and cancels it if it has ended then. (Of a state that has taken it out,
+// the cancel finds nothing.)
+#[inline(always)]
+fn poll_or_end<K, S: PollSlot<K>>(
+    state: &mut S,
+    claim: Claim<K>,
+    cx: &mut Context<'_>,
+    source: &Source,
+    spare: &mut Option<Waker>,
+    refused: &mut Option<Refused>,
+) -> (SlotPolled<S::Output>, Fate<K, S::Left>)
+    requires registered { is_some spare.old ≡ true → Covers cx.old (λ s. s ≡ source.now.id) }
+    ensures settled { IsSettled S.polls S.cancels S.Output.is_last claim result.0 result.1 state.old state.new }
+    ensures registered { IfSome result.0 (λ polled. OnPending polled.0 (Covers cx.new (λ s. s ≡ source.now.id))) }
+    ensures lacks { IfNone result.0 (cx.new.lacks_waker ≡ true) }
+    ensures put_off { IfNone result.0 (S.would_wait state.old claim) }
+    ensures refused { IfNone result.0 (is_some refused.new ≡ true) }
+    ensures kept { Keeps cx.old cx.new }
+{
+    let polled = poll_or_register(state, claim.slot(), cx, source, spare, refused);
+    if has_ended(&polled) {
+        let left = claim.cancel(state);
+        return (polled, Fate::Ended(left));
+    }
+    (polled, Fate::GoesOn(claim))
+}
+
+// Returns `true` if the answer of this poll ends its future.
+fn has_ended<A: PollOutput>(polled: &SlotPolled<A>) -> bool
+    ensures { result ≡ is_over A.is_last polled.now }
+{
+    match polled {
+        Some((Poll::Ready(output), _)) => output.ends(),
+        _ => false,
+    }
+}
+
 // Polls the future under this slot with the spare waker, or without one, and if it has to wait then, with a waker that is made now.
-// It is cancelled if it has ended then.
 #[inline(always)]
 fn poll_or_register<K, S: PollSlot<K>>(
     state: &mut S,
@@ -166,24 +202,24 @@ fn poll_or_register<K, S: PollSlot<K>>(
     source: &Source,
     spare: &mut Option<Waker>,
     refused: &mut Option<Refused>,
-) -> (SlotPolled<S::Output>, Option<S::Left>)
+) -> SlotPolled<S::Output>
     requires registered { is_some spare.old ≡ true → Covers cx.old (λ s. s ≡ source.now.id) }
-    ensures settled { PollsAndCancels (IsPolled S.polls slot.0) S.cancels S.Output.is_last slot.0 result.0 result.1 state.old state.new }
-    ensures registered { IfSome result.0 (λ polled. OnPending polled.0 (Covers cx.new (λ s. s ≡ source.now.id))) }
-    ensures lacks { IfNone result.0 (cx.new.lacks_waker ≡ true) }
-    ensures put_off { IfNone result.0 (S.would_wait state.old slot.0) }
-    ensures refused { IfNone result.0 (is_some refused.new ≡ true) }
+    ensures polled { MatchOption result (state.new ≡ state.old)
+        (λ polled. IsPolled (PollsAs S.takes_out S.polls S.cancels S.Output.is_last) slot.0 polled.0 state.old state.new) }
+    ensures registered { IfSome result (λ polled. OnPending polled.0 (Covers cx.new (λ s. s ≡ source.now.id))) }
+    ensures lacks { IfNone result (cx.new.lacks_waker ≡ true) }
+    ensures put_off { IfNone result (S.would_wait state.old slot.0) }
+    ensures refused { IfNone result (is_some refused.new ≡ true) }
     ensures kept { Keeps cx.old cx.new }
 {
-    let (polled, left) = state.poll_or_end(slot, spare.take());
-    if let Some(polled) = polled {
-        return (Some(polled), left);
+    if let Some(polled) = state.poll_slot(slot, spare.take()) {
+        return Some(polled);
     }
     match waker_for(cx, source) {
-        Ok(waker) => state.poll_or_end(slot, Some(waker)),
+        Ok(waker) => state.poll_slot(slot, Some(waker)),
         Err(lack) => {
             *refused = Some(lack);
-            (None, None)
+            None
         }
     }
 }

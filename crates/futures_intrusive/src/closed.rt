@@ -1,5 +1,5 @@
 //! A wait until a channel is closed, by which a sender learns that the receivers have left.
-ghost use Rattle.std.specs.Prelude.{◌≡◌, Option, IfOk, IfErr, OnErr};
+ghost use Rattle.std.specs.Prelude.{◌≡◌, Option, IfOk, IfErr, OnErr, false};
 ghost use Rattle.futures.specs.declared.task.waker.Waker.{Waker};
 ghost use Rattle.fi_channels.specs.Event.{can_be_polled, Makes, Polls, Cancels};
 ghost use Rattle.fi_parts.specs.declared.errors.Fault.{Fault};
@@ -50,6 +50,8 @@ impl<S: ClosesByEnds> PollSlot<ClosedWait> for CountedEnds<S> {
     ghost leaves = { λ ends. leftover_at ends.closed };
 
     ghost cancels = { λ old name left new. OnClosed (λ before after. CancelsAt Cancels before name left after) old new };
+
+    ghost takes_out = { false };
 
     fn poll_slot(&mut self, slot: Slot, waker: PollWaker) -> SlotPolled<Self::Output> {
         PollSlot::<EventWait>::poll_slot(&mut self.closed, slot, waker)

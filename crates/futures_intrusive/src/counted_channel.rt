@@ -1,5 +1,5 @@
 //! The channel of many values behind the lock of its shared ends.
-ghost use Rattle.std.specs.Prelude.{◌≡◌, ◌==◌, not, length, IfOk, IfErr, OnErr};
+ghost use Rattle.std.specs.Prelude.{◌≡◌, ◌==◌, not, length, IfOk, IfErr, OnErr, false};
 ghost use Rattle.fi_channels.specs.Channel.{MakesSend, MakesReceive, TriesSend, TriesReceive, Closes};
 ghost use Rattle.fi_channels.specs.ChannelWords.{has_room};
 ghost use Rattle.fi_channels.specs.declared.channel.fields.ReceiveKind.TheVariants.{Single, Stream};
@@ -102,6 +102,8 @@ impl<T: Drop, B: RingBuf<Item = T>> PollSlot<ChannelStreaming>
 
     ghost cancels = { λ old name left new. LeavesWhere (is_some (receive_phase old.state name))
         (OnState (λ before after. CancelsReceive before name after) old new) (displaced_receive old.state name) old left new };
+
+    ghost takes_out = { false };
 
     fn poll_slot(&mut self, slot: Slot, waker: PollWaker) -> SlotPolled<Self::Output> {
         PollSlot::<ChannelStreaming>::poll_slot(&mut self.state, slot, waker)

@@ -129,6 +129,8 @@ impl<T: Drop, B: RingBuf<Item = T>> PollSlot<ChannelStreaming> for ChannelState<
     ghost cancels = { λ old name left new. LeavesWhere (is_some (receive_phase old name)) (CancelsReceive old name new)
         (displaced_receive old name) old left new };
 
+    ghost takes_out = { false };
+
     fn poll_slot(&mut self, slot: Slot, waker: PollWaker) -> SlotPolled<Self::Output> {
         let may_wait = waker.is_some();
         match self.poll_next(slot, waker, may_wait) {

@@ -1,4 +1,5 @@
 //! A wait for an event that threads share.
+ghost use Rattle.std.specs.Prelude.{false};
 ghost use Rattle.fi_channels.specs.Event.{can_be_polled, Polls, Cancels};
 ghost use Rattle.fi_sync.specs.Waiting.{PollsAt, WouldWait, leftover_at, CancelsAt};
 
@@ -33,6 +34,8 @@ impl PollSlot<EventWait> for EventState<PollWaker> {
     ghost leaves = { leftover_at };
 
     ghost cancels = { CancelsAt Cancels };
+
+    ghost takes_out = { false };
 
     #[inline(always)]
     fn poll_slot(&mut self, slot: Slot, waker: PollWaker) -> SlotPolled<Self::Output> {

@@ -1,5 +1,5 @@
 //! What stands behind the lock of a mutex: its state, beside the tally of its holds.
-ghost use Rattle.std.specs.Prelude.{◌≡◌, false, Ok, IfOk, IfSome, IfErr, OnErr, not};
+ghost use Rattle.std.specs.Prelude.{◌≡◌, false, Ok, IfOk, IfSome, IfErr, OnErr, not, true};
 ghost use Rattle.fi_parts.specs.declared.errors.Fault.{Fault};
 ghost use Rattle.fi_locks.specs.Mutex.{opened, is_free, can_be_polled, Makes, Polls, Cancels, TriesLock, Unlocks};
 ghost use Rattle.fi_sync.specs.Waiting.{PollsAt, WouldWait, leftover_at, CancelsAt};
@@ -175,11 +175,13 @@ impl<T: Drop, L: Ledger> PollSlot<MutexLock> for CountedMutex<T, L> {
 
     ghost cancels = { CancelsAt Cancels };
 
+    ghost takes_out = { true };
+
     #[inline(always)]
     fn poll_slot(&mut self, slot: Slot, waker: PollWaker) -> SlotPolled<Self::Output> {
         let may_wait = waker.is_some();
         let CountedMutex { state, tally } = self;
-        match state.poll(slot, waker, may_wait) {
+        match state.poll_and_leave(slot, waker, may_wait) {
             Ok((answer, leftover)) => match answer {
                 Poll::Ready(value) => {
                     let hold = tally.hand_out(1);
@@ -195,28 +197,6 @@ impl<T: Drop, L: Ledger> PollSlot<MutexLock> for CountedMutex<T, L> {
     #[inline(always)]
     fn cancel(&mut self, slot: Slot) -> Option<PollWaker> {
         self.state.leave(slot)
-    }
-
-    #[inline(always)]
-    fn poll_or_end(
-        &mut self,
-        slot: Slot,
-        waker: PollWaker,
-    ) -> (SlotPolled<Self::Output>, Option<Self::Left>) {
-        let may_wait = waker.is_some();
-        let CountedMutex { state, tally } = self;
-        match state.poll_and_leave(slot, waker, may_wait) {
-            Ok((answer, leftover)) => match answer {
-                Poll::Ready(value) => {
-                    let hold = tally.hand_out(1);
-                    let locked = Poll::Ready(Ok(Locked { value, hold }));
-                    (Some((locked, leftover)), Some(None))
-                }
-                Poll::Pending => (Some((Poll::Pending, leftover)), None),
-            },
-            Err(NotPolled::NoFuture(waker)) => (no_slot(waker), None),
-            Err(NotPolled::WouldWait(_none)) => (None, None),
-        }
     }
 }
 

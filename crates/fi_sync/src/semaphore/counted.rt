@@ -185,6 +185,8 @@ impl<L: Ledger> PollSlot<SemaphoreAcquire> for CountedSemaphore<L> {
 
     ghost cancels = { CancelsAcquire };
 
+    ghost takes_out = { false };
+
     #[inline(always)]
     fn poll_slot(&mut self, slot: Slot, waker: PollWaker) -> SlotPolled<Self::Output> {
         if self.is_closed {

@@ -1,5 +1,5 @@
 //! A timer with its clock: what stands behind the lock of the timer that threads share.
-ghost use Rattle.std.specs.Prelude.{◌≡◌, ◌≤◌, ℕ, Some, None, Err, IfOk, IfErr, OnErr, is_some};
+ghost use Rattle.std.specs.Prelude.{◌≡◌, ◌≤◌, ℕ, Some, None, Err, IfOk, IfErr, OnErr, is_some, false};
 ghost use Rattle.std.specs.Duration.{as_nanos};
 ghost use Rattle.fi_parts.specs.Machine.{phase_at, displaced_at};
 ghost use Rattle.fi_parts.specs.Deadlines.{IsNextExpiry};
@@ -222,6 +222,8 @@ impl<C: Clock> PollSlot<TimedWait> for Timed<C> {
     ghost cancels = { λ old name left new. (new ≡ record old { timer = new.timer })
         × LeavesWhere (is_some (phase_at old.timer name)) (Cancels old.timer name new.timer)
         (displaced_at old.timer name) old left new };
+
+    ghost takes_out = { false };
 
     #[inline(always)]
     fn poll_slot(&mut self, slot: Slot, waker: PollWaker) -> SlotPolled<Self::Output> {

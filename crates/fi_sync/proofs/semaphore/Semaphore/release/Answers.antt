@@ -1,4 +1,4 @@
-use Rattle.std.proofs.Common.{◌≡◌, ◌+◌, ◌≤◌, ◌^◌, ℕ, Option}
+use Rattle.std.proofs.Common.{◌≡◌, ◌+◌, ◌≤◌, ◌^◌, Option}
 use Rattle.futures.specs.declared.task.waker.Waker.{Waker}
 use Rattle.fi_locks.specs.Semaphore.{Releases}
 use Rattle.fi_parts.specs.declared.errors.Fault.{Fault}
