@@ -5,7 +5,7 @@ use Rattle.fi_sync.specs.declared.claim.Fate.{Fate}
 use Rattle.fi_sync.specs.declared.claim.Fate.TheVariants.{GoesOn, Ended}
 use Rattle.fi_sync.proofs.wakes.poll_or_end.Goals as goal
 
-module _ {S W A B L : Type 0} (K : Type 0) (polls : S → ℕ → Option W → Poll A → S → Type 0) (cancels : S → ℕ → L → S → Type 0)
+module _ {S W A B L : Type 0} (polls : S → ℕ → Option W → Poll A → S → Type 0) (cancels : S → ℕ → L → S → Type 0)
     (is_last : A → Bool) (name : ℕ) (takes_out : Bool) (old mid : S) where
   abbrev Did : Option (Poll A × B) → Type 0
   Did polled = MatchOption polled (mid ≡ old) (λ polled. IsPolled (PollsAs takes_out polls cancels is_last) name polled.0 old mid)
@@ -13,7 +13,7 @@ module _ {S W A B L : Type 0} (K : Type 0) (polls : S → ℕ → Option W → P
 module _ {S W A B L : Type 0} (K : Type 0) (polls : S → ℕ → Option W → Poll A → S → Type 0) (cancels : S → ℕ → L → S → Type 0)
     (is_last : A → Bool) (name : ℕ) where
   settles : (takes_out over : Bool) (polled : Option (Poll A × B)) (fate : Fate K L) (old mid new : S) →
-      Did K polls cancels is_last name takes_out old mid polled → is_over is_last polled ≡ over → Befalls {K = K} cancels over name fate mid new →
+      Did polls cancels is_last name takes_out old mid polled → is_over is_last polled ≡ over → Befalls {K = K} cancels over name fate mid new →
       IsSettled {K = K} polls cancels is_last name polled fate old new
   settles takes_out over None fate old mid new did is befell = (
     mid,
@@ -49,7 +49,7 @@ returns-then-has_ended-clause-settled g c =
     let own : c.slot.result.0 ≡ c.args.claim = search rules in
     settles g.row.K.Denot g.S.PollSlot.polls g.S.PollSlot.cancels g.S.Output.PollOutput.is_last c.args.claim g.S.PollSlot.takes_out true
     polled.result (Ended c.cancel-left.result) c.args.state.now polled.new.state c.cancel-left.new.state
-    (subst (λ name. Did g.row.K.Denot g.S.PollSlot.polls g.S.PollSlot.cancels g.S.Output.PollOutput.is_last name
+    (subst (λ name. Did g.S.PollSlot.polls g.S.PollSlot.cancels g.S.Output.PollOutput.is_last name
     g.S.PollSlot.takes_out c.args.state.now polled.new.state polled.result) own polled.ensures.polled)
     over c.cancel-left.ensures
 
@@ -60,6 +60,6 @@ returns-clause-settled g c =
     let own : c.slot.result.0 ≡ c.args.claim = search rules in
     settles g.row.K.Denot g.S.PollSlot.polls g.S.PollSlot.cancels g.S.Output.PollOutput.is_last c.args.claim g.S.PollSlot.takes_out false
     polled.result (GoesOn c.args.claim) c.args.state.now polled.new.state polled.new.state
-    (subst (λ name. Did g.row.K.Denot g.S.PollSlot.polls g.S.PollSlot.cancels g.S.Output.PollOutput.is_last name
+    (subst (λ name. Did g.S.PollSlot.polls g.S.PollSlot.cancels g.S.Output.PollOutput.is_last name
     g.S.PollSlot.takes_out c.args.state.now polled.new.state polled.result) own polled.ensures.polled)
     over (refl, refl)
